@@ -1,20 +1,17 @@
 -- What is known of each prohibited subsystem: what changes that, and what is tested.
-use Rattle.exchange_rules.proofs.Basics.{◌≡◌, ◌≢◌, ℕ, zero, suc, Bool, true, false, ◌&&◌, ◌||◌, not, nat_eq, List, [], ◌∷◌, ◌++◌, Option, Some, None, refl, ap, sym, ◌∙◌, inr, ⊎_elim, arith, nat_tests, if◌then◌else◌, map, filter, filter-append, append-nil}
+use Rattle.exchange_rules.proofs.Basics.{◌≡◌, ℕ, Bool, true, false, ◌&&◌, ◌||◌, not, nat_eq, List, [], ◌∷◌, ◌++◌, Option, refl, ap, sym, ◌∙◌, ⊎_elim, arith, nat_tests, if◌then◌else◌, map, filter, filter-append, append-nil}
 use Rattle.std.specs.Prelude.{is_some}
 use Rattle.std.specs.List.{list_any}
-use Rattle.std.proofs.lemmas.Bool.{and_parts, eqb-true}
 use Rattle.settings_rows.specs.Configuration.{Configuration, TitleEntry}
 use Rattle.signalling_types.specs.Message.{Message}
 use Rattle.sccp_relay.specs.Points.{OwnValue}
-use Rattle.sccp_relay.specs.Statuses.{TitlesValue, allow, counted, first_prohibited, is_due, is_full, is_prohibited, is_same, leads_to, prohibit}
+use Rattle.sccp_relay.specs.Statuses.{TitlesValue, allow, counted, first_prohibited, is_due, is_full, is_prohibited, is_same, leads_to}
 use Rattle.sccp_relay.specs.SubsystemTests.{is_test_led, stays}
 use Rattle.sccp_relay.specs.declared.subsystem.ProhibitedSubsystem.{ProhibitedSubsystem}
 use Rattle.sccp_relay.specs.declared.subsystem.Subsystem.{Subsystem}
-use Rattle.sccp_relay.specs.declared.subsystem.SubsystemNews.{SubsystemNews}
 use Rattle.exchange_rules.specs.LawsOfSubsystems.{known_of}
-use Rattle.exchange_rules.specs.LawsOfCountdowns.{each_is_tested_as_due, news_change_one, none_is_prohibited_at_first, takes_leave_titles, tests_among, unled_ones_go_as_due}
+use Rattle.exchange_rules.specs.LawsOfCountdowns.{each_is_tested_as_due, news_change_one, none_is_prohibited_at_first, takes_leave_titles, unled_ones_go_as_due}
 use Rattle.exchange_rules.specs.Messages.{test_of}
-use Rattle.exchange_rules.specs.State.{Parts}
 use Rattle.exchange_rules.proofs.KeptTitles.{alters-deeds}
 use Rattle.exchange_rules.proofs.SteppingEvents.{take-steps}
 use Rattle.exchange_rules.proofs.SubsystemTests.{same-point}

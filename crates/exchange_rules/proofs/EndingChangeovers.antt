@@ -1,6 +1,6 @@
 -- A link fails, and its changeover goes on and ends: every hold has its timer or its word all the while.
 use Rattle.exchange_rules.proofs.Basics.{◌≡◌, inr, ◌<◌, ℕ, Bool, true, false, List, length, Option, None, refl, ap, sym, ◌∙◌, subst, arith, ⊎_elim, get_or-set_other, get_or-set_same, nat_lt, if◌then◌else◌}
-use Rattle.exchange_rules.proofs.Definitions.{Configuration, FailureReason, ChangeoverTimer, Changeover, HoldSet, holds, flows_leave, Standing, no_changeover, completed, acknowledged, failed, begun_by_peer, TimerName, Running, NodeCounts, is_running, clear_timer, left-clear_other, counts-clear, counts-clear_set, without_tests, answer, Handled, Ignored, Parts, Node, Found, with_parts, in_service, down, is_link, changeover_of, with_changeover, fail_link, has_other, set_of, suspended, is_failed, make_unavailable, changing, begin, change_over, fail_by_peer, begin_by_peer, facts, changeover_order, concluded, complete_if, fail_by_order, complete_by_order, changeover_acknowledgement, on_changeover_order, on_changeover_timer, with_expiry, with_changeover_acknowledged, Link, down_link, link_at, links_with, after_failure, in_outage, WholeQueues, whole, HasAllPlaces}
+use Rattle.exchange_rules.proofs.Definitions.{Configuration, FailureReason, ChangeoverTimer, Changeover, HoldSet, holds, flows_leave, Standing, no_changeover, completed, acknowledged, failed, begun_by_peer, TimerName, Running, NodeCounts, is_running, clear_timer, left-clear_other, counts-clear, counts-clear_set, without_tests, answer, Handled, Ignored, Parts, Node, Found, with_parts, in_service, down, is_link, changeover_of, with_changeover, fail_link, has_other, set_of, suspended, is_failed, make_unavailable, changing, begin, change_over, fail_by_peer, begin_by_peer, facts, changeover_order, concluded, complete_if, fail_by_order, complete_by_order, changeover_acknowledgement, on_changeover_order, on_changeover_timer, with_expiry, with_changeover_acknowledged, down_link, link_at, after_failure, in_outage, WholeQueues, whole, HasAllPlaces}
 use Rattle.std.proofs.lemmas.Bool.{lt-ltb}
 use Rattle.timers.specs.declared.name.TimerName.TheVariants as name
 use Rattle.timers.specs.declared.name.RouteTimer.TheVariants as of_set

@@ -1,6 +1,6 @@
 -- A procedure that holds other flows than before, with its timer: what ends the others' holds is unchanged.
 use Rattle.exchange_rules.proofs.Basics.{◌≡◌, ◌≢◌, ◌⊎◌, inl, inr, ℕ, Bool, true, false, ◌&&◌, List, [], ◌∷◌, refl, ap, sym, ◌∙◌, subst, arith, ⊎_elim, eqb-true, nat_lt}
-use Rattle.exchange_rules.proofs.Definitions.{Configuration, CHANGEBACK_CODES, Procedure, Changeover, Code, Time, Reroute, HoldSet, holds, with_hold, may_parts, Standing, TimerName, has_name, Parts, Node, changeover_of, link_at, in_outage, WholeQueues, HasAllPlaces}
+use Rattle.exchange_rules.proofs.Definitions.{Configuration, CHANGEBACK_CODES, Procedure, Changeover, Code, Time, Reroute, HoldSet, holds, with_hold, may_parts, Standing, TimerName, has_name, Parts, Node, changeover_of, in_outage, WholeQueues, HasAllPlaces}
 use Rattle.std.proofs.lemmas.Bool.{lt-ltb}
 use Rattle.changeback.specs.Rerouting.{held_for}
 use Rattle.flow_hold.proofs.Holding.{MayHold, hold-leaves_others}

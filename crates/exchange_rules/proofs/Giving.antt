@@ -1,6 +1,6 @@
 -- If a rule puts a message on the queue of a link, that link carries traffic.
 use Rattle.exchange_rules.proofs.Basics.{and_parts, ◌&&◌, not, Bool, List, None, Option, Some, [], ap, false, inl, inr, length, refl, subst, suc, sym, true, zero, ℕ, ◌∙◌, ◌∷◌, ◌≡◌, ◌≢◌, ◌⊎◌, ⊎_elim, cases_eq, get_or-set_other, if◌then◌else◌}
-use Rattle.exchange_rules.proofs.Definitions.{take_step, test_if, queue_if, send_test, awaiting_test, link_test, tests_links, test_passed, is_first_test, pass_test, step_on, begun_anew, begin_traffic, has_other, link_at, down_link, carries_traffic, declared_by_test_in_traffic, tested_in_service, Transition, Queue, appended, emptied, first_queue, Link, is_in_service, Owed, owed, Facts, Configuration, Message, flow_of, Cause, LostUnconfirmed, code_for, declaration, hold_flows, loses_flows, take_back_each, complete_if, concluded, judged, lifted_parts, lose, lose_each, send_each, waits, GivesInTraffic, declared_in_traffic, queued_anew_in_traffic, routed_in_traffic, settled_in_traffic, in_service, in_traffic, send, send_anew, send_routed, no_room, queue_on, WholeQueues, queue_at, whole, go, go_by, go_each, go_on, release, facts, link_of, Found, Node, Parts, with_parts, advance, enters, enters_traffic, moved_on, return_if, may_tell, route_message, tell_each, tell_if, tell_owed, told_parts}
+use Rattle.exchange_rules.proofs.Definitions.{take_step, test_if, queue_if, send_test, awaiting_test, link_test, tests_links, test_passed, is_first_test, pass_test, step_on, begun_anew, begin_traffic, has_other, link_at, down_link, carries_traffic, declared_by_test_in_traffic, tested_in_service, Transition, Queue, appended, emptied, first_queue, Link, Owed, owed, Facts, Configuration, Message, flow_of, Cause, LostUnconfirmed, code_for, declaration, hold_flows, loses_flows, take_back_each, complete_if, concluded, judged, lifted_parts, lose, lose_each, send_each, waits, GivesInTraffic, declared_in_traffic, queued_anew_in_traffic, routed_in_traffic, settled_in_traffic, in_service, in_traffic, send, send_anew, send_routed, no_room, queue_on, WholeQueues, queue_at, whole, go, go_by, go_each, go_on, release, facts, link_of, Found, Node, Parts, with_parts, advance, enters, enters_traffic, moved_on, return_if, may_tell, route_message, tell_each, tell_if, tell_owed, told_parts}
 use Rattle.exchange_rules.proofs.Combining.{changed}
 use Rattle.exchange_rules.proofs.LeavingMessages.{chosen_carries}
 use Rattle.exchange_rules.proofs.SteppingLinks.{stepped-other, tested-links}

@@ -1,6 +1,6 @@
 -- A message that says something of a subsystem at another point, and is heard, changes what is known by that alone.
-use Rattle.exchange_rules.proofs.Basics.{◌≡◌, ℕ, Bool, true, false, ◌&&◌, not, nat_eq, List, Option, Some, None, Result, Ok, Err, refl, ap, sym, subst, ◌∙◌, ⊎_elim, arith, nat_tests, and_parts, eqb-true, if◌then◌else◌, drop, is_some}
-use Rattle.exchange_rules.proofs.Definitions.{acts_on, Action, UserData, SeqFault, EmptyFrame, FrameValue, MessageFrame, StatusFrame, read_frame, Discrimination, Configuration, TitlesValue, Message, is_management, service_indicator, FrameFault, Handled, Ignored, Carrying, accept, act_by_data, carry, empty_data, handle_by, message_data, numbers, read, timed_parts, down, is_link, link_at, distribute, local, manage, sccp, deliver_to, submit_to, whither_goes, WholeQueues, whole, new_at, new_by, new_of, Parts, Done, Node, answer, refuse, with_parts, note_refusal, owing, advance, Abstract, FrameCame, Submitted}
+use Rattle.exchange_rules.proofs.Basics.{◌≡◌, ℕ, Bool, true, false, ◌&&◌, not, nat_eq, Option, Some, None, Result, Ok, Err, refl, ap, sym, subst, ◌∙◌, ⊎_elim, arith, nat_tests, and_parts, eqb-true, if◌then◌else◌, drop, is_some}
+use Rattle.exchange_rules.proofs.Definitions.{acts_on, Action, UserData, SeqFault, EmptyFrame, FrameValue, MessageFrame, StatusFrame, read_frame, Discrimination, Configuration, TitlesValue, Message, is_management, service_indicator, FrameFault, Ignored, Carrying, accept, act_by_data, carry, empty_data, handle_by, message_data, numbers, read, timed_parts, down, is_link, link_at, distribute, local, manage, sccp, deliver_to, submit_to, whither_goes, WholeQueues, whole, new_at, new_by, new_of, Parts, Done, Node, answer, refuse, note_refusal, owing, advance, FrameCame, Submitted}
 use Rattle.link.specs.declared.action.Action.TheVariants as act
 use Rattle.mtp3_codec.specs.declared.discrimination.Discrimination.TheVariants as whither
 use Rattle.mtp3_codec.specs.Headings.{label_at}
@@ -8,8 +8,6 @@ use Rattle.signalling_types.specs.declared.cause.Cause.TheVariants as causes
 use Rattle.sccp_codec.specs.declared.address.Routing.{Routing}
 use Rattle.sccp_codec.specs.declared.address.Routing.TheVariants.{Ssn, Title}
 use Rattle.sccp_codec.specs.declared.fault.SccpFault.{SccpFault}
-use Rattle.sccp_codec.specs.declared.management.ManagementKind.{ManagementKind}
-use Rattle.sccp_codec.specs.declared.management.ManagementKind.TheVariants as kinds
 use Rattle.sccp_codec.specs.Management.{ManagementValue, read_management}
 use Rattle.sccp_codec.specs.Messages.{PartsValue, UdtValue, UdtsValue, is_by_ssn}
 use Rattle.sccp_relay.specs.Relay as relays
@@ -17,8 +15,8 @@ use Rattle.sccp_relay.specs.Relay.{is_status, news_from, prohibits}
 use Rattle.sccp_relay.specs.Sccp.{Extended, Plain, SccpValue, is_class_connectionless, read_sccp}
 use Rattle.sccp_relay.specs.Statuses.{heard}
 use Rattle.exchange_rules.specs.LawsOfMessages.{goes_here, is_heard_here, says_in, says_status}
-use Rattle.exchange_rules.specs.LawsOfSubsystems.{IsHeardAs, Says, news_say_what_came, what_is_heard_changes_titles}
-use Rattle.exchange_rules.specs.Messages.{sst_ticks, with_titles}
+use Rattle.exchange_rules.specs.LawsOfSubsystems.{Says, news_say_what_came, what_is_heard_changes_titles}
+use Rattle.exchange_rules.specs.Messages.{sst_ticks}
 use Rattle.exchange_rules.proofs.KeptTitles.{after-same, alters-deeds}
 use Rattle.exchange_rules.proofs.Steps.{Deed}
 use Rattle.exchange_rules.proofs.SteppingLinks.{advance-steps}

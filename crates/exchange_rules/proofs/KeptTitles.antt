@@ -1,7 +1,6 @@
 -- Which events change translation rows and prohibited subsystems: what is heard, a tick, and orders about rows.
-use Rattle.exchange_rules.proofs.Basics.{◌≡◌, ◌⊎◌, inl, inr, ⊎_elim, ℕ, zero, suc, Bool, true, false, List, [], ◌∷◌, Option, Some, None, refl, ap, sym, ◌∙◌, if◌then◌else◌, map, filter}
-use Rattle.exchange_rules.proofs.Definitions.{Message, flow_of, Configuration, TitleEntry, TitleKey, FailureReason, ChangeoverTimer, Facts, Cause, Found, TitlesValue, place_of, has_row, without_row, ticked, due_count, Parts, Node, Done, answer, refuse, with_parts, is_link, in_service, down, link_of, waits, no_room, facts, own_of, has_other, set_of, changeover_of, with_changeover, with_expiry, changeover_order, changeover_acknowledgement, completed, whole, WholeQueues, fail, fail_link, suspended, make_unavailable, change_over, begin, begin_by_peer, fail_by_peer, fail_by_order, without_tests_if_last, without_tests, lose_each, lose, judged, concluded, send, send_each, send_anew, conclude, complete_if, complete_by_order, acknowledge_changeover, on_changeover_order, on_changeover_acknowledgement, on_changeover_timer, with_changeover_acknowledged, hold_flows, declare_by, held_by_rerouting, go, go_by, go_each, go_on, release, tell_owed, tell_each, tell_if, tell, route_message, told_parts, may_tell, owed, with_timers, run_all, run_times, tick, handle_event, apply, add_title_unless, title_refusal, with_rows, count_subsystems, subsystems_ticked, Happening, Ticked, TitleAdded, TitleRemoved, Owed, Abstract}
-use Rattle.std.specs.Prelude.{is_some}
+use Rattle.exchange_rules.proofs.Basics.{◌≡◌, ◌⊎◌, inl, inr, ⊎_elim, ℕ, Bool, true, false, List, [], ◌∷◌, Option, Some, None, refl, ap, sym, ◌∙◌, if◌then◌else◌}
+use Rattle.exchange_rules.proofs.Definitions.{Message, flow_of, Configuration, TitleEntry, TitleKey, FailureReason, ChangeoverTimer, Facts, Cause, Found, TitlesValue, place_of, has_row, without_row, ticked, due_count, Parts, Node, Done, answer, refuse, with_parts, is_link, in_service, down, link_of, waits, no_room, facts, own_of, has_other, set_of, changeover_of, with_expiry, changeover_order, changeover_acknowledgement, whole, WholeQueues, fail, fail_link, suspended, make_unavailable, change_over, begin, begin_by_peer, fail_by_peer, fail_by_order, without_tests, lose_each, lose, judged, send, send_each, send_anew, complete_if, complete_by_order, on_changeover_order, on_changeover_acknowledgement, on_changeover_timer, with_changeover_acknowledged, hold_flows, held_by_rerouting, go, go_by, go_each, go_on, release, tell_owed, tell_each, tell_if, tell, route_message, told_parts, may_tell, owed, with_timers, run_all, handle_event, apply, add_title_unless, title_refusal, with_rows, Happening, Ticked, TitleAdded, TitleRemoved, Owed}
 use Rattle.signalling_types.specs.declared.cause.Cause.TheVariants.{LostUnconfirmed, NoSuchName}
 use Rattle.signalling_types.specs.declared.outcome.Outcome.TheVariants.{Handled, Ignored}
 use Rattle.signalling_types.specs.declared.notice.FailureReason.TheVariants as reasons
@@ -14,7 +13,6 @@ use Rattle.exchange_rules.specs.LawsOfSubsystems.{a_tick_counts_them, changes_ti
 use Rattle.exchange_rules.specs.Messages.{sst_ticks}
 use Rattle.exchange_rules.proofs.Asked.{any}
 use Rattle.exchange_rules.proofs.Steps.{Deed, TitlesChange, IsOfDeeds}
-use Rattle.exchange_rules.proofs.SteppingEvents.{AllowsTimer}
 use Rattle.exchange_rules.proofs.Causes.{event-deeds, times-deeds, Cause as MayDo}
 use Rattle.exchange_rules.proofs.KeptFacts.{after-facts, own-same}
 

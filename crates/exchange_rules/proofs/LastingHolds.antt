@@ -1,6 +1,6 @@
 -- Whatever an exchange is asked, every hold has its timer or its word.
-use Rattle.exchange_rules.proofs.Basics.{◌≡◌, ◌≢◌, inl, inr, ◌<◌, ◌≤◌, ℕ, Bool, true, false, List, [], ◌∷◌, length, Option, Some, None, refl, ap, sym, ◌∙◌, subst, arith, ⊎_elim, cases_lt, get_or-replicate, get_or_past, length-replicate, replicate, slice_index_or, is_some, nat_lt, if◌then◌else◌, ◌&&◌, not, and_parts, and_from, get_or-set_same, get_or-set_other}
-use Rattle.exchange_rules.proofs.Definitions.{recovered, period_of, Period, acts_on, Configuration, Facts, ChangeoverTimer, Procedure, Code, Time, Reroute, HoldSet, holds, lifted, flows_leave, none_at_first, Standing, no_changeover, TimerName, Running, NodeCounts, is_running, has_name, set_timer, clear_timer, ticked, due_name, after_due, one_less, left-set_other, left-clear_other, left-ticked, counts-set, link_at, after-clear, after-none, due-left, Parts, Node, with_parts, in_service, is_link, changeover_of, set_of, complete_if, on_changeover_timer, with_expiry, is_taken_back, hold_flows, held_by_rerouting, opening, carries, with_timers, run_due, run_timer, counts-after, first_state, WholeQueues, whole, HasAllPlaces, Link, down_link, Alignment, Input, Go, Transition, stepped, opened_by, may_open, is_down, is_in_service, without_owed, Changeover, is_failed, facts, in_outage, put_out, let_back}
+use Rattle.exchange_rules.proofs.Basics.{◌≡◌, ◌≢◌, inl, inr, ◌<◌, ◌≤◌, ℕ, Bool, true, false, List, [], ◌∷◌, length, Option, Some, None, refl, ap, sym, ◌∙◌, subst, arith, ⊎_elim, cases_lt, get_or-replicate, get_or_past, length-replicate, replicate, slice_index_or, is_some, nat_lt, if◌then◌else◌, and_from, get_or-set_same, get_or-set_other}
+use Rattle.exchange_rules.proofs.Definitions.{recovered, period_of, Configuration, Facts, ChangeoverTimer, Procedure, Code, Time, Reroute, HoldSet, holds, lifted, flows_leave, none_at_first, Standing, no_changeover, TimerName, Running, NodeCounts, is_running, has_name, set_timer, clear_timer, ticked, due_name, after_due, one_less, left-set_other, left-clear_other, left-ticked, counts-set, link_at, after-clear, after-none, due-left, Parts, Node, with_parts, in_service, is_link, changeover_of, set_of, complete_if, on_changeover_timer, with_expiry, is_taken_back, hold_flows, held_by_rerouting, opening, carries, with_timers, run_due, run_timer, counts-after, first_state, WholeQueues, whole, HasAllPlaces, Link, down_link, stepped, opened_by, is_in_service, without_owed, Changeover, is_failed, facts, in_outage, put_out, let_back}
 use Rattle.std.proofs.lemmas.Bool.{lt-ltb, ltb-true}
 use Rattle.flow_hold.proofs.Pairing.{ends_its_own}
 use Rattle.timers.proofs.Maps.{exists}
@@ -8,11 +8,10 @@ use Rattle.timers.specs.declared.name.TimerName.TheVariants as name
 use Rattle.signalling_types.specs.declared.notice.ChangeoverTimer.TheVariants as which
 use Rattle.exchange_rules.specs.LastingHolds.{WillPass, AllWillEnd, holds_stay_timed, every_hold_has_its_timer_or_its_word}
 use Rattle.exchange_rules.proofs.LinkTimers.{timed-for, timed_busy-for, timed_busy_ended-for, timed_confirming-for, timed_sending-for}
-use Rattle.exchange_rules.proofs.LastingPlaces.{places-steps, places-first, timers-keep}
+use Rattle.exchange_rules.proofs.LastingPlaces.{places-first, timers-keep}
 use Rattle.exchange_rules.proofs.LastingPlaces as kept
-use Rattle.exchange_rules.proofs.Steps.{IsOfRules, IsSameLink, ends_holds, outed}
+use Rattle.exchange_rules.proofs.Steps.{IsOfRules, ends_holds, outed}
 use Rattle.exchange_rules.proofs.Outages.{service-there, out-serves}
-use Rattle.exchange_rules.proofs.Serving.{each-step, goes-up, down-is}
 use Rattle.exchange_rules.proofs.Asked.{any, IsOfAll, asked-all}
 use Rattle.exchange_rules.proofs.SteppingEvents.{run_timer-steps}
 use Rattle.exchange_rules.proofs.WillEnding.{no-way, LinkAs, link-same, link-set, none-passes, closed, Its, runs-as, set-runs, but-of, but-moved, will-stay, alike-stay, lifted-fewer}
@@ -20,56 +19,7 @@ use Rattle.exchange_rules.proofs.SteppingTimers.{apart-from}
 use Rattle.exchange_rules.proofs.SteppingEvents.{run_next-steps}
 use Rattle.exchange_rules.proofs.EndingProcedures.{timer_of, has-timer, held-else, held_for-leaves}
 use Rattle.exchange_rules.proofs.EndingChangeovers.{Stays, places, same-parts, same-ends, sends-stay, fails-by, unheld-by, orders-stay, acknowledges-by, expires-at, expires-by}
-
--- ---- links that change otherwise
-
-linked-as : (l x : Link) → IsSameLink l x → x.peer_outage ≡ l.peer_outage → LinkAs l x
-linked-as l x e o = record {
-  passes = λ h. record {
-    watched = λ out. ap (λ (a : Alignment). is_in_service a && x.peer_busy) e.alignment ∙ ap (λ (b : Bool). is_in_service l.alignment && b) e.busy ∙ h.watched (sym o ∙ out);
-    alone = λ f. ap is_down e.alignment ∙ h.alone (sym e.association ∙ f);
-  };
-  out = λ h out. o ∙ out;
-}
-
-passed-as : (l : Link) → LinkAs l (record l { test_failed = false; untested = false })
-passed-as l = record { passes = λ h. record { watched = h.watched; alone = h.alone }; out = λ h o. o }
-
-parted-as : (l : Link) → is_down l.alignment ≡ true → LinkAs l (record l { association = false })
-parted-as l e = record { passes = λ h. record { watched = h.watched; alone = λ f. e }; out = λ h o. o }
-
-down-idle : (a : Alignment) → is_down a ≡ true → is_in_service a ≡ false
-down-idle a e = ap is_in_service (down-is a e)
-
-opened-as : (c : Configuration) (period : Period) (l : Link) → may_open l ≡ true → LinkAs l (opened_by c period l)
-opened-as c period l e = record {
-  passes = λ h. record { watched = λ o. absurd cc; alone = λ f. absurd cc };
-  out = λ h o. no-way (is_in_service l.alignment) (down-idle l.alignment (h.alone (unassociated l.association l.active e))) (and_parts (is_in_service l.alignment) l.peer_busy (h.watched o)).0;
-}
-  where
-    unassociated : (association active : Bool) → (not association && active) ≡ true → association ≡ false
-    unassociated true active e = absurd cc
-    unassociated false active e = refl
-
-stepped-as : (l : Link) (input : Input) (step : Transition) → acts_on l input ≡ Go step → LinkAs l (stepped step l)
-stepped-as l input step e = record {
-  passes = λ h. record {
-    watched = λ o.
-        let w = and_parts (is_in_service l.alignment) l.peer_busy (h.watched o) in
-        and_from (is_in_service step.state) l.peer_busy ((each-step l.period l.alignment input step e).stays w.0) w.1;
-    alone = λ f. no-way (is_down l.alignment) (goes-up l.period l.alignment input step e) (h.alone f);
-  };
-  out = λ h o. o;
-}
-
-busied-as : (l : Link) → LinkAs l (record l { peer_busy = true })
-busied-as l = record {
-  passes = λ h. record { watched = λ o. and_from (is_in_service l.alignment) true (and_parts (is_in_service l.alignment) l.peer_busy (h.watched o)).0 refl; alone = h.alone };
-  out = λ h o. o;
-}
-
-resumed-as : (l : Link) → l.peer_outage ≡ false → LinkAs l (record l { peer_busy = false })
-resumed-as l e = record { passes = λ h. record { watched = λ o. no-way l.peer_outage e o; alone = h.alone }; out = λ h o. o }
+use Rattle.exchange_rules.proofs.LinksAlike.{busied-as, linked-as, opened-as, parted-as, passed-as, resumed-as, stepped-as}
 
 module _ (c : Configuration) where
   -- ---- an outage begins and ends

@@ -69,11 +69,13 @@ pub mod Shares
 pub mod WithoutShares
 pub mod LastingMessages
 pub mod LastingRoutes
+pub mod LoneLinks
 pub mod LoneRoutes
 pub mod OutLinks
 pub mod WillEnding
 pub mod EndingProcedures
 pub mod EndingChangeovers
+pub mod LinksAlike
 pub mod LastingHolds
 pub mod DueTimers
 pub mod Eased
@@ -86,6 +88,7 @@ pub mod CalmTests
 pub mod UntestedLinks
 pub mod UnansweredTests
 pub mod TickingAlone
+pub mod BecomingQuiet
 pub mod Receiving
 pub mod Received
 pub mod Tallies
@@ -117,6 +120,7 @@ pub mod Giving
 pub mod Saying
 pub mod Fates
 pub mod Subsystems
+pub mod RowChoices
 pub mod KeptTitles
 pub mod SubsystemTests
 pub mod NamedLinks
@@ -140,6 +144,7 @@ pub mod EndedHolds
 pub mod Unasked
 pub mod Uncounted
 pub mod NamedOnce
+pub mod NamingFailures
 pub mod FailedLinks
 pub mod KeptFacts
 pub mod OutageChanges

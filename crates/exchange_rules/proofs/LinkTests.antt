@@ -1,6 +1,6 @@
 -- What a node's own link tests do.
-use Rattle.exchange_rules.proofs.Basics.{◌≡◌, ℕ, Bool, true, false, ◌&&◌, List, [], ◌∷◌, ◌++◌, Option, Some, None, Ok, refl, ap, sym, ◌∙◌, subst, arith, nat_tests, nat_eq, and_parts, and_from, if◌then◌else◌, is_some, false_from_ne_true as not-so, ⊎_elim, ◌<◌, ◌≤◌, ◌^◌, cases_lt, get_or_past, ◌*◌}
-use Rattle.exchange_rules.proofs.Definitions.{pass_test, begin_traffic, is_first_test, Configuration, IsWell, LinkEntry, IsLink, IsFarPoint, Cause, Handled, Ignored, Message, opc_of, dpc_of, service_indicator, Transition, LinkTestValue, read_link_test, label_at, label_octets, own_pattern, own_test, link_test, tests_links, is_test_awaited, answers_test, passes_test, awaiting_test, test_passed, with_test_failed, queue_if, begin_test, repeat_test, on_test_answer, entry_of, set_of, peer_of, Asking, first_state, after_each, no_room, Node, with_parts, link_at, in_service, answer, enters, take_step, test_if, advance, run_timer, WholeQueues, whole}
+use Rattle.exchange_rules.proofs.Basics.{◌≡◌, ℕ, Bool, true, false, ◌&&◌, List, [], ◌∷◌, ◌++◌, Option, None, refl, ap, ◌∙◌, arith, nat_tests, nat_eq, and_parts, and_from, if◌then◌else◌, is_some, false_from_ne_true as not-so, ⊎_elim, ◌<◌, ◌≤◌, ◌^◌, cases_lt, get_or_past, ◌*◌}
+use Rattle.exchange_rules.proofs.Definitions.{pass_test, begin_traffic, Configuration, IsWell, LinkEntry, IsLink, Cause, Handled, Ignored, LinkTestValue, label_at, label_octets, own_pattern, link_test, tests_links, is_test_awaited, answers_test, passes_test, awaiting_test, test_passed, queue_if, begin_test, repeat_test, on_test_answer, entry_of, set_of, peer_of, no_room, Node, with_parts, link_at, in_service, answer, enters, take_step, test_if, WholeQueues, whole}
 use Rattle.std.specs.Prelude.{slice_index_or, length}
 use Rattle.mtp3_codec.specs.Headings.{IsLabel, kind_heading}
 use Rattle.mtp3_codec.specs.Management.{test_in}
@@ -9,7 +9,7 @@ use Rattle.mtp3_codec.specs.declared.link_test.TestKind.TheVariants.{Test}
 use Rattle.mtp3_codec.proofs.Labels.{label-back}
 use Rattle.timers.specs.declared.name.TimerName.TheVariants.{Slt1, Slt2}
 use Rattle.exchange_rules.specs.LinkTests.{is_same_pattern}
-use Rattle.exchange_rules.specs.LawsOfTests.{no_tests_without_settings, Begins, links_in_service_are_tested, SaysTest, tests_read_back, IsItsAnswer, answers_pass, other_answers_are_ignored, two_failures_fail_a_link}
+use Rattle.exchange_rules.specs.LawsOfTests.{no_tests_without_settings, Begins, links_in_service_are_tested, tests_read_back, IsItsAnswer, answers_pass, other_answers_are_ignored, two_failures_fail_a_link}
 use Rattle.exchange_rules.proofs.Onward.{link-set, set-far}
 use Rattle.exchange_rules.proofs.OwnManagement.{tested-indicator}
 use Rattle.exchange_rules.proofs.NoTests.{no-tests}

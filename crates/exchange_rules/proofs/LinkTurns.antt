@@ -12,7 +12,7 @@ use Rattle.exchange_rules.proofs.Steps.{IsOfSends, IsOfRules, takes_links, moves
 use Rattle.exchange_rules.proofs.Asked.{any, IsOfAll}
 use Rattle.exchange_rules.proofs.Eased.{less-clear, expired-eased, ran-eased, link-waited}
 use Rattle.exchange_rules.proofs.WithinTimes.{Within, within-set, handed_out-eased, lower}
-use Rattle.exchange_rules.proofs.LinkTimes.{Kept, kept-eased, Turned, turned-of, turned-both, turned-same, turned-set, fails-kept, orders-kept, acknowledges-kept, returns-kept, reroutes-kept, advanced-turned, begin_test-turned, test_unanswered-turned}
+use Rattle.exchange_rules.proofs.LinkTimes.{kept-eased, Turned, turned-of, turned-both, turned-same, turned-set, fails-kept, orders-kept, acknowledges-kept, returns-kept, reroutes-kept, advanced-turned, begin_test-turned, test_unanswered-turned}
 use Rattle.m2pa_codec.specs.declared.status.LinkStatus.TheVariants.{Ready}
 use Rattle.link.specs.Table.{entering}
 use Rattle.link.specs.declared.period.Period.TheVariants.{Fixed, Normal, Emergency}

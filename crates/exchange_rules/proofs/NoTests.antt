@@ -1,6 +1,6 @@
 -- No timer of a test runs where the node doesn't test its links.
-use Rattle.exchange_rules.proofs.Basics.{◌≡◌, ℕ, Bool, true, false, List, Option, Some, None, refl, ap, sym, ◌∙◌, is_some, false_from_ne_true as not-so}
-use Rattle.exchange_rules.proofs.Definitions.{Configuration, period_of, opening, carries, tests_links, TimerName, Running, is_running, left-none, left-ticked, one_less, due_name, after_due, after-clear, after-none, Node, in_service, changeover_of, is_link, link_at, with_timers, run_next, Asking, first_state, after_each, WholeQueues, whole}
+use Rattle.exchange_rules.proofs.Basics.{◌≡◌, ℕ, true, false, List, Option, Some, None, refl, ap, sym, ◌∙◌, is_some, false_from_ne_true as not-so}
+use Rattle.exchange_rules.proofs.Definitions.{Configuration, period_of, opening, carries, tests_links, TimerName, Running, is_running, left-none, left-ticked, one_less, due_name, after_due, after-clear, after-none, Node, in_service, changeover_of, is_link, link_at, with_timers, Asking, first_state, after_each, WholeQueues, whole}
 use Rattle.timers.specs.declared.name.TimerName.TheVariants as name
 use Rattle.exchange_rules.proofs.Steps.{IsOfSends, IsOfRules, is_of_test, moves_links}
 use Rattle.exchange_rules.proofs.Asked.{any, asked-all, IsOfAll}

@@ -1,6 +1,6 @@
 -- What an outage does to a node: each law, rule by rule.
 use Rattle.exchange_rules.proofs.Basics.{◌≡◌, ◌&&◌, ℕ, Bool, true, false, not, inl, inr, Option, None, refl, ap, sym, ◌∙◌, subst, if◌then◌else◌, and_parts, append-nil, set-get_or}
-use Rattle.exchange_rules.proofs.Definitions.{Configuration, Alignment, LinkStatus, Action, Status, Expiry, Transition, action_at, acts_on, Period, Link, down_link, is_in_service, stepped, Parts, Node, Done, with_parts, answer, Handled, link_at, links_with, in_service, fail, advance, act_by_status, on_link_status, act_by_timer, in_outage, tells_outage, tells_recovery, become_busy, end_busy, hear_outage, end_outage, begin_outage, WholeQueues, whole, after_each, first_state, carries_traffic}
+use Rattle.exchange_rules.proofs.Definitions.{Configuration, Alignment, LinkStatus, Action, Status, Expiry, Transition, action_at, acts_on, Period, Link, down_link, is_in_service, stepped, Parts, Node, Done, with_parts, answer, Handled, link_at, links_with, in_service, fail, advance, act_by_status, on_link_status, act_by_timer, in_outage, tells_outage, tells_recovery, become_busy, end_busy, hear_outage, end_outage, begin_outage, WholeQueues, whole, after_each, first_state}
 use Rattle.link.specs.declared.action.Action.TheVariants as act
 use Rattle.link.specs.declared.action.LinkTimer.TheVariants as timer
 use Rattle.link.specs.declared.period.Period.TheVariants as periods

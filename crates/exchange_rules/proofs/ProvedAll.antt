@@ -1,6 +1,6 @@
 -- What lets a link go on, and what doesn't: rules, ticks and frames.
 use Rattle.exchange_rules.proofs.Basics.{◌≡◌, ◌≢◌, ◌⊎◌, inl, inr, ℕ, zero, suc, Bool, true, false, Option, Some, None, Result, Ok, Err, refl, ap, sym, subst, ◌∙◌, cases_eq, if◌then◌else◌}
-use Rattle.exchange_rules.proofs.Definitions.{Configuration, Action, Alignment, Input, Expiry, Status, UserData, Go, Transition, acts_on, LinkStatus, LinkTimer, TimerName, Running, is_due, due-left, SeqFault, Parts, Node, with_parts, link_at, links_with, in_service, after_due, due_name, timer_name, timed_busy, timed_busy_ended, timed_parts, Carrying, numbers, accept, owing, handle_by, act_by_data, act_by_status, act_by_timer, run_out, serve_status, advance, with_timers, run_timer, run_due, run_next, run_times, WholeQueues, whole, Message, tells_outage, tells_recovery, begin_outage, hear_outage, end_outage, answer, Handled, become_busy, end_busy, let_back}
+use Rattle.exchange_rules.proofs.Definitions.{Configuration, Action, Alignment, Input, Expiry, Status, UserData, Go, Transition, acts_on, LinkStatus, LinkTimer, TimerName, Running, is_due, due-left, SeqFault, Parts, Node, with_parts, link_at, in_service, after_due, due_name, timer_name, timed_parts, Carrying, numbers, accept, owing, handle_by, act_by_data, act_by_status, act_by_timer, run_out, serve_status, advance, with_timers, run_timer, run_due, run_next, run_times, WholeQueues, whole, Message, begin_outage, hear_outage, end_outage, answer, Handled, become_busy, end_busy, let_back}
 use Rattle.signalling_types.specs.declared.notice.FailureReason.TheVariants as reasons
 use Rattle.m2pa_codec.specs.declared.status.LinkStatus.TheVariants as says
 use Rattle.link.specs.declared.action.Action.TheVariants as act

@@ -1,6 +1,6 @@
 -- Messages that are made here or go to other points lose nothing: how many notices each rule makes.
 use Rattle.exchange_rules.proofs.Basics.{Bool, Err, List, None, Ok, Option, Result, Some, [], arith, false, length, nat_eq, nat_lt, not, refl, true, ℕ, ◌&&◌, ◌+◌, ◌∷◌, ◌≡◌, if◌then◌else◌}
-use Rattle.exchange_rules.proofs.Definitions.{pass_test, passes_test, test_passed, is_outstanding, LinkTestValue, MgmtFault, TestKind, Acknowledgement, Test, Owed, owed, Heard, RouteTest, status_of, RouteStatus, Allowed, Prohibited, Restricted, Configuration, Message, dpc_of, opc_of, flow_of, is_management, service_indicator, Cause, Outcome, Handled, Held, Ignored, Local, Queued, Refused, Discrimination, RelayedValue, relay, returned, destination_place, is_destination, offer, transfer, local, sccp, submit, submit_to, whither_goes, is_user, in_place_of, on_unitdata, own_of, relay_by, return_outcome, send_udts, waits, forced, freed, held_by_rerouting, on_changeback_acknowledgement, prohibited_test, restricted_test, route_message, timed_status, with_status_heard, send_each, do_kind, do_test, test_answer, send, send_anew, send_routed, set_of, no_room, no_room_for, WholeQueues, whole, apply_route_status, ask_again, ask_by, on_route_status, with_next_test, facts, link_of, Done, Node, Parts, answer, refuse, with_parts, answer_no_route, answer_no_user_part, is_unequipped_told, tell_unavailable, unavailable, unequipped_counted, answered_parts, inhibited, is_inhibited, may_tell, on_route_test, prohibit, send_route_status, tell_each, tell_if, tell_owed, told_parts}
+use Rattle.exchange_rules.proofs.Definitions.{pass_test, passes_test, is_outstanding, LinkTestValue, MgmtFault, TestKind, Acknowledgement, Test, Owed, owed, Heard, RouteTest, status_of, RouteStatus, Allowed, Prohibited, Restricted, Configuration, Message, dpc_of, opc_of, flow_of, is_management, service_indicator, Cause, Outcome, Handled, Held, Ignored, Local, Queued, Refused, Discrimination, RelayedValue, relay, returned, destination_place, is_destination, offer, transfer, local, sccp, submit, submit_to, whither_goes, is_user, in_place_of, on_unitdata, own_of, relay_by, return_outcome, send_udts, waits, forced, freed, held_by_rerouting, on_changeback_acknowledgement, prohibited_test, restricted_test, route_message, timed_status, with_status_heard, send_each, do_kind, do_test, test_answer, send, send_anew, send_routed, set_of, no_room, no_room_for, WholeQueues, whole, apply_route_status, ask_again, ask_by, on_route_status, with_next_test, facts, link_of, Done, Node, Parts, answer, refuse, with_parts, answer_no_route, answer_no_user_part, is_unequipped_told, tell_unavailable, unavailable, unequipped_counted, answered_parts, inhibited, is_inhibited, may_tell, on_route_test, prohibit, send_route_status, tell_each, tell_if, tell_owed, told_parts}
 use Rattle.changeback.specs.Rerouting.{rerouted}
 use Rattle.signalling_types.specs.declared.cause.Cause.TheVariants as causes
 use Rattle.signalling_types.specs.declared.notice.Notice.TheVariants as notices

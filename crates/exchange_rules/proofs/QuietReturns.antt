@@ -1,5 +1,5 @@
 -- Links that take their flows back, as they pass a test too, lose nothing by this: they make no notice.
-use Rattle.exchange_rules.proofs.Basics.{Bool, None, Option, Some, false, length, not, refl, suc, true, zero, ℕ, ◌&&◌, if◌then◌else◌}
+use Rattle.exchange_rules.proofs.Basics.{Bool, None, Option, Some, false, length, not, refl, suc, true, zero, ℕ, ◌&&◌}
 use Rattle.exchange_rules.proofs.Definitions.{Facts, Configuration, code_for, hold_flows, loses_flows, take_back_each, has_other, WholeQueues, whole, facts, Node, with_parts, begun_anew_if, return_if, is_first_test, test_passed, pass_test}
 use Rattle.exchange_rules.proofs.Naming.{Quiet, any-quiet, both-quiet, either-quiet, same-quiet}
 

@@ -1,6 +1,6 @@
 -- A return, by the procedure of each other link.
 use Rattle.exchange_rules.proofs.Basics.{◌≡◌, ◌≢◌, ◌<◌, ◌≤◌, ◌++◌, ℕ, suc, Bool, true, false, ◌&&◌, not, [], ◌∷◌, length, Option, Some, None, refl, ap, sym, ◌∙◌, subst, arith, inl, inr, ⊎_elim, cases_lt, cases_eq, get_or-set_same}
-use Rattle.exchange_rules.proofs.Definitions.{HasAllPlaces, Link, Running, stepped, link_at, enters_traffic, is_first_test, test_passed, begun_anew, begin_traffic, step_on, take_step, Message, Configuration, Queue, first_queue, appended, Facts, chosen_link, Procedure, Code, holds, IsAnyFlow, may_parts, is_outstanding, Parts, Node, with_parts, set_of, facts, WholeQueues, queue_at, whole, declaration, loses_flows, procedure_by, code_for, hold_flows, change_back, has_other, enters, moved_on, return_if, advance, HasPlacesFor, HasReturned, HasLost, IsChosen, IsReturn, flows_return_by_their_procedures, entries_are_returns}
+use Rattle.exchange_rules.proofs.Definitions.{HasAllPlaces, Link, Running, stepped, link_at, enters_traffic, is_first_test, test_passed, begun_anew, begin_traffic, step_on, Message, Configuration, Queue, first_queue, appended, Facts, chosen_link, Procedure, Code, holds, IsAnyFlow, may_parts, is_outstanding, Parts, Node, with_parts, set_of, facts, WholeQueues, queue_at, whole, declaration, loses_flows, procedure_by, code_for, hold_flows, change_back, has_other, enters, return_if, HasPlacesFor, HasReturned, HasLost, IsChosen, IsReturn, flows_return_by_their_procedures, entries_are_returns}
 use Rattle.exchange_rules.proofs.Belonging.{chosen_listed, chosen_there}
 use Rattle.exchange_rules.proofs.TakenPairs.{IsTakenFrom, pairs_stay, pair_was}
 use Rattle.exchange_rules.proofs.TakenBack.{taken-so, loses-so, went, other_loses, some_lost, taken_flow_held}

@@ -1,6 +1,6 @@
 -- What holds of the abstract exchange between two events holds after each event and each frame that goes out.
 use Rattle.exchange_rules.proofs.Basics.{◌≡◌, ◌+◌, ◌∷◌, ℕ, Bool, List, [], sum_by, refl, sym, ap, ◌∙◌, set, true, false, ◌&&◌, ◌||◌, not, length, replicate, drop, slice_index_or, if◌then◌else◌, or_right as either-so}
-use Rattle.exchange_rules.proofs.Definitions.{carries_traffic, in_traffic, Queue, first_queue, unconfirmed, unconfirmed-sent_one, WholeQueues, queue_at, whole, Configuration, Facts, set_at, Link, is_in_service, network_of, facts, link_at, with_link, Outgoing, SendsStatus, SendsMessage, Acknowledges, SendsNothing, goes_out, without_owed, after_sending, after_take, release, told_below, is_all_told, Node, Happening, handle_event, apply, Abstract, first_state, ToldTable, is_own_point, told_at, is_unlike, status_to_advertise, is_reachable, owed_at, owes_nothing, all_wait}
+use Rattle.exchange_rules.proofs.Definitions.{carries_traffic, in_traffic, Queue, first_queue, unconfirmed, unconfirmed-sent_one, WholeQueues, queue_at, whole, Configuration, Facts, set_at, Link, network_of, facts, link_at, with_link, Outgoing, SendsStatus, SendsMessage, Acknowledges, SendsNothing, goes_out, without_owed, after_sending, after_take, release, told_below, is_all_told, Node, Happening, handle_event, apply, Abstract, first_state, ToldTable, is_own_point, told_at, is_unlike, status_to_advertise, is_reachable, owed_at, owes_nothing, all_wait}
 use Rattle.cell_pool.specs.Lanes.{managements_in}
 use Rattle.link.specs.Queue as queue
 use Rattle.exchange_rules.proofs.Lists.{map-set_alike, sum_by-map, each-replicate}

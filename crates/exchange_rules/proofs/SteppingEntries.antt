@@ -1,6 +1,6 @@
 -- A link begins to carry traffic: the rule is made of steps.
-use Rattle.exchange_rules.proofs.Basics.{◌≡◌, ◌≢◌, ◌<◌, ℕ, Bool, true, false, ◌&&◌, not, length, refl, ap, ◌∙◌, inl, List}
-use Rattle.exchange_rules.proofs.Definitions.{Configuration, Link, is_in_service, carries_traffic, clear_set, reset_shape, Facts, Parts, Node, with_parts, link_at, in_service, in_traffic, facts, set_of, with_set_reset, has_other, begun_anew_if, begun_anew, return_if, begin_traffic, WholeQueues, whole}
+use Rattle.exchange_rules.proofs.Basics.{◌≡◌, ◌≢◌, ℕ, Bool, true, false, ◌&&◌, not, length, refl, ap, ◌∙◌, inl}
+use Rattle.exchange_rules.proofs.Definitions.{Configuration, Link, is_in_service, clear_set, reset_shape, Facts, Parts, Node, with_parts, link_at, in_service, facts, set_of, with_set_reset, has_other, begun_anew_if, begun_anew, return_if, begin_traffic, WholeQueues, whole}
 use Rattle.timers.specs.declared.name.RouteTimer.TheVariants as of_set
 use Rattle.exchange_rules.proofs.TakenPairs.{take_back_each-alike}
 use Rattle.exchange_rules.proofs.Steps.{MayReturn, IsOfDeeds, Deed}

@@ -21,7 +21,7 @@ use Rattle.exchange_rules.proofs.SteppingRelaying.{add_title-steps, remove_title
 use Rattle.exchange_rules.proofs.SteppingLinks.{AllowsStatus, advance-serves, advance-steps, on_link_status-steps, run_out-steps, association_up-steps, association_down-steps, activate-steps, deactivate-steps}
 use Rattle.exchange_rules.proofs.SteppingLocal.{Allows, AllowsMessage, deliver-steps, submit-steps}
 use Rattle.exchange_rules.specs.LawsOfUserParts.{brings_lacking}
-use Rattle.exchange_rules.specs.LawsOfCauses.{Word, ended_by_timer, fails_by, is_misplaced, is_misplaced_at, is_misplaced_in, is_wrong, word_heard, word_of}
+use Rattle.exchange_rules.specs.LawsOfCauses.{Word, ended_by_timer, fails_by, is_misplaced, is_misplaced_at, is_misplaced_in, is_wrong, word_heard}
 use Rattle.exchange_rules.specs.LawsOfSubsystems.{changes_titles}
 
 -- a message that came is to be acknowledged on a link that carries messages as before

@@ -1,11 +1,10 @@
 -- Links that open, align, fail and go, and a tick: each rule is made of steps.
 use Rattle.exchange_rules.proofs.Basics.{◌≡◌, ◌≢◌, ◌<◌, ◌≤◌, ℕ, Bool, true, false, ◌&&◌, not, List, length, refl, ap, ◌∙◌, arith, if◌then◌else◌, ⊎_elim, cases_lt, get_or_past, get_or-set_same, get_or-set_other, length-set, inl, sym, subst}
-use Rattle.exchange_rules.proofs.Definitions.{Configuration, Handled, Ignored, FailureReason, LinkStatus, Action, Input, Status, Expiry, LinkTimer, Transition, acts_on, Link, down_link, is_down, is_in_service, stepped, after_failure, clear_set, reset_shape, Standing, may_restart, Facts, may_open, open_link, association_up, fail_if_up, end_association, association_down, set_active, activate, deactivate, Parts, Node, Done, with_parts, answer, refuse, is_link, link_at, links_with, down, in_service, facts, set_of, with_set_reset, has_other, changeover_of, fail, step_on, enters, enters_traffic, begun_anew_if, moved_on, advance, serve_status, act_by_status, on_link_status, act_by_timer, run_out, WholeQueues, whole, become_busy, end_busy, in_outage, tells_outage, tells_recovery, let_back, begin_outage, hear_outage, end_outage, Changeover, take_step, test_if}
+use Rattle.exchange_rules.proofs.Definitions.{Configuration, Handled, Ignored, FailureReason, LinkStatus, Action, Input, Status, Expiry, LinkTimer, Transition, acts_on, Link, down_link, is_down, is_in_service, stepped, after_failure, Standing, may_restart, may_open, open_link, association_up, fail_if_up, end_association, association_down, set_active, activate, deactivate, Parts, Node, Done, with_parts, answer, refuse, is_link, link_at, links_with, down, in_service, facts, set_of, with_set_reset, has_other, changeover_of, fail, step_on, enters, enters_traffic, begun_anew_if, moved_on, advance, serve_status, act_by_status, on_link_status, act_by_timer, run_out, WholeQueues, whole, become_busy, end_busy, in_outage, tells_outage, tells_recovery, let_back, begin_outage, hear_outage, end_outage, Changeover, take_step, test_if}
 use Rattle.signalling_types.specs.declared.cause.Cause.TheVariants as causes
 use Rattle.signalling_types.specs.declared.notice.FailureReason.TheVariants as reasons
 use Rattle.m2pa_codec.specs.declared.status.LinkStatus.TheVariants as says
 use Rattle.link.specs.declared.action.Action.TheVariants as act
-use Rattle.timers.specs.declared.name.RouteTimer.TheVariants as of_set
 use Rattle.node_links.specs.NodeLinks.{link_in}
 use Rattle.exchange_rules.specs.LawsOfCauses.{fails_by}
 use Rattle.exchange_rules.proofs.Serving.{serves-in, fails-up, failing-timer}

@@ -1,5 +1,5 @@
 -- Messages for this point, and those that frames carry and user parts hand over: each rule is made of steps.
-use Rattle.exchange_rules.proofs.Basics.{◌≡◌, ℕ, Bool, true, false, Option, Some, None, Result, Ok, Err, refl, ap, ◌∙◌, if◌then◌else◌, ◌&&◌, not}
+use Rattle.exchange_rules.proofs.Basics.{◌≡◌, ℕ, Bool, true, false, Option, Some, None, Result, Ok, Err, refl, if◌then◌else◌, ◌&&◌, not}
 use Rattle.exchange_rules.proofs.Definitions.{Message, dpc_of, opc_of, service_indicator, is_management, Configuration, Cause, Outcome, Queued, Held, Local, Handled, Ignored, Refused, set_place, destination_place, MgmtFault, TestKind, Test, Acknowledgement, Management, TrafficRestartAllowed, ExtendedChangeoverOrder, ExtendedChangeoverAcknowledgement, EmergencyChangeoverOrder, EmergencyChangeoverAcknowledgement, ChangebackDeclaration, ChangebackAcknowledgement, TransferProhibited, TransferRestricted, TransferAllowed, RouteSetTestProhibited, RouteSetTestRestricted, UserPartUnavailable, LinkTestValue, read_link_test, read_management, Allowed, Restricted, Prohibited, is_outstanding, Discrimination, Node, Done, with_parts, answer, refuse, in_service, note_outcome, route_about, no_room, send, changeback_acknowledgement, freed, on_changeback_acknowledgement, sccp, is_user, is_adjacent, answer_no_user_part, from_afar, test_answer, link_with_code, local, do_order, do_acknowledgement, do_management, do_kind, do_test, distribute, transfer, on_unitdata, whither_goes, deliver_to, deliver, submit_to, submit, WholeQueues, whole, Procedure, Changeover, Code, set_of}
 use Rattle.std.specs.Prelude.{nat_eq, ◌||◌, is_some}
 use Rattle.signalling_types.specs.declared.cause.Cause.TheVariants as causes

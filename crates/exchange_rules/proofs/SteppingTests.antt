@@ -1,6 +1,6 @@
 -- The tests of links: each rule is made of steps.
 use Rattle.exchange_rules.proofs.Basics.{◌≡◌, inl, ℕ, Bool, true, false, ◌&&◌, Option, Some, None, refl, ap, sym, ◌∙◌, if◌then◌else◌, and_parts, is_some, inr, subst}
-use Rattle.exchange_rules.proofs.Definitions.{Link, is_test_awaited, answers_test, Configuration, Cause, Handled, Ignored, Alignment, is_down, is_in_service, LinkTestValue, link_test, tests_links, answer_ticks, pause_ticks, passes_test, awaiting_test, with_test_failed, test_passed, queue_if, send_test, begin_test, repeat_test, test_unanswered, on_test_answer, Running, set_timer, clear_timer, left-clear_other, link_at, Parts, Node, with_parts, answer, in_service, down, no_room, WholeQueues, whole, down_link, begun_anew_if, set_of, has_other, with_set_reset, with_test_passed, is_first_test, pass_test}
+use Rattle.exchange_rules.proofs.Definitions.{Link, is_test_awaited, answers_test, Configuration, Cause, Handled, Ignored, Alignment, is_down, is_in_service, LinkTestValue, link_test, tests_links, answer_ticks, pause_ticks, passes_test, awaiting_test, with_test_failed, test_passed, queue_if, send_test, begin_test, repeat_test, test_unanswered, on_test_answer, Running, set_timer, clear_timer, left-clear_other, link_at, Parts, Node, with_parts, answer, in_service, down, no_room, WholeQueues, whole, down_link, begun_anew_if, set_of, with_set_reset, with_test_passed, is_first_test, pass_test}
 use Rattle.link.specs.declared.alignment.Alignment.TheVariants.{Down, NotAligned, Aligned, Proving, AlignedReady, InService}
 use Rattle.timers.specs.declared.name.TimerName.TheVariants as name
 use Rattle.signalling_types.specs.declared.notice.FailureReason.TheVariants as reasons

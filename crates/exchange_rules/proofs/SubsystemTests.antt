@@ -1,37 +1,31 @@
 -- Tests of prohibited subsystems: when they are due, what they say, and how long subsystems stay prohibited.
-use Rattle.std.proofs.Common.{◌≡◌, ◌≢◌, ℕ, zero, suc, ◌+◌, ◌-◌, ◌*◌, ◌%◌, ◌^◌, ◌<◌, ◌≤◌, Bool, true, false, not, List, [], ◌∷◌, ◌++◌, Option, Some, None, Result, Ok, Err, refl, sym, ap, subst, ◌∙◌, arith, map, filter, drop}
+use Rattle.std.proofs.Common.{◌≡◌, ℕ, zero, suc, ◌+◌, ◌-◌, ◌*◌, ◌%◌, ◌<◌, ◌≤◌, Bool, true, false, not, List, [], ◌∷◌, Option, Some, None, refl, sym, ap, ◌∙◌, arith, map, filter}
 use Rattle.std.proofs.lemmas.Bool.{and_parts, eqb-true}
 use Rattle.std.proofs.lemmas.Bool.Decides.{nat_tests}
 use Rattle.std.proofs.lemmas.Nat.{mod-mul-add}
 use Rattle.std.specs.Option.{option_and_then}
-use Rattle.std.specs.Prelude.{◌&&◌, ◌||◌, if◌then◌else◌, is_some, length, nat_eq, nat_lt}
+use Rattle.std.specs.Prelude.{◌&&◌, ◌||◌, if◌then◌else◌, is_some, nat_eq}
 use Rattle.std.specs.List.{list_any}
 use Rattle.settings_rows.specs.Configuration.{Configuration, TitleEntry}
-use Rattle.settings_rows.specs.declared.title_row.TitleRoute.{TitleRoute}
-use Rattle.settings_rows.specs.declared.title_row.TitleRoute.TheVariants as route
 use Rattle.settings.specs.Readings.{destination_place}
-use Rattle.signalling_types.specs.declared.cause.Cause.{Cause}
-use Rattle.signalling_types.specs.declared.cause.Cause.TheVariants.{SubsystemProhibited}
-use Rattle.mtp3_codec.specs.Headings.{IsLabel, label_octets}
 use Rattle.mtp3_codec.specs.declared.label.Label.{Label}
 use Rattle.mtp3_codec.proofs.Labels.{label-back}
-use Rattle.routes.specs.Routes.{Facts, chosen_link, chosen_sets}
+use Rattle.routes.specs.Routes.{chosen_link}
 use Rattle.routes.proofs.Choosing.{linked_by_sets}
 use Rattle.sccp_codec.specs.Management.{ManagementValue, management_octets}
-use Rattle.sccp_codec.specs.Messages.{PartsValue, UnitdataValue}
+use Rattle.sccp_codec.specs.Messages.{PartsValue}
 use Rattle.sccp_codec.proofs.ManagementTexts.{read_management-written}
-use Rattle.sccp_relay.specs.Points.{OwnValue, is_backup_open, is_barred, is_barred_with, is_open, is_out, is_reached, is_sender, is_shut, point_by, point_or, unless_barred}
+use Rattle.sccp_relay.specs.Points.{OwnValue, is_reached}
 use Rattle.sccp_relay.specs.Relay.{management_address, said}
-use Rattle.sccp_relay.specs.Sccp.{Plain, SccpValue, sccp_octets}
+use Rattle.sccp_relay.specs.Sccp.{sccp_octets}
 use Rattle.sccp_relay.specs.Statuses.{TitlesValue, counted, first_prohibited, is_due, is_prohibited, is_same, leads_to}
-use Rattle.sccp_relay.specs.SubsystemTests.{is_test_led, stays, test_about, ticked}
+use Rattle.sccp_relay.specs.SubsystemTests.{is_test_led, stays, test_about}
 use Rattle.sccp_relay.specs.declared.subsystem.ProhibitedSubsystem.{ProhibitedSubsystem}
 use Rattle.sccp_relay.specs.declared.subsystem.Subsystem.{Subsystem}
 use Rattle.sccp_relay.proofs.SaidMessages.{octets-back}
 use Rattle.exchange_rules.specs.Exchange.{after}
-use Rattle.exchange_rules.specs.First.{Abstract}
-use Rattle.exchange_rules.specs.LawsOfSubsystems.{ReadsAsTest, counted_times, known_of, none_is_where_nothing_leads, points_are_open_or_shut, reached_ones_stay, tests_come_in_turn, tests_read_as_such, titles_are_led_on, unreached_points_bar_nothing}
-use Rattle.exchange_rules.specs.Messages.{own_of, sst_ticks, test_of}
+use Rattle.exchange_rules.specs.LawsOfSubsystems.{counted_times, known_of, none_is_where_nothing_leads, reached_ones_stay, tests_come_in_turn, tests_read_as_such}
+use Rattle.exchange_rules.specs.Messages.{own_of, sst_ticks}
 use Rattle.exchange_rules.specs.Queues.{whole}
 use Rattle.exchange_rules.specs.Routing.{facts}
 use Rattle.exchange_rules.specs.State.{Parts, Ticked}
@@ -178,87 +172,3 @@ reads-as-such c s own point =
       calling = record { routed = refl; ssn = refl; point = refl; untitled = refl };
       says = read_management-written about point;
     }
-
--- ---- where a row leads
-
-module _ (own : OwnValue) (prohibited : List ProhibitedSubsystem) (sender : Option ℕ) (sls : ℕ) where
-  barred-open : (b : Bool) (row : TitleEntry) → b ≡ false → (if b then Err SubsystemProhibited else Ok row) ≡ Ok row
-  barred-open true row e = absurd (let no : true ≡ false = e in cc)
-  barred-open false row e = refl
-
-  title-barred : (number : Option ℕ) (point : ℕ) (backup : Option ℕ) → is_barred_with own prohibited sender sls (route.Title number) point backup ≡ false
-  title-barred number point None = refl
-  title-barred number point (Some backup) = no-bar (is_open own prohibited sls (route.Title number) point)
-    where
-      no-bar : (o : Bool) → ((false || (false && not o)) && not (is_backup_open own prohibited sender sls (route.Title number) backup)) ≡ false
-      no-bar true = refl
-      no-bar false = refl
-
-  title-point : (number : Option ℕ) (point : ℕ) (backup : Option ℕ)
-      → point_or own prohibited sender sls (route.Title number) point backup ≡ point_or own [] sender sls (route.Title number) point backup
-  title-point number point None = refl
-  title-point number point (Some backup) = refl
-
-  unreached-barred : (to : TitleRoute) (point : ℕ) (backup : Option ℕ) → is_reached own sls point ≡ false
-      → ((other : ℕ) → backup ≡ Some other → is_reached own sls other ≡ false) → is_barred_with own prohibited sender sls to point backup ≡ false
-  unreached-barred to point None e f = shut (is_out prohibited to point) (is_reached own sls point) e
-    where
-      shut : (out reached : Bool) → reached ≡ false → (out && reached) ≡ false
-      shut out true e = absurd (let no : true ≡ false = e in cc)
-      shut true false e = refl
-      shut false false e = refl
-  unreached-barred to point (Some backup) e f =
-      shut (is_out prohibited to point) (is_reached own sls point) (is_out prohibited to backup) (is_reached own sls backup) (is_open own prohibited sls to point) _ e (f backup refl)
-    where
-      shut : (out reached other there o taken : Bool) → reached ≡ false → there ≡ false → (((out && reached) || ((other && there) && not o)) && not taken) ≡ false
-      shut out true other there o taken e g = absurd (let no : true ≡ false = e in cc)
-      shut out false other true o taken e g = absurd (let no : true ≡ false = g in cc)
-      shut true false true false o taken e g = refl
-      shut true false false false o taken e g = refl
-      shut false false true false o taken e g = refl
-      shut false false false false o taken e g = refl
-
-pub titles-led-on : titles_are_led_on
-unfolding is_barred point_by
-titles-led-on own prohibited sender sls row number e = (
-  barred-open own prohibited sender sls (is_barred own prohibited sender sls row) row
-      (ap (λ (to : TitleRoute). is_barred_with own prohibited sender sls to row.point row.backup) e ∙ title-barred own prohibited sender sls number row.point row.backup),
-  ap (λ (to : TitleRoute). point_or own prohibited sender sls to row.point row.backup) e
-      ∙ title-point own prohibited sender sls number row.point row.backup
-      ∙ ap (λ (to : TitleRoute). point_or own [] sender sls to row.point row.backup) (sym e),
-)
-
-pub unreached-bar-nothing : unreached_points_bar_nothing
-unfolding is_barred
-unreached-bar-nothing own prohibited sender sls row e f =
-    barred-open own prohibited sender sls (is_barred own prohibited sender sls row) row (unreached-barred own prohibited sender sls row.route row.point row.backup e f)
-
-and-turned : (a b : Bool) → (a && b) ≡ (b && a)
-and-turned true true = refl
-and-turned true false = refl
-and-turned false true = refl
-and-turned false false = refl
-
-and-true : (a : Bool) → (a && true) ≡ a
-and-true true = refl
-and-true false = refl
-
-same-here : (point : ℕ) (leads : Bool) → (nat_eq point point || leads) ≡ true
-same-here point leads =
-    let same : nat_eq point point ≡ true = grind (arith, nat_tests) in
-    ap (λ (b : Bool). b || leads) same
-
-not-here : (point own : ℕ) (leads : Bool) → point ≢ own → (nat_eq point own || leads) ≡ leads
-not-here point own leads e =
-    let other : nat_eq point own ≡ false = grind (arith, nat_tests, e) in
-    ap (λ (b : Bool). b || leads) other
-
-pub open-or-shut : points_are_open_or_shut
-open-or-shut own prohibited sls point = record {
-  here = same-here own.point (own.leads own.point sls);
-  elsewhere = λ e. not-here point own.point (own.leads point sls) e;
-  by_number = λ ssn. refl;
-  shut_by_number = λ ssn. and-turned (is_out prohibited (route.Ssn ssn) point) (is_reached own sls point);
-  by_title = λ number. and-true (is_reached own sls point);
-  shut_by_title = λ number. refl;
-}

@@ -1,6 +1,6 @@
 -- No user message is in the queue of a link that has a test to pass, and none has one where links aren't tested.
-use Rattle.exchange_rules.proofs.Basics.{◌≡◌, ◌≢◌, ◌<◌, ◌≤◌, ◌⊎◌, inl, inr, ℕ, Bool, true, false, ◌&&◌, not, List, [], ◌∷◌, ◌++◌, length, get_or, slice_set, refl, ap, sym, subst, ◌∙◌, arith, list_all, is_some, Some, ⊎_elim, cases_eq, if◌then◌else◌, cases_lt, and_from, get_or_past, get_or-set_same, get_or-set_other, length-set, false_from_ne_true as not-so}
-use Rattle.exchange_rules.proofs.Definitions.{Configuration, Transition, Message, flow_of, is_management, Link, down_link, is_in_service, carries_traffic, stepped, after_failure, opened_by, period_of, Queue, first_queue, emptied, appended, chosen_link, facts, network_of, Parts, Node, with_parts, link_at, links_with, in_service, in_traffic, link_of, queue_on, declaration, test_answer, link_test, tests_links, peer_of, entry_of, ChangebackDeclaration, is_first_test, test_passed, pass_test, enters, enters_traffic, take_step, test_if, advance, carries, open_link, begin_test, send_test, fail, Asking, first_state, after_each, WholeQueues, queue_at, whole}
+use Rattle.exchange_rules.proofs.Basics.{◌≡◌, ◌≢◌, ◌<◌, ◌≤◌, ◌⊎◌, inl, inr, ℕ, Bool, true, false, ◌&&◌, not, List, [], ◌∷◌, ◌++◌, length, get_or, slice_set, refl, ap, sym, subst, ◌∙◌, arith, list_all, is_some, ⊎_elim, cases_eq, if◌then◌else◌, cases_lt, and_from, get_or_past, get_or-set_same, get_or-set_other, length-set, false_from_ne_true as not-so}
+use Rattle.exchange_rules.proofs.Definitions.{Configuration, Message, flow_of, is_management, Link, down_link, is_in_service, carries_traffic, stepped, after_failure, opened_by, period_of, Queue, first_queue, emptied, appended, network_of, Node, link_at, links_with, in_service, queue_on, declaration, test_answer, link_test, tests_links, peer_of, entry_of, ChangebackDeclaration, is_first_test, test_passed, pass_test, enters, take_step, test_if, advance, carries, open_link, send_test, Asking, first_state, after_each, WholeQueues, queue_at, whole}
 use Rattle.std.proofs.lemmas.List.Folds.{list_all-append}
 use Rattle.node_links.specs.NodeLinks.{link_in}
 use Rattle.node_links.proofs.Chosen.{chosen_carrying}

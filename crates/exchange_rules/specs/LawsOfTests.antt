@@ -1,5 +1,5 @@
 -- The tests that a node makes of its links: laws (Q.707 §2.2).
-use Rattle.std.specs.Prelude.{◌≡◌, ℕ, true, false, not, ◌&&◌, List, Some, None, Ok, slice_set, is_some}
+use Rattle.std.specs.Prelude.{◌≡◌, ℕ, true, false, List, Some, None, Ok}
 use Rattle.signalling_types.specs.Message.{Message, dpc_of, opc_of, service_indicator}
 use Rattle.signalling_types.specs.declared.cause.Cause.{Cause}
 use Rattle.signalling_types.specs.declared.notice.FailureReason.TheVariants as reasons
@@ -7,7 +7,7 @@ use Rattle.signalling_types.specs.declared.outcome.Outcome.TheVariants.{Handled,
 use Rattle.settings_rows.specs.Configuration.{Configuration}
 use Rattle.settings.specs.Well.{IsWell}
 use Rattle.mtp3_codec.specs.Management.{LinkTestValue, read_link_test}
-use Rattle.mtp3_codec.specs.declared.link_test.TestKind.TheVariants.{Test, Acknowledgement}
+use Rattle.mtp3_codec.specs.declared.link_test.TestKind.TheVariants.{Test}
 use Rattle.link.specs.declared.action.Transition.{Transition}
 use Rattle.timers.specs.declared.name.TimerName.TheVariants.{Slt1, Slt2}
 use Rattle.timers.specs.Timers.{set_timer, clear_timer, is_running}
@@ -15,7 +15,7 @@ use Rattle.exchange_rules.specs.State.{Asking, Parts, Node, Done, answer, with_p
 use Rattle.exchange_rules.specs.Routing.{entry_of, peer_of, no_room, queue_on}
 use Rattle.exchange_rules.specs.ChangingOver.{fail}
 use Rattle.exchange_rules.specs.Entering.{begin_traffic}
-use Rattle.exchange_rules.specs.LinkTests.{own_pattern, own_test, link_test, tests_links, answer_ticks, pause_ticks, is_same_pattern, is_test_awaited, is_first_test, begin_test, test_unanswered, on_test_answer}
+use Rattle.exchange_rules.specs.LinkTests.{own_pattern, link_test, tests_links, answer_ticks, pause_ticks, is_test_awaited, is_first_test, begin_test, on_test_answer}
 use Rattle.exchange_rules.specs.Frames.{enters, take_step, advance}
 use Rattle.exchange_rules.specs.Exchange.{run_timer}
 use Rattle.exchange_rules.specs.Queues.{WholeQueues, whole}

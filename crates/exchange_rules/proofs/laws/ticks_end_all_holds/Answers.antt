@@ -1,4 +1,5 @@
-use Rattle.exchange_rules.proofs.TickingAlone.{quiet-end, ticks-end}
+use Rattle.exchange_rules.proofs.BecomingQuiet.{ticks-end}
+use Rattle.exchange_rules.proofs.TickingAlone.{quiet-end}
 use Rattle.exchange_rules.proofs.laws.ticks_end_all_holds.Goals as goal
 
 pub returns-clause-quiet : goal.returns-clause-quiet

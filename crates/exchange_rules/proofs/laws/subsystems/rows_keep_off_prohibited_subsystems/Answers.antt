@@ -1,5 +1,4 @@
-use Rattle.exchange_rules.proofs.Subsystems.{choices}
-use Rattle.exchange_rules.proofs.SubsystemTests.{open-or-shut, titles-led-on, unreached-bar-nothing}
+use Rattle.exchange_rules.proofs.RowChoices.{choices, open-or-shut, titles-led-on, unreached-bar-nothing}
 use Rattle.exchange_rules.proofs.laws.subsystems.rows_keep_off_prohibited_subsystems.Goals as goal
 
 pub returns-clause-choice : goal.returns-clause-choice
