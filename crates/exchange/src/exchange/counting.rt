@@ -1,6 +1,6 @@
-//! How many user messages wait.
+//! How many messages wait.
 
-ghost use Rattle.std.specs.Prelude.{◌≡◌, count_by};
+ghost use Rattle.std.specs.Prelude.{◌≡◌, count_by, length};
 ghost use Rattle.cell_pool.specs.Lanes.{is_user_picked};
 ghost use Rattle.exchange_rules.specs.First.{Abstract};
 ghost use Rattle.exchange_rules.specs.Queues.{queue_at};
@@ -15,6 +15,14 @@ use settings::LinkId;
 use signalling_types::Number24;
 
 impl Exchange {
+    /// How many messages are in Held, management messages too. It looks at none of them.
+    pub fn count_held(&self) -> usize
+        ensures count { (a : Abstract) → StandsFor self.now a → result ≡ length a.node.queues.held }
+        ensures kept_count { result ≡ length (kept.held self.now.node.queues) }
+    {
+        self.lanes.count(HELD)
+    }
+
     /// How many user messages of Held a choice takes. It looks at each message once, and copies none.
     pub fn count_held_picked<P: Pick>(&self, pick: &P) -> usize
         ensures count { (a : Abstract) → StandsFor self.now a →

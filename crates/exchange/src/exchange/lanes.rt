@@ -87,13 +87,6 @@ impl Exchange {
         self.sequences[link.index()].accept(&mut self.lanes, lane_of(link), fsn, bsn, carries)
     }
 
-    /// How many messages are held.
-    pub(super) fn count_held(&self) -> usize
-        ensures { result ≡ length (kept.held self.now.node.queues) }
-    {
-        self.lanes.count(HELD)
-    }
-
     /// How many messages a link's list has.
     pub(super) fn count_on(&self, link: LinkId) -> usize
         requires { link < length self.now.settings.links }

@@ -4,7 +4,7 @@ use Rattle.exchange.proofs.Draining.{loop_begins, loop_step, loop_done, release-
 use Rattle.exchange.proofs.exchange.Exchange.release_each.Goals as goal
 
 pub loop-init : goal.loop-init
-loop-init c = loop_begins onward c.args.self.now (c.count_held-end.result - 0) held_lane (omega (arith, c.count_held-end.ensures))
+loop-init c = loop_begins onward c.args.self.now (c.count_held-end.result - 0) held_lane (omega (arith, c.count_held-end.ensures.kept_count))
 
 pub loop-preserved : goal.loop-preserved
 loop-preserved c = loop_step onward c.args.self.now c.loop.self c.release_first.new.self _ c.loop.counter held_lane _ c.loop-test.true c.release_first.ensures c.loop.invariant
