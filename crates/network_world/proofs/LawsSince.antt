@@ -41,13 +41,16 @@ of-steps (GivesUp point link ∷ changes) each w = absurd (All-head IsStep (Give
 
 -- ---- settings stay
 
-pub shared-since : (from : NetworkState) → ShareAll from → (changes : List Change) → ShareAll (since from changes)
-shared-since from all changes = λ point link less.
-    let v : NetworkState = since from changes in
+pub shared-after : (from : NetworkState) → ShareAll from → (changes : List Change) → ShareAll (after_all changes from)
+shared-after from all changes = λ point link less.
+    let v : NetworkState = after_all changes from in
     let own : Configuration = (from.node point).exchange.settings in
-    subst (λ (c : Configuration). SharesSet c (v.node (peer_of c link)).exchange.settings) (sym (changes-keep changes (begun_anew from) point))
-    (subst (λ (c : Configuration). SharesSet own c) (sym (changes-keep changes (begun_anew from) (peer_of own link)))
-    (all point link (subst (λ (c : Configuration). link < length c.links) (changes-keep changes (begun_anew from) point) less)))
+    subst (λ (c : Configuration). SharesSet c (v.node (peer_of c link)).exchange.settings) (sym (changes-keep changes from point))
+    (subst (λ (c : Configuration). SharesSet own c) (sym (changes-keep changes from (peer_of own link)))
+    (all point link (subst (λ (c : Configuration). link < length c.links) (changes-keep changes from point) less)))
+
+pub shared-since : (from : NetworkState) → ShareAll from → (changes : List Change) → ShareAll (since from changes)
+shared-since from all changes = shared-after (begun_anew from) all changes
 
 module _ (k : List KeptNode) (from : NetworkState) (changes : List Change) (s : RunsSince k from changes) where
   abbrev w : NetworkState

@@ -25,7 +25,9 @@ pub mod LeadingOut
 pub mod OutsideTurns
 pub mod NetworkTelling
 pub mod NetworkFirst
+pub mod PointsStay
 pub mod Runs
 pub mod StartingAgain
+pub mod Quiet
 pub mod LawsSince
 pub mod OneByOne

@@ -3,9 +3,9 @@ use Rattle.std.proofs.Common.{◌≡◌, ◌≢◌, ◌<◌, ◌||◌, ℕ, Bool
 use Rattle.std.specs.Prelude.{None, if◌then◌else◌, slice_get, slice_index_or}
 use Rattle.std.proofs.lemmas.Bool.Decides.{nat_tests}
 use Rattle.std.proofs.lemmas.Option.{get_or_from_slice_get, slice_get_within}
-use Rattle.settings_rows.specs.Configuration.{Configuration, LinkEntry, SetEntry}
+use Rattle.settings_rows.specs.Configuration.{Configuration, LinkEntry}
 use Rattle.settings.specs.Well.{IsLink, IsSet, IsWell}
-use Rattle.exchange_rules.specs.Routing.{adjacent_of, entry_of}
+use Rattle.exchange_rules.specs.Routing.{adjacent_of}
 use Rattle.network_rules.specs.Totals.{IsPlaced, is_listed}
 use Rattle.network_rules.proofs.Joined.{placed-listed}
 use Rattle.network_world.specs.KeptNodes.{KeptNode}
@@ -31,7 +31,7 @@ module _ (settings : (point : ℕ) → Configuration) (points : List ℕ) (h : I
 
 -- ---- the points of the nodes that are kept
 
-turned : (m n : ℕ) (b : Bool) → nat_eq m n ≡ b → nat_eq n m ≡ b
+pub turned : (m n : ℕ) (b : Bool) → nat_eq m n ≡ b → nat_eq n m ≡ b
 turned m n true e = grind (arith, nat_tests, e)
 turned m n false e = grind (arith, nat_tests, e)
 

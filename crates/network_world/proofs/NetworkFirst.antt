@@ -49,6 +49,15 @@ found (first ∷ settings) point c e = by (nat_eq first.own point) refl (found s
         record { place = 0; at = g; own = ap (λ (d : Configuration). d.own) (sym same) ∙ equal first.own point f }
     by false f rest g = let its : IsFound settings point c = rest g in record { place = suc its.place; at = its.at; own = its.own }
 
+-- ---- the nodes that are booted
+
+abbrev booted : Configuration → KeptNode
+booted c = kept_node_of (first_node c)
+
+pub points-same : (cs : List Configuration) → points_of (map booted cs) ≡ map own cs
+points-same [] = refl
+points-same (c ∷ cs) = ap (λ (rest : List ℕ). c.own ∷ rest) (points-same cs)
+
 module _ (settings : List Configuration) (apart : are_apart settings ≡ true) (well : AreWell settings) where
   abbrev its : (point : ℕ) → Configuration
   its point = settings_at settings point
@@ -94,9 +103,6 @@ module _ (settings : List Configuration) (apart : are_apart settings ≡ true) (
 
   -- ---- the nodes
 
-  abbrev booted : Configuration → KeptNode
-  booted c = kept_node_of (first_node c)
-
   kept-same : (cs : List Configuration) (point : ℕ) → kept_at point (map booted cs) ≡ option_map booted (settings_for cs point)
   kept-same [] point = refl
   kept-same (c ∷ cs) point = by (nat_eq c.own point) (kept-same cs point)
@@ -111,10 +117,6 @@ module _ (settings : List Configuration) (apart : are_apart settings ≡ true) (
   node-by point (Some c) e =
       let f : IsFound settings point c = found settings point c e in
       record { sound = first-sound c (well f.place c f.at); kept = refl }
-
-  points-same : (cs : List Configuration) → points_of (map booted cs) ≡ map own cs
-  points-same [] = refl
-  points-same (c ∷ cs) = ap (λ (rest : List ℕ). c.own ∷ rest) (points-same cs)
 
   pub first-stands : NetworkStandsFor (map booted settings) (first_network its)
   first-stands = record {

@@ -1,36 +1,31 @@
 -- A network that stood for an abstract one stands for that after what comes by a link that leads out, or goes out by it.
-use Rattle.std.proofs.Common.{arith, ◌≡◌, ◌<◌, ◌&&◌, ◌||◌, ℕ, Bool, true, false, not, List, [], ◌∷◌, length, Option, Some, None, nat_eq, refl, ap, sym, subst, ◌∙◌}
-use Rattle.std.specs.Prelude.{nat_lt, option_to_list, position, slice_get}
-use Rattle.std.specs.List.{list_any}
+use Rattle.std.proofs.Common.{arith, ◌≡◌, ◌<◌, ℕ, Bool, true, false, not, List, [], ◌∷◌, length, Option, Some, None, nat_eq, refl, ap, sym, subst, ◌∙◌}
+use Rattle.std.specs.Prelude.{nat_lt, position, slice_get}
 use Rattle.std.proofs.lemmas.Bool.Decides.{nat_tests}
 use Rattle.std.specs.Option.{option_and_then, option_map}
-use Rattle.signalling_types.specs.Message.{Message, dpc_of, opc_of, service_indicator}
 use Rattle.signalling_types.specs.declared.outcome.Outcome.{Outcome}
 use Rattle.signalling_types.specs.declared.outcome.Outcome.TheVariants.{Ignored}
 use Rattle.settings_rows.specs.Configuration.{Configuration, LinkEntry, SetEntry}
-use Rattle.m2pa_codec.specs.Frames.{FrameValue, read_frame}
+use Rattle.m2pa_codec.specs.Frames.{FrameValue}
 use Rattle.exchange_rules.specs.Exchange.{frame_to_take, outcome_of}
 use Rattle.exchange_rules.specs.First.{IsSound}
-use Rattle.exchange_rules.specs.Laws.{carried_message}
 use Rattle.exchange_rules.specs.Messages.{link_in_set}
 use Rattle.exchange_rules.specs.Queues.{whole}
 use Rattle.exchange_rules.specs.Routing.{adjacent_of}
 use Rattle.exchange_rules.specs.State.{CameUp, FrameCame, Happening}
 use Rattle.pair_rules.specs.Pairs.{Takes}
-use Rattle.network_rules.specs.Networks.{NetworkNode, NetworkState, Place, Step, changed, first_node, happens, place_there, take_frame}
-use Rattle.network_rules.specs.Outside.{HearsOutside, Move, OpensOutside, Within, after_move, hears, hears_outside, is_management_within, is_within, leads_out, leads_out_by, opens_outside, speaks_within}
-use Rattle.network_world.specs.Joined.{no_settings}
+use Rattle.network_rules.specs.Networks.{NetworkNode, NetworkState, Place, Step, changed, happens, place_there, take_frame}
+use Rattle.network_rules.specs.Outside.{HearsOutside, Move, OpensOutside, Within, after_move, hears, hears_outside, is_within, leads_out, leads_out_by, opens_outside, speaks_within}
 use Rattle.network_world.specs.KeptNodes.{KeptNode, NodeTurn, kept_node_of, node_happens, node_takes}
-use Rattle.network_world.specs.KeptNetworks.{NetworkTurn, network_ignored, node_at, one_turned, place_at, points_of}
-use Rattle.network_world.specs.KeptOutside.{FrameOut, comes_outside, has_sets, kept_hears_outside, kept_leads_by, kept_leads_out, kept_management_within, kept_opens_outside, kept_sends_outside, kept_speaks_within, kept_within, node_hears_outside, sent_out}
-use Rattle.network_world.specs.NetworkStands.{IsNetworkReached, IsNodeAt, NetworkStandsFor, if_any, outside_outcome, sent_outside, stepped}
+use Rattle.network_world.specs.KeptNetworks.{NetworkTurn, network_ignored, one_turned, place_at, points_of}
+use Rattle.network_world.specs.KeptOutside.{FrameOut, comes_outside, kept_hears_outside, kept_opens_outside, kept_sends_outside, kept_speaks_within, node_hears_outside, sent_out}
+use Rattle.network_world.specs.NetworkStands.{IsNetworkReached, NetworkStandsFor, if_any, outside_outcome, sent_outside, stepped}
 use Rattle.network_world.proofs.AsKept.{IsKept, as-kept, own-point}
 use Rattle.network_world.proofs.LeadingOut.{leads-same, none-out, speaks-same}
 use Rattle.network_world.proofs.NetworkSteps as steps
 use Rattle.network_world.proofs.NetworkSteps.{AreNodes, IsTurn, reached-more}
 use Rattle.network_world.proofs.NodeFits.{reached-fit}
 use Rattle.network_world.proofs.NetworkTurns.{sent-alone}
-use Rattle.network_world.proofs.NodePlaces.{keeps-none}
 use Rattle.network_world.proofs.NodeReaches.{take-alone, text-same}
 use Rattle.network_world.proofs.NodeRules.{IsNodeSame, frame-node, happens-same}
 

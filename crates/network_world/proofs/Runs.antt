@@ -17,6 +17,7 @@ use Rattle.network_world.proofs.BooksAside.{aside, unbooked}
 use Rattle.network_world.proofs.ChangedFits.{since-fits}
 use Rattle.network_world.proofs.NetworkSteps.{AreNodes, IsTurn}
 use Rattle.network_world.proofs.NetworkTurns.{turns}
+use Rattle.network_world.proofs.PointsStay.{anew-points}
 
 -- ---- lists of changes
 
@@ -68,10 +69,6 @@ module _ (k : List KeptNode) (from : NetworkState) (changes : List Change) (s : 
   abbrev v : NetworkState
   v = after_all changes from
 
-  points-anew : (ns : List KeptNode) → points_of (all_begin_anew ns) ≡ points_of ns
-  points-anew [] = refl
-  points-anew (n ∷ ns) = ap (λ (points : List ℕ). n.exchange.settings.own ∷ points) (points-anew ns)
-
   kept-anew : (ns : List KeptNode) (point : ℕ) → kept_at point (all_begin_anew ns) ≡ option_map node_begins_anew (kept_at point ns)
   kept-anew [] point = refl
   kept-anew (n ∷ ns) point = by (is_at point n) (kept-anew ns point)
@@ -92,7 +89,7 @@ module _ (k : List KeptNode) (from : NetworkState) (changes : List Change) (s : 
   anew-runs = record {
     changed = record {
       settings = s.changed.settings;
-      placed = subst (IsPlaced s.changed.settings) (sym (points-anew k)) s.changed.placed;
+      placed = subst (IsPlaced s.changed.settings) (sym (anew-points k)) s.changed.placed;
       changes = s.changed.changes ++ changes;
       by = ap (after_all changes) s.changed.by ∙ sym (changes-both s.changed.changes changes (first_network s.changed.settings));
     };

@@ -1,30 +1,23 @@
--- A node that starts again, or gives up following the other end of a link, does so in the abstract network; and nodes
--- that are at rest are at rest there.
-use Rattle.std.proofs.Common.{◌≡◌, ◌<◌, ◌&&◌, ℕ, Bool, true, false, List, length, Option, Some, None, is_some, nat_lt, refl, ap, sym, subst, ◌∙◌}
+-- A node that starts again, or gives up following the other end of a link, does so in the abstract network.
+use Rattle.std.proofs.Common.{◌≡◌, ℕ, List, Option, Some, None, is_some, refl, ap, sym, subst, ◌∙◌}
 use Rattle.signalling_types.specs.declared.outcome.Outcome.TheVariants.{Handled}
 use Rattle.settings_rows.specs.Configuration.{Configuration}
 use Rattle.settings.specs.Well.{IsWell}
-use Rattle.exchange_rules.specs.State.{is_link}
-use Rattle.exchange.specs.Calls.{kept_of}
-use Rattle.exchange.specs.Views.{may_restart_at}
-use Rattle.pair_rules.specs.Pairs.{may_follow, may_open_at}
+use Rattle.pair_rules.specs.Pairs.{may_follow}
 use Rattle.network_rules.specs.Anew.{Change, GivesUp, Restarts, given_up, restarted}
 use Rattle.network_rules.specs.Networks.{NetworkNode, NetworkState, end_of, first_node}
-use Rattle.network_rules.specs.Totals.{is_listed}
 use Rattle.network_world.specs.Joined.{no_settings}
-use Rattle.network_world.specs.KeptAnew.{AreAtRest, IsNodeAtRest, gave_up, kept_gives_up, kept_restarts, node_gives_up, node_restarts, one_at}
+use Rattle.network_world.specs.KeptAnew.{gave_up, kept_gives_up, kept_restarts, node_gives_up, node_restarts, one_at}
 use Rattle.network_world.specs.KeptNodes.{KeptNode, kept_node_of, node_with}
 use Rattle.network_world.specs.KeptNetworks.{one_turned, place_at, points_of}
 use Rattle.network_world.specs.KeptSites.{first_site}
-use Rattle.network_world.specs.NetworkAnew.{AllRest, HasSettings, IsAtRest, RunsSince, and_then, changed_if, since}
+use Rattle.network_world.specs.NetworkAnew.{HasSettings, RunsSince, and_then, changed_if, since}
 use Rattle.network_world.specs.NetworkStands.{IsNodeAt, has_node, if_there}
 use Rattle.network_world.proofs.AsKept.{IsKept, own-point}
-use Rattle.network_world.proofs.Fetching.{is-there}
 use Rattle.network_world.proofs.Listed.{listed-kept}
 use Rattle.network_world.proofs.NetworkFirst.{first-sound}
 use Rattle.network_world.proofs.NetworkSteps as steps
 use Rattle.network_world.proofs.NetworkSteps.{IsTurn}
-use Rattle.network_world.proofs.NodeFits.{Fits}
 use Rattle.network_world.proofs.NodePlaces.{gets, keeps, keeps-none}
 use Rattle.network_world.proofs.NodeRules.{IsNodeSame}
 use Rattle.network_world.proofs.Runs.{goes-on, runs-kept}
@@ -37,12 +30,6 @@ restart-outcome k c = by (place_at c.own k) refl
     by None e = refl
     by (Some place) e =
         ap (λ (o : Option KeptNode). (one_turned place (node_restarts c) o k).outcome) (gets k c.own place (kept_node_of (first_node c)) e)
-
--- a link may open in what is kept, if it may
-may-same : (x : NetworkNode) → Fits x → (link : ℕ) → link < length x.exchange.settings.links → may_restart_at (kept_of x.exchange) link ≡ may_open_at (end_of x) link
-may-same x fits link there =
-    let is : is_link x.exchange.node.parts link ≡ true = ap (nat_lt link) fits.places.parts.links ∙ is-there link (length x.exchange.settings.links) there in
-    ap (λ (b : Bool). b && may_open_at (end_of x) link) is
 
 module _ (k : List KeptNode) (w : NetworkState) (s : IsKept k w) where
   -- ---- it starts again
@@ -96,26 +83,6 @@ module _ (k : List KeptNode) (w : NetworkState) (s : IsKept k w) where
 
     pub give-turn : IsTurn (points_of k) (kept_gives_up point link k) (gave_up (may_follow (end_of y) link)) (changed_if (has_node point k) (GivesUp point link) w)
     give-turn = give-by (place_at point k) refl
-
-  -- ---- at rest
-
-  module _ (rest : AreAtRest k) (point : ℕ) where
-    abbrev z : NetworkNode
-    z = w.node point
-
-    rests : IsNodeAtRest (kept_node_of z) → IsAtRest z
-    rests h = record {
-      links = λ link less. (sym (may-same z (s.fits point).fits link less) ∙ (h.links link less).0, (h.links link less).1);
-      held = h.held;
-    }
-
-    rest-by : (o : Option ℕ) → place_at point k ≡ o → is_listed (points_of k) point ≡ true → IsAtRest z
-    rest-by None e listed =
-        absurd (let no : false ≡ true = sym (ap (λ (o : Option KeptNode). is_some o) (keeps-none k point e)) ∙ sym (listed-kept k point) ∙ listed in cc)
-    rest-by (Some place) e listed = rests (rest place (kept_node_of z) (steps.got k w s point place e))
-
-  pub all-rest : AreAtRest k → AllRest (points_of k) w
-  all-rest rest = λ point listed. rest-by rest point (place_at point k) refl listed
 
 -- ---- since the books began anew
 

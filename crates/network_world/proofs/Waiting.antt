@@ -1,5 +1,5 @@
 -- How many messages wait by what is kept is how many wait of the abstract pair.
-use Rattle.std.proofs.Common.{◌≡◌, ◌+◌, ◌<◌, ◌&&◌, ℕ, Bool, true, false, List, [], ◌∷◌, drop, length, refl, ap, sym, subst, ◌∙◌, nat_eq, nat_lt, not, Option, Some, None}
+use Rattle.std.proofs.Common.{◌≡◌, ◌+◌, ◌<◌, ◌&&◌, ℕ, Bool, true, false, List, [], ◌∷◌, drop, length, refl, ap, sym, ◌∙◌, nat_eq, nat_lt, not, Option, Some, None}
 use Rattle.std.specs.Prelude.{count_by, filter, if◌then◌else◌, slice_get}
 use Rattle.std.proofs.lemmas.List.Sums.{length-filter}
 use Rattle.signalling_types.specs.Message.{Message, dpc_of, is_management}

@@ -1,10 +1,9 @@
 -- What becomes of the nodes of a network, as the code keeps them, where one of them starts again, or gives up following
 -- the other end of a link, and where the books of all begin anew.
-use Rattle.std.specs.Prelude.{◌≡◌, ◌<◌, ℕ, Bool, true, false, List, [], count_by, length, map, Option, Some, None, slice_get, slice_index_or, slice_set}
+use Rattle.std.specs.Prelude.{◌≡◌, ◌<◌, ℕ, Bool, true, false, List, [], length, map, Option, Some, None, slice_get, slice_index_or, slice_set}
 use Rattle.signalling_types.specs.declared.outcome.Outcome.{Outcome}
 use Rattle.signalling_types.specs.declared.outcome.Outcome.TheVariants.{Handled, Ignored}
 use Rattle.settings_rows.specs.Configuration.{Configuration}
-use Rattle.cell_pool.specs.Lanes.{is_user_picked}
 use Rattle.exchange.specs.KeptQueues.{kept}
 use Rattle.exchange.specs.Views.{may_restart_at}
 use Rattle.network_world.specs.KeptSites.{first_site}
@@ -32,11 +31,11 @@ node_gives_up link n = record {
 abbrev pub node_begins_anew : KeptNode → KeptNode
 node_begins_anew n = record n { accepted = []; arrived = []; entered = []; refused = [] }
 
--- each of its links may open, and it may follow on none; and no user message is in Held
-pub record IsNodeAtRest (n : KeptNode) : Type 0 where
+-- each of its links may open, and it may follow on none; and nothing is in Held
+pub record IsNodeQuiet (n : KeptNode) : Type 0 where
   pub links : (link : ℕ) → link < length n.exchange.settings.links →
       (may_restart_at n.exchange link ≡ true) × (slice_index_or n.following link false ≡ false)
-  pub held : count_by (is_user_picked (λ m. true)) (kept.held n.exchange.node.queues) ≡ 0
+  pub held : kept.held n.exchange.node.queues ≡ []
 
 -- ---- at a point
 
@@ -57,5 +56,5 @@ kept_gives_up point link k = one_at (place_at point k) (node_gives_up link) k
 abbrev pub all_begin_anew : List KeptNode → List KeptNode
 all_begin_anew k = map node_begins_anew k
 
-abbrev pub AreAtRest : List KeptNode → Type 0
-AreAtRest k = (place : ℕ) (n : KeptNode) → slice_get k place ≡ Some n → IsNodeAtRest n
+abbrev pub AreQuiet : List KeptNode → Type 0
+AreQuiet k = (place : ℕ) (n : KeptNode) → slice_get k place ≡ Some n → IsNodeQuiet n

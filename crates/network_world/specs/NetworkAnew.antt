@@ -1,11 +1,9 @@
 -- When a network of the code stands for an abstract one whatever was lost there, and however often nodes have started
 -- again, and what it promises since its books began anew.
-use Rattle.std.specs.Prelude.{◌≡◌, ◌<◌, ℕ, Bool, true, false, ⊤, List, [], ◌∷◌, ◌++◌, All, count_by, length, if◌then◌else◌}
+use Rattle.std.specs.Prelude.{◌≡◌, ℕ, Bool, true, ⊤, List, [], ◌∷◌, ◌++◌, All, if◌then◌else◌}
 use Rattle.settings_rows.specs.Configuration.{Configuration}
-use Rattle.pair_rules.specs.Pairs.{may_follow, may_open_at}
-use Rattle.cell_pool.specs.Lanes.{is_user_picked}
 use Rattle.neighbour_rules.specs.Anew.{IsQuietPair, LostNothingSince}
-use Rattle.network_rules.specs.Networks.{NetworkNode, NetworkState, end_of, first_network}
+use Rattle.network_rules.specs.Networks.{NetworkState, first_network}
 use Rattle.network_rules.specs.Pairs.{pair_of}
 use Rattle.network_rules.specs.Totals.{ComeToPoint, IsPlaced, is_listed}
 use Rattle.network_rules.specs.Anew.{BothKeep, Change, GivesUp, HaveLostNothingSince, IsQuietNetwork, IsStepOrThird, Restarts, Steps, after_all, after_change, begun_anew}
@@ -42,18 +40,6 @@ changed_if is_there change w = if is_there then after_change change w else w
 -- the node at the point of these settings has them
 abbrev pub HasSettings : NetworkState → Configuration → Type 0
 HasSettings w c = (w.node c.own).exchange.settings ≡ c
-
--- ---- nothing is left in it
-
--- each link of a node may open, and the node may follow on none; and no user message is in Held. So it is quiet, unless
--- management is in Held
-pub record IsAtRest (x : NetworkNode) : Type 0 where
-  pub links : (link : ℕ) → link < length x.exchange.settings.links →
-      (may_open_at (end_of x) link ≡ true) × (may_follow (end_of x) link ≡ false)
-  pub held : count_by (is_user_picked (λ m. true)) x.exchange.node.queues.held ≡ 0
-
-abbrev pub AllRest : (points : List ℕ) → NetworkState → Type 0
-AllRest points w = (point : ℕ) → is_listed points point ≡ true → IsAtRest (w.node point)
 
 -- ---- what is promised since
 

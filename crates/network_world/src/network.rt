@@ -4,7 +4,7 @@ mod anew;
 mod booting;
 mod outside;
 
-ghost use Rattle.std.specs.Prelude.{◌≡◌, ℕ, List, is_some, IfOk, IfSome, OnErr, count_by};
+ghost use Rattle.std.specs.Prelude.{◌≡◌, ℕ, List, is_some, IfOk, IfSome, OnErr, OnOk, count_by};
 ghost use Rattle.exchange.specs.Calls as exchanges;
 ghost use Rattle.neighbour_rules.specs.Awaiting.{AwaitsNothingInVain};
 ghost use Rattle.neighbour_rules.specs.Laws.{AreFinal, MovesLacked, NoneIsLeft};
@@ -90,6 +90,8 @@ impl Network {
         ensures since { (from : NetworkState) (changes : List Change) → RunsSince self.old from changes →
             IfOk result (λ outcome. RunsSince self.new from (and_then (has_node at self.old)
             (Steps (record { point = at; what = doing_told doing outcome })) changes)) }
+        // Its nodes stay at their points.
+        ensures points { OnOk result (points_of self.new ≡ points_of self.old) }
         ensures unchanged { OnErr result (self.new ≡ self.old) }
     {
         self.apply(at, doing)

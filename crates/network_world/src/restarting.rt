@@ -1,8 +1,8 @@
-//! A node of a network that starts again, or gives up following the other end of a link; whether all are at rest; and
+//! A node of a network that starts again, or gives up following the other end of a link; whether all are quiet; and
 //! books that begin anew.
 
 ghost use Rattle.std.specs.Prelude.{◌≡◌, ◌↔◌, IsTrue, IfOk, OnOk, OnErr};
-ghost use Rattle.network_world.specs.KeptAnew.{AreAtRest, all_begin_anew, kept_gives_up, kept_restarts};
+ghost use Rattle.network_world.specs.KeptAnew.{AreQuiet, all_begin_anew, kept_gives_up, kept_restarts};
 
 use crate::node::Node;
 use crate::reaching::place_of;
@@ -42,12 +42,12 @@ pub(crate) fn begin_anew(nodes: &mut [Node])
     }
 }
 
-/// Whether all nodes are at rest.
-pub(crate) fn are_at_rest(nodes: &[Node]) -> bool
-    ensures { IsTrue result ↔ AreAtRest nodes.now }
+/// Whether all nodes are quiet.
+pub(crate) fn are_quiet(nodes: &[Node]) -> bool
+    ensures { IsTrue result ↔ AreQuiet nodes.now }
 {
     for place in 0..nodes.len() {
-        if !nodes[place].is_at_rest() {
+        if !nodes[place].is_quiet() {
             return false;
         }
     }

@@ -1,19 +1,19 @@
 //! Nodes of a network that start again, and books that begin anew.
 
 ghost use Rattle.std.specs.Prelude.{◌≡◌, ◌↔◌, ℕ, List, [], ◌∷◌, IsTrue, IfOk, OnOk, OnErr};
-ghost use Rattle.network_rules.specs.Anew.{Change, GivesUp, Restarts, after_all, networks_begin_quietly};
+ghost use Rattle.network_rules.specs.Anew.{Change, GivesUp, IsQuietNetwork, Restarts, after_all, networks_begin_quietly};
 ghost use Rattle.network_rules.specs.Networks.{NetworkState, end_of};
 ghost use Rattle.network_rules.specs.Totals.{IsAccounted};
 ghost use Rattle.pair_rules.specs.Pairs as pairs;
-ghost use Rattle.network_world.specs.KeptAnew.{AreAtRest, all_begin_anew, gave_up, kept_gives_up, kept_restarts};
+ghost use Rattle.network_world.specs.KeptAnew.{AreQuiet, all_begin_anew, gave_up, kept_gives_up, kept_restarts};
 ghost use Rattle.network_world.specs.KeptNetworks.{points_of};
-ghost use Rattle.network_world.specs.NetworkAnew.{AllRest, ComeToEachSince, HasSettings, HoldsSince, KeptBetween, QuietBetween};
+ghost use Rattle.network_world.specs.NetworkAnew.{ComeToEachSince, HasSettings, HoldsSince, KeptBetween, QuietBetween};
 ghost use Rattle.network_world.specs.NetworkAnew.{RunsSince, and_then, since};
 ghost use Rattle.network_world.specs.NetworkPromised.{ShareAll};
-ghost use Rattle.network_world.specs.NetworkStands.{has_node, if_there};
+ghost use Rattle.network_world.specs.NetworkStands.{NetworkStandsFor, has_node, if_there};
 
 use crate::network::Network;
-use crate::restarting::{are_at_rest, begin_anew, give_up, restart};
+use crate::restarting::{are_quiet, begin_anew, give_up, restart};
 use exchange::NoMemory;
 use settings::{LinkId, Outcome, PointCode, Settings};
 
@@ -36,6 +36,7 @@ impl Network {
             (and_then (has_node settings.own self.old) (Restarts settings.own) changes)) }
         // The exact nodes that are kept
         ensures kept { OnOk result (self.new ≡ (kept_restarts settings self.old).left) }
+        ensures points { OnOk result (points_of self.new ≡ points_of self.old) }
         ensures unchanged { OnErr result (self.new ≡ self.old) }
     {
         self.restarted(settings)
@@ -48,29 +49,37 @@ impl Network {
             result ≡ gave_up (pairs.may_follow (end_of ((since from changes).node at)) link) }
         ensures since { (from : NetworkState) (changes : List Change) → RunsSince self.old from changes →
             RunsSince self.new from (and_then (has_node at self.old) (GivesUp at link) changes) }
+        ensures points { points_of self.new ≡ points_of self.old }
     {
         self.given_up(at, link)
     }
 
     /// The books of all nodes begin anew: nothing is booked yet. What was lost before no longer counts if the network
-    /// is quiet now: each link of each node may open, no node may follow, and nothing is in Held.
+    /// is quiet now (`is_quiet`).
     pub fn begin_anew(&mut self)
         // They begin from the network as it is now, with all that its nodes booked since they were booted.
         ensures since { (from : NetworkState) (changes : List Change) → RunsSince self.old from changes →
             RunsSince self.new (after_all changes from) [] }
         ensures kept { self.new ≡ all_begin_anew self.old }
+        ensures points { points_of self.new ≡ points_of self.old }
     {
         self.begun_anew();
     }
 
-    /// Whether each link of each node may open, no node may follow the other end of one, and no user message is in
-    /// Held. So it is in each quiet network; and one in which it is so is quiet, unless management is in Held.
-    pub fn is_at_rest(&self) -> bool
-        ensures rest { (from : NetworkState) (changes : List Change) → RunsSince self.now from changes →
-            IsTrue result → AllRest (points_of self.now) (since from changes) }
-        ensures kept { IsTrue result ↔ AreAtRest self.now }
+    /// Whether the network is quiet: each link of each node may open, no node may follow the other end of one, and
+    /// nothing is in Held, management messages neither.
+    pub fn is_quiet(&self) -> bool
+        // Exactly then what became of it since its books began is quiet,
+        ensures since { (from : NetworkState) (changes : List Change) → RunsSince self.now from changes →
+            IsTrue result ↔ IsQuietNetwork (points_of self.now) (since from changes) }
+        // and the network from which they begin, if they begin anew now (`begin_anew`), as `laws_since` asks for.
+        ensures anew { (from : NetworkState) (changes : List Change) → RunsSince self.now from changes →
+            IsTrue result ↔ IsQuietNetwork (points_of self.now) (after_all changes from) }
+        ensures quiet { (w : NetworkState) → NetworkStandsFor self.now w →
+            IsTrue result ↔ IsQuietNetwork (points_of self.now) w }
+        ensures kept { IsTrue result ↔ AreQuiet self.now }
     {
-        self.are_at_rest()
+        self.are_quiet()
     }
 
     /// What holds since the books began anew, between any two calls, whatever was lost before, and however often nodes
@@ -92,8 +101,12 @@ impl Network {
         ensures between { KeptBetween self.now }
         ensures quiet { QuietBetween self.now }
         ensures first { networks_begin_quietly }
+        // Settings never change, so links lead to nodes that share their sets ever after, and in the network from which
+        // the books begin anew (`begin_anew`), too.
         ensures shared { (from : NetworkState) → ShareAll from →
             (changes : List Change) → ShareAll (since from changes) }
+        ensures shared_after { (from : NetworkState) → ShareAll from →
+            (changes : List Change) → ShareAll (after_all changes from) }
     {}
 
     /// A node starts again, by what is kept.
@@ -120,10 +133,10 @@ impl Network {
         begin_anew(&mut self.nodes);
     }
 
-    /// Whether all nodes are at rest, by what is kept.
-    fn are_at_rest(&self) -> bool
-        ensures { IsTrue result ↔ AreAtRest self.now }
+    /// Whether all nodes are quiet, by what is kept.
+    fn are_quiet(&self) -> bool
+        ensures { IsTrue result ↔ AreQuiet self.now }
     {
-        are_at_rest(&self.nodes)
+        are_quiet(&self.nodes)
     }
 }

@@ -1,8 +1,9 @@
 //! A network whose nodes were just booted.
 
-ghost use Rattle.std.specs.Prelude.{◌≡◌, ◌≢◌, ◌↔◌, true, false, [], IfOk, IfErr, OnOk};
+ghost use Rattle.std.specs.Prelude.{◌≡◌, ◌≢◌, ◌↔◌, true, false, [], IfOk, IfErr, OnOk, map};
 ghost use Rattle.network_rules.specs.Networks.{first_network};
 ghost use Rattle.network_world.specs.Joined.{AreJoined, are_apart, settings_at};
+ghost use Rattle.network_world.specs.KeptNetworks.{points_of};
 ghost use Rattle.network_world.specs.NetworkAnew.{RunsSince};
 ghost use Rattle.network_world.specs.NetworkPromised.{ShareAll};
 ghost use Rattle.network_world.specs.NetworkStands.{NetworkStandsFor};
@@ -24,6 +25,7 @@ impl Network {
         ensures first { IfOk result (λ network.
             NetworkStandsFor network (first_network (settings_at settings.items))) }
         ensures since { IfOk result (λ network. RunsSince network (first_network (settings_at settings.items)) []) }
+        ensures points { IfOk result (λ network. points_of network ≡ map (λ c. c.own) settings.items) }
         // There is one only if each has a point of its own, and all links are joined,
         ensures apart { OnOk result (are_apart settings.items ≡ true) }
         ensures joined { OnOk result (AreJoined settings.items) }
@@ -56,6 +58,7 @@ impl Network {
         ensures first { IfOk result (λ network.
             NetworkStandsFor network (first_network (settings_at settings.items))) }
         ensures since { IfOk result (λ network. RunsSince network (first_network (settings_at settings.items)) []) }
+        ensures points { IfOk result (λ network. points_of network ≡ map (λ c. c.own) settings.items) }
         // There is one only if each has a point of its own,
         ensures apart { OnOk result (are_apart settings.items ≡ true) }
         // and the fault says whether they do.

@@ -1,8 +1,8 @@
-//! A node that starts again, or gives up following the other end of a link; whether it is at rest; and books that begin
+//! A node that starts again, or gives up following the other end of a link; whether it is quiet; and books that begin
 //! anew.
 
 ghost use Rattle.std.specs.Prelude.{◌≡◌, ◌↔◌, IsTrue, IfOk, OnOk, OnErr};
-ghost use Rattle.network_world.specs.KeptAnew.{IsNodeAtRest, node_begins_anew, node_gives_up, node_restarts};
+ghost use Rattle.network_world.specs.KeptAnew.{IsNodeQuiet, node_begins_anew, node_gives_up, node_restarts};
 
 use super::Node;
 use crate::books::begin_anew;
@@ -41,10 +41,10 @@ impl Node {
         begin_anew(&mut self.books);
     }
 
-    /// Whether each of its links may open, it may follow on none, and no user message is in Held.
-    pub(crate) fn is_at_rest(&self) -> bool
-        ensures { IsTrue result ↔ IsNodeAtRest self.now }
+    /// Whether each of its links may open, it may follow on none, and nothing is in Held.
+    pub(crate) fn is_quiet(&self) -> bool
+        ensures { IsTrue result ↔ IsNodeQuiet self.now }
     {
-        self.site.do_links_rest() && self.site.count_held() == 0
+        self.site.do_links_rest() && self.site.holds_nothing()
     }
 }

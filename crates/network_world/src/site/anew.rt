@@ -1,14 +1,12 @@
-//! A site that starts again, or gives up following the other end of a link; and whether it is at rest.
+//! A site that starts again, or gives up following the other end of a link; and whether it is quiet.
 
-ghost use Rattle.std.specs.Prelude.{◌≡◌, ◌<◌, ◌↔◌, ℕ, true, false, IsTrue, OnOk, OnErr, count_by, length};
+ghost use Rattle.std.specs.Prelude.{◌≡◌, ◌<◌, ◌↔◌, ℕ, [], true, false, IsTrue, OnOk, OnErr, length};
 ghost use Rattle.std.specs.Prelude.{slice_index_or, slice_set};
-ghost use Rattle.cell_pool.specs.Lanes.{is_user_picked};
 ghost use Rattle.exchange.specs.KeptQueues.{kept};
 ghost use Rattle.exchange.specs.Views.{may_restart_at};
 ghost use Rattle.network_world.specs.KeptSites.{first_site};
 
 use super::Site;
-use crate::bringing::Every;
 use crate::flight::note;
 use exchange::NoMemory;
 use settings::{LinkId, Settings};
@@ -53,10 +51,10 @@ impl Site {
         self.may_restart(link) && !self.may_follow(link)
     }
 
-    /// How many user messages are in Held.
-    pub(crate) fn count_held(&self) -> usize
-        ensures { result ≡ count_by (is_user_picked (λ m. true)) (kept.held self.now.exchange.node.queues) }
+    /// Whether nothing is in Held.
+    pub(crate) fn holds_nothing(&self) -> bool
+        ensures { IsTrue result ↔ (kept.held self.now.exchange.node.queues ≡ []) }
     {
-        self.exchange.count_held_picked(&Every)
+        self.exchange.count_held() == 0
     }
 }

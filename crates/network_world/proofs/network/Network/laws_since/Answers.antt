@@ -1,6 +1,6 @@
 -- What holds of the abstract network since its books began anew.
 use Rattle.network_rules.proofs.Accounted.{quiet-first}
-use Rattle.network_world.proofs.LawsSince.{hold-accounted, hold-reached, kept-between, quiet-pairs, shared-since}
+use Rattle.network_world.proofs.LawsSince.{hold-accounted, hold-reached, kept-between, quiet-pairs, shared-after, shared-since}
 use Rattle.network_world.proofs.network.Network.laws_since.Goals as goal
 
 pub returns-clause-accounted : goal.returns-clause-accounted
@@ -20,3 +20,6 @@ returns-clause-first c = quiet-first
 
 pub returns-clause-shared : goal.returns-clause-shared
 returns-clause-shared c = shared-since
+
+pub returns-clause-shared_after : goal.returns-clause-shared_after
+returns-clause-shared_after c = shared-after

@@ -2,10 +2,10 @@
 use Rattle.std.proofs.Common.{rules, ◌≡◌, ◌<◌, ℕ, IsTrue, Some, length, refl, ap, sym, subst, ◌∙◌, arith}
 use Rattle.std.specs.Prelude.{slice_get}
 use Rattle.std.proofs.lemmas.Option.{slice_get-get_or, slice_get_within}
-use Rattle.network_world.specs.KeptAnew.{IsNodeAtRest}
+use Rattle.network_world.specs.KeptAnew.{IsNodeQuiet}
 use Rattle.network_world.specs.KeptNodes.{KeptNode}
 use Rattle.network_world.proofs.OneByOne.{one-further}
-use Rattle.network_world.proofs.restarting.are_at_rest.Goals as goal
+use Rattle.network_world.proofs.restarting.are_quiet.Goals as goal
 
 same-node : (x y : KeptNode) → Some x ≡ Some y → x ≡ y
 same-node x y e = cc
@@ -16,9 +16,9 @@ loop-place-preserved c =
     let inside : c.loop-place.place < length xs = search rules in
     let got : slice_get xs c.loop-place.place ≡ Some c.index-nodes-place.result =
     slice_get-get_or xs c.loop-place.place c.index-nodes-place.result inside ∙ ap (λ (n : KeptNode). Some n) (sym c.index-nodes-place.is) in
-    let yes : IsTrue c.is_at_rest.result = search rules in
-    one-further (λ (place : ℕ). (n : KeptNode) → slice_get xs place ≡ Some n → IsNodeAtRest n) c.loop-place.place c.loop-place.invariant
-    (λ n e. subst IsNodeAtRest (same-node c.index-nodes-place.result n (sym got ∙ e)) (c.is_at_rest.ensures.0 yes))
+    let yes : IsTrue c.is_quiet.result = search rules in
+    one-further (λ (place : ℕ). (n : KeptNode) → slice_get xs place ≡ Some n → IsNodeQuiet n) c.loop-place.place c.loop-place.invariant
+    (λ n e. subst IsNodeQuiet (same-node c.index-nodes-place.result n (sym got ∙ e)) (c.is_quiet.ensures.0 yes))
 
 pub returns : goal.returns
 returns c = (
