@@ -1,4 +1,4 @@
-//! The messages that were submitted, each with a mark of its own: its place in the book.
+//! The messages that were submitted, each with a mark of its own.
 
 use exchange::{Label, Msu, PointCode, Sls};
 use std::alloc::Global;
@@ -25,10 +25,12 @@ pub(crate) struct Entry {
     pub accepted: bool,
 }
 
-/// All messages that were submitted, in order.
+/// All messages that were submitted since the books of the nodes began, in order.
 #[derive(Drop)]
 pub(crate) struct Book {
     entries: Vec<Entry>,
+    /// The mark of the first one.
+    first: u32,
 }
 
 impl Book {
@@ -36,6 +38,7 @@ impl Book {
     pub(crate) fn new(alloc: Global) -> Book {
         Book {
             entries: Vec::new(alloc),
+            first: 0,
         }
     }
 
@@ -46,12 +49,32 @@ impl Book {
 
     /// The mark of the next one.
     pub(crate) fn next_mark(&self) -> u32 {
-        u32::try_from(self.entries.len()).unwrap_or(u32::MAX)
+        let count = u32::try_from(self.entries.len()).unwrap_or(u32::MAX);
+        self.first.wrapping_add(count)
     }
 
     /// One more. Says whether there was memory for it.
     pub(crate) fn add(&mut self, entry: Entry) -> bool {
         self.entries.push(entry).is_ok()
+    }
+
+    /// It begins anew: no message is in it, and marks go on, so that none is of two messages.
+    pub(crate) fn begin_anew(&mut self) {
+        self.first = self.next_mark();
+        self.entries.clear();
+    }
+
+    /// The place of a message and what is in the book of it, where it is as it was submitted.
+    pub(crate) fn find(&self, message: &Msu) -> Option<(usize, Entry)> {
+        let mark = number_of(message)?;
+        let place = mark.checked_sub(self.first)? as usize;
+        let entry = *self.entries.get(place)?;
+        let submitted = message_of(entry, mark)?;
+        if message.sif() == submitted.sif() {
+            Some((place, entry))
+        } else {
+            None
+        }
     }
 }
 
@@ -65,18 +88,6 @@ pub(crate) fn message_of(entry: Entry, mark: u32) -> Option<Msu> {
     let [a, b, c, d] = label.write();
     let [e, f, g, h] = mark.to_be_bytes();
     Msu::new(SIO, &[a, b, c, d, e, f, g, h]).ok()
-}
-
-/// The mark of a message and what is in the book of it, where it is as it was submitted.
-pub(crate) fn mark_of(message: &Msu, entries: &[Entry]) -> Option<(usize, Entry)> {
-    let mark = number_of(message)?;
-    let entry = *entries.get(mark as usize)?;
-    let submitted = message_of(entry, mark)?;
-    if message.sif() == submitted.sif() {
-        Some((mark as usize, entry))
-    } else {
-        None
-    }
 }
 
 /// Whether a message is one of the ISDN user part: all others are of the nodes' own.

@@ -1,6 +1,6 @@
 //! What became of each message of a run.
 
-use crate::book::{Entry, is_marked, mark_of};
+use crate::book::{Book, Entry, is_marked};
 use crate::promise::Promise;
 use crate::verdict::Verdict;
 use crate::world::World;
@@ -66,12 +66,12 @@ impl Fates {
         if !is_marked(message) {
             return;
         }
-        match mark_of(message, world.book().entries()) {
-            Some((mark, entry)) if entry.to == point => {
-                self.come_to_end(mark, entry);
+        match world.book().find(message) {
+            Some((found, entry)) if entry.to == point => {
+                self.come_to_end(found, entry);
                 let in_time = place < world.in_time(entry.from, point);
                 if promise.holds_of(entry.from, point, in_time) {
-                    self.come_in_order(mark, entry);
+                    self.come_in_order(found, entry);
                 }
             }
             Some(_) => (),
@@ -79,9 +79,9 @@ impl Fates {
         }
     }
 
-    /// The message of a mark came to its destination.
-    fn come_to_end(&mut self, mark: usize, entry: Entry) {
-        if let Some(fate) = self.fates.get_mut(mark) {
+    /// The message at a place in the book came to its destination.
+    fn come_to_end(&mut self, found: usize, entry: Entry) {
+        if let Some(fate) = self.fates.get_mut(found) {
             fate.came = fate.came.saturating_add(1);
         }
         if !entry.accepted {
@@ -90,29 +90,29 @@ impl Fates {
     }
 
     /// A message came to its destination, where its flow is promised to come in order.
-    fn come_in_order(&mut self, mark: usize, entry: Entry) {
+    fn come_in_order(&mut self, found: usize, entry: Entry) {
         self.in_order = self.in_order.wrapping_add(1);
         let flow = (entry.from as usize % 8) * 128 + (entry.to as usize % 8) * 16;
         let Some(last) = self.last.get_mut(flow + entry.flow as usize % 16) else {
             return;
         };
-        if mark < *last {
+        if found < *last {
             self.turned = self.turned.wrapping_add(1);
         } else {
-            *last = mark;
+            *last = found;
         }
     }
 
     /// A node refused a message on its way.
-    pub(crate) fn refuse(&mut self, message: &Msu, entries: &[Entry]) {
-        if let Some((mark, _)) = mark_of(message, entries) {
-            self.refuse_mark(mark);
+    pub(crate) fn refuse(&mut self, message: &Msu, book: &Book) {
+        if let Some((found, _)) = book.find(message) {
+            self.refuse_at(found);
         }
     }
 
-    /// A node refused the message of a mark.
-    fn refuse_mark(&mut self, mark: usize) {
-        if let Some(fate) = self.fates.get_mut(mark) {
+    /// A node refused the message at a place in the book.
+    fn refuse_at(&mut self, found: usize) {
+        if let Some(fate) = self.fates.get_mut(found) {
             fate.refused = fate.refused.saturating_add(1);
         }
     }

@@ -18,13 +18,12 @@ pub(crate) fn judge(alloc: Global, world: &World, promise: Promise) -> Option<Ve
 
 /// Reads the books of a node.
 fn read_books(world: &World, fates: &mut Fates, promise: Promise, point: u16) {
-    let entries = world.book().entries();
     let mut place = 0usize;
     for arrival in world.nodes().arrived(point) {
         fates.come(world, promise, point, place, arrival.message());
         place = place.wrapping_add(1);
     }
     for message in world.nodes().refused(point) {
-        fates.refuse(message, entries);
+        fates.refuse(message, world.book());
     }
 }

@@ -5,7 +5,7 @@
 //! line three. One set alone leads to an adjacent point. In the square two lead to the opposite one, and each end of
 //! the mated pair shares its messages for the other among two. To point 9, which isn't there, sets lead by which the
 //! last node refuses what comes. Timers are as built in, but L7, T1, T2 and T4 are longer than most schedules: so what
-//! one end waits for comes by frames, unless a set fails whole. All that is done is a `Network::turn`.
+//! one end waits for comes by frames, unless a set fails whole. All that is done in a schedule is a `Network::turn`.
 //!
 //! # A run
 //!
@@ -17,10 +17,23 @@
 //! of these throws alone: a set that fails whole is named as lost. Then all links are let open, those that aren't in
 //! service come back, three times, and frames are carried with ticks until nothing moves.
 //!
+//! # A run that begins anew
+//!
+//! One run of four, by the dice, goes on. They are thrown 80 times, then a random node starts again
+//! (`Network::restart`), and they are thrown 80 times more; in half of these runs, by the dice too, a random node does
+//! so once more, and 80 throws follow. Each is as above, but for one of eight: there a random end of a link loses it
+//! and gives up following, if the other end is down. Then each link is lost at both ends, no end may follow
+//! (`Network::give_up`), and 16 ticks pass at each node: the network is to be quiet by then (`Network::is_quiet`). If
+//! it is, the books begin anew (`Network::begin_anew`), and so does what is submitted; and a schedule passes as above,
+//! from the links that come up to the end.
+//!
 //! # What a line says
 //!
 //! Each message has a mark of its own. What came is judged by the marks in the books of the nodes, and by nothing
-//! else.
+//! else. A shape has two lines. One is of all runs, before any goes on. The other, `anew`, is of the runs whose books
+//! began anew, and of what was submitted since: one that was submitted before and comes then is made up. That a node
+//! sets a flag means there that it counts one loss or lateness more than it had when the books began (`times_lost` and
+//! `times_late` of `Exchange`).
 //!
 //! - `steps`: how many turns the schedules took. `failures`: how often a node lost a link in them. `reroutings`: how
 //!   often the first set to some destination changed at a node, till the end of the run.
@@ -35,12 +48,15 @@
 //!   first set changed.
 //! - `lost_any`: in how many runs a node set the flag.
 //! - `unended`: in how many runs frames never came to rest, or a link didn't come into service.
+//! - `restarts`: how often a node started again. `restless`: in how many runs the network wasn't quiet behind that.
 //!
-//! The first line is of a run that is made wrong, so that there is something to find: one message is booked as
-//! accepted that was never submitted, one is submitted twice, and two in the wrong order.
+//! The first two lines are of a run that is made wrong, so that there is something to find: one message is booked as
+//! accepted that was never submitted, one is submitted twice, and two in the wrong order. Then node 2 starts again, and
+//! in the books that begin anew the same is wrong; besides, one message is submitted with a mark of before.
 #![tactic(auto)]
 
 mod book;
+mod counts;
 mod deliberate;
 mod fates;
 mod judge;
@@ -48,6 +64,7 @@ mod node_settings;
 mod nodes;
 mod promise;
 mod reporting;
+mod restarts;
 mod rings;
 mod rounds;
 mod rows;
@@ -55,6 +72,7 @@ mod schedule;
 mod shape;
 mod tally;
 mod total;
+mod trial;
 mod verdict;
 mod world;
 

@@ -1,5 +1,6 @@
 //! The nodes of a network.
 
+use crate::counts::Counts;
 use crate::node_settings::settings_at;
 use crate::shape::{Place, Shape};
 use exchange::{Exchange, LinkStanding, Msu, NoMemory, PointCode, SetId, Settings};
@@ -51,14 +52,32 @@ impl Nodes {
         self.network.refused(point_of(point))
     }
 
-    /// Whether a node says that a message may be lost.
-    pub(crate) fn lost_any(&self, point: u16) -> bool {
-        lost_any(&self.network, point_of(point))
+    /// A node starts again with its settings.
+    pub(crate) fn restart(&mut self, alloc: Global, shape: Shape, point: u16) -> Became {
+        match settings_at(alloc, shape, point) {
+            Some(settings) => restart(&mut self.network, settings),
+            None => Became::Starved,
+        }
     }
 
-    /// Whether a node says that a message may be late.
-    pub(crate) fn late_any(&self, point: u16) -> bool {
-        late_any(&self.network, point_of(point))
+    /// One end of a link may not follow the other any more.
+    pub(crate) fn give_up(&mut self, place: Place) {
+        give_up(&mut self.network, place);
+    }
+
+    /// The books of all nodes begin anew.
+    pub(crate) fn begin_anew(&mut self) {
+        begin_anew(&mut self.network);
+    }
+
+    /// Whether the network is quiet: each link may open, no end may follow, and nothing is held.
+    pub(crate) fn is_quiet(&self) -> bool {
+        self.network.is_quiet()
+    }
+
+    /// What a node has counted since it was booted.
+    pub(crate) fn counts(&self, point: u16) -> Counts {
+        counts(&self.network, point_of(point))
     }
 
     /// Whether a link is in service at one end.
@@ -100,19 +119,32 @@ fn turn(network: &mut Network, point: PointCode, doing: Doing) -> Became {
     }
 }
 
-/// Whether a node says that a message may be lost.
-fn lost_any(network: &Network, point: PointCode) -> bool {
-    match network.at(point) {
-        Some(exchange) => exchange.lost_any(),
-        None => false,
+/// A node starts again with these settings.
+fn restart(network: &mut Network, settings: Settings) -> Became {
+    match network.restart(settings) {
+        Ok(outcome) => Became::of(outcome),
+        Err(NoMemory) => Became::Starved,
     }
 }
 
-/// Whether a node says that a message may be late.
-fn late_any(network: &Network, point: PointCode) -> bool {
+/// One end of a link may not follow the other any more.
+fn give_up(network: &mut Network, place: Place) {
+    network.give_up(point_of(place.point), place.link());
+}
+
+/// The books of all nodes begin anew.
+fn begin_anew(network: &mut Network) {
+    network.begin_anew();
+}
+
+/// What a node has counted since it was booted.
+fn counts(network: &Network, point: PointCode) -> Counts {
     match network.at(point) {
-        Some(exchange) => exchange.late_any(),
-        None => false,
+        Some(exchange) => Counts {
+            lost: exchange.times_lost(),
+            late: exchange.times_late(),
+        },
+        None => Counts::NOTHING,
     }
 }
 

@@ -1,26 +1,39 @@
 //! What is printed of some runs.
 
 use crate::total::Total;
+use crate::trial::Totals;
 use crate::verdict::Verdict;
 use std::io;
 
-/// Prints what became of some runs.
-pub(crate) fn report(rt: &HostRuntime, name: &str, total: &Total) -> io::Result<()> {
-    if total.tally.starved {
+/// Prints what became of the runs of a shape, in two lines: until they ended first, and since their books began anew.
+pub(crate) fn report(rt: &HostRuntime, name: &str, totals: &Totals) -> io::Result<()> {
+    if totals.first.tally.starved || totals.anew.tally.starved {
         return println!(rt; "{name}: memory ran out");
     }
-    print_steps(rt, name, total)?;
+    print!(rt; "{name}")?;
+    print_total(rt, &totals.first)?;
+    print!(rt; "\n{name}, anew")?;
+    print_total(rt, &totals.anew)?;
+    println!(rt;
+        "; restarts {}, restless {}",
+        totals.restarts, totals.restless
+    )
+}
+
+/// Prints what became of some runs.
+fn print_total(rt: &HostRuntime, total: &Total) -> io::Result<()> {
+    print_steps(rt, total)?;
     print_messages(rt, total)?;
     print_once(rt, &total.verdict)?;
     print_in_order(rt, total)?;
-    println!(rt; "; unended {}", total.unended)
+    print!(rt; "; unended {}", total.unended)
 }
 
 /// Prints how many runs and steps there were, and what failed in them.
-fn print_steps(rt: &HostRuntime, name: &str, total: &Total) -> io::Result<()> {
+fn print_steps(rt: &HostRuntime, total: &Total) -> io::Result<()> {
     let tally = total.tally;
     print!(rt;
-        "{name}: {} runs, {} steps, {} failures, {} reroutings; ",
+        ": {} runs, {} steps, {} failures, {} reroutings; ",
         total.runs, tally.steps, tally.failures, tally.reroutings
     )
 }
@@ -52,7 +65,7 @@ fn print_once(rt: &HostRuntime, verdict: &Verdict) -> io::Result<()> {
 }
 
 /// Prints how many came while their flow was promised to come in order, and whether they did; and in how many runs a
-/// node said that a message may be lost.
+/// node counted that a message may be lost.
 fn print_in_order(rt: &HostRuntime, total: &Total) -> io::Result<()> {
     let Verdict {
         in_order,

@@ -28,6 +28,8 @@ enum Each {
     LoseUnserved,
     /// It opens there first, where it may, and then at the other end.
     Open,
+    /// It is lost there, and may not follow the other end.
+    Fall,
 }
 
 /// It is done at each end of each link. Says whether something moved.
@@ -62,6 +64,7 @@ fn do_one(world: &mut World, each: Each, here: Place, there: Place) -> bool {
         }
         Each::LoseUnserved => lose_unserved(world, here, there),
         Each::Open => world.open_first(here) && world.follow(there),
+        Each::Fall => fall(world, here),
     }
 }
 
@@ -77,6 +80,13 @@ fn lose_unserved(world: &mut World, here: Place, there: Place) -> bool {
     }
     world.lose(here);
     world.lose(there);
+    true
+}
+
+/// A link is lost at one end, which may not follow the other then.
+fn fall(world: &mut World, here: Place) -> bool {
+    world.lose(here);
+    world.give_up(here);
     true
 }
 
@@ -146,6 +156,15 @@ pub(crate) fn come_to_rest(world: &mut World) -> bool {
         settled = pass_ticks(world, RESTING_TICKS);
     }
     settled && all_serve(world)
+}
+
+/// All links are lost at both ends, no end may follow the other, and ticks pass. Says whether the network is quiet.
+pub(crate) fn fall_to_rest(world: &mut World) -> bool {
+    do_each(world, Each::Fall);
+    for _ in 0..RESTING_TICKS {
+        tick_all(world);
+    }
+    world.nodes().is_quiet()
 }
 
 /// Whether each link is in service.

@@ -1,9 +1,10 @@
 //! Random schedules.
 
-use crate::rounds::{bring_into_service, come_to_rest, pass_round};
+use crate::restarts::restart_some;
+use crate::rounds::{bring_into_service, come_to_rest, fall_to_rest, pass_round};
 use crate::shape::{Place, Shape, UNKNOWN};
 use crate::tally::Tally;
-use crate::total::{Total, Trial};
+use crate::trial::{Totals, Trial};
 use crate::world::World;
 use exchange::Limits;
 use std::alloc::Global;
@@ -15,43 +16,66 @@ const THROWS: usize = 800;
 /// A link that is alone in its set fails once in so many times.
 const WHOLE_SETS: usize = 50;
 
+/// In one of so many runs nodes start again behind a schedule, and another one passes.
+const ANEW: usize = 4;
+
 /// How many flows there are to a point.
 const FLOWS: u8 = Limits::SELECTIONS as u8;
 
 /// So many runs of a shape.
-pub(crate) fn schedules(alloc: Global, shape: Shape, runs: u64) -> Total {
-    let mut total = Total::NOTHING;
+pub(crate) fn schedules(alloc: Global, shape: Shape, runs: u64) -> Totals {
+    let mut totals = Totals::NOTHING;
     for run in 0..runs {
         let dice = Dice::new(run);
-        total.run(alloc, shape, &Schedule { dice });
+        totals.run(alloc, shape, &Schedule { dice });
     }
-    total
+    totals
 }
 
-/// One run: some links come up, a schedule passes, all links come back, and frames are carried until nothing moves. It
-/// ends well if nothing does, and all links are in service.
+/// One run: a schedule passes. In some runs nodes start again then, all falls to rest, the books begin anew, and
+/// another schedule passes.
 #[derive(Clone, Copy)]
 struct Schedule {
     dice: Dice,
 }
 
 impl Trial for Schedule {
-    fn run(&self, world: &mut World) -> bool {
-        let counts = run_steps(world, self.dice);
-        let rested = come_to_rest(world);
-        world.keep_counts(counts);
-        rested
+    fn run(&self, alloc: Global, world: &mut World, totals: &mut Totals) {
+        let mut dice = self.dice;
+        let ended = pass_schedule(world, &mut dice);
+        totals.first.add(alloc, world, ended);
+        if dice.one_in(ANEW) {
+            run_anew(alloc, world, &mut dice, totals);
+        }
     }
 }
 
-/// Some links come up, and a schedule passes. What is counted then.
-fn run_steps(world: &mut World, dice: Dice) -> Tally {
-    let mut dice = dice;
-    open_some(world, &mut dice);
+/// Nodes start again, all falls to rest, and if it does so, the books begin anew, and a schedule passes.
+fn run_anew(alloc: Global, world: &mut World, dice: &mut Dice, totals: &mut Totals) {
+    let restarts = restart_some(alloc, world, dice);
+    let rests = fall_to_rest(world);
+    if totals.begin_anew(world, restarts, rests) {
+        let ended = pass_schedule(world, dice);
+        totals.anew.add(alloc, world, ended);
+    }
+}
+
+/// Some links come up, a schedule passes, all links come back, and frames are carried until nothing moves. It ends well
+/// if nothing does, and all links are in service. Says whether it does.
+fn pass_schedule(world: &mut World, dice: &mut Dice) -> bool {
+    let counts = pass_throws(world, dice);
+    let rested = come_to_rest(world);
+    world.keep_counts(counts);
+    rested
+}
+
+/// Some links come up, and the dice are thrown. What is counted then.
+fn pass_throws(world: &mut World, dice: &mut Dice) -> Tally {
+    open_some(world, dice);
     bring_into_service(world);
     world.count_anew();
     for _ in 0..THROWS {
-        throw(world, &mut dice);
+        throw(world, dice);
     }
     world.tally()
 }
@@ -82,7 +106,7 @@ fn open_both(world: &mut World, here: Place) {
 }
 
 /// A throw.
-fn throw(world: &mut World, dice: &mut Dice) {
+pub(crate) fn throw(world: &mut World, dice: &mut Dice) {
     let chance = dice.octet();
     let here = thrown_place(world.shape(), dice);
     match chance {
@@ -101,14 +125,14 @@ fn throw(world: &mut World, dice: &mut Dice) {
 }
 
 /// A random end of a link.
-fn thrown_place(shape: Shape, dice: &mut Dice) -> Place {
+pub(crate) fn thrown_place(shape: Shape, dice: &mut Dice) -> Place {
     let point = thrown_point(shape, dice);
     let link = dice.octet() % shape.links_at(point).max(1);
     Place { point, link }
 }
 
 /// A random point.
-fn thrown_point(shape: Shape, dice: &mut Dice) -> u16 {
+pub(crate) fn thrown_point(shape: Shape, dice: &mut Dice) -> u16 {
     (dice.octet() as u16 % shape.nodes().max(1)).wrapping_add(1)
 }
 

@@ -1,18 +1,11 @@
-//! What became of the runs of a shape.
+//! What became of some runs.
 
 use crate::judge::judge;
 use crate::promise::Promise;
-use crate::shape::Shape;
 use crate::tally::Tally;
 use crate::verdict::Verdict;
 use crate::world::World;
 use std::alloc::Global;
-
-/// What is tried in a run.
-pub(crate) trait Trial {
-    /// Tries it. Says whether all ended as it was to.
-    fn run(&self, world: &mut World) -> bool;
-}
 
 /// What became of some runs.
 #[derive(Clone, Copy)]
@@ -25,9 +18,9 @@ pub(crate) struct Total {
     pub submitted: u64,
     /// What became of those.
     pub verdict: Verdict,
-    /// How many runs there were in which a node said that a message may be lost,
+    /// How many runs there were in which a node counted that a message may be lost,
     pub lost_any: u64,
-    /// and in how many no node said that, none said that one may be late, and no route changed.
+    /// and in how many no node counted that, none that one may be late, and no route changed.
     pub steady: u64,
     /// How many runs didn't end as they were to: a link didn't come into service, or frames were carried for ever.
     pub unended: u64,
@@ -45,23 +38,8 @@ impl Total {
         unended: 0,
     };
 
-    /// One more run.
-    pub(crate) fn run<T: Trial>(&mut self, alloc: Global, shape: Shape, trial: &T) {
-        match World::new(alloc, shape) {
-            Some(world) => self.run_in(alloc, world, trial),
-            None => self.tally.starved = true,
-        }
-    }
-
-    /// One more run, in this world. Only here is one dropped, since a function that does it has a long proof.
-    fn run_in<T: Trial>(&mut self, alloc: Global, world: World, trial: &T) {
-        let mut world = world;
-        let ended = trial.run(&mut world);
-        self.add(alloc, &world, ended);
-    }
-
-    /// Adds what became of one more run.
-    fn add(&mut self, alloc: Global, world: &World, ended: bool) {
+    /// Adds what became of one more run since its books began.
+    pub(crate) fn add(&mut self, alloc: Global, world: &World, ended: bool) {
         let promise = Promise::of(world);
         self.runs = self.runs.wrapping_add(1);
         self.tally = self.tally.and(world.tally());

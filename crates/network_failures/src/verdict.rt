@@ -9,13 +9,13 @@ pub(crate) struct Verdict {
     pub received: u64,
     /// and that another node refused on their way.
     pub refused: u64,
-    /// Accepted messages of runs in which no node said that one may be lost.
+    /// Accepted messages of runs in which no node counted that one may be lost.
     pub judged: u64,
     /// Of these, those that neither came nor were refused, or that came and were refused.
     pub lost: u64,
-    /// Messages that came twice, whatever any node said.
+    /// Messages that came twice, whatever any node counted.
     pub doubled: u64,
-    /// Messages that came, and weren't submitted so or weren't accepted.
+    /// Messages that came, and weren't submitted so since the books began, or weren't accepted.
     pub strange: u64,
     /// Messages that came while their flow was promised to come in order,
     pub in_order: u64,

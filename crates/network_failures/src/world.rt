@@ -1,6 +1,9 @@
 //! A network, what is done to it, and what was submitted.
 
+mod anew;
+
 use crate::book::{Book, Entry, message_of};
+use crate::counts::Counts;
 use crate::nodes::Nodes;
 use crate::shape::{Place, Shape};
 use crate::tally::Tally;
@@ -25,6 +28,7 @@ pub(crate) struct World {
     tally: Tally,
     first_sets: Vec<Option<SetId>>,
     in_time: Vec<usize>,
+    counts: Vec<Counts>,
 }
 
 impl Model for World {
@@ -39,6 +43,7 @@ impl World {
         let places = (shape.nodes() as usize).saturating_mul(DESTINATIONS);
         let first_sets = vec![in alloc; None; places].ok()?;
         let in_time = vec![in alloc; 0; PAIRS].ok()?;
+        let counts = vec![in alloc; Counts::NOTHING; shape.nodes() as usize].ok()?;
         let nodes = Nodes::new(alloc, shape)?;
         Some(World {
             nodes,
@@ -47,6 +52,7 @@ impl World {
             tally: Tally::NOTHING,
             first_sets,
             in_time,
+            counts,
         })
     }
 
@@ -97,12 +103,12 @@ impl World {
         became
     }
 
-    /// Notes how many messages came to a node while others hadn't said that one may be late.
+    /// Notes how many messages came to a node while others hadn't counted that one may be late.
     fn note_in_time(&mut self, point: u16) {
         let count = self.nodes.arrived(point).len();
         for node in 0..self.shape.nodes() {
             let from = node.wrapping_add(1);
-            if !self.nodes.late_any(from) {
+            if !self.late_any(from) {
                 self.note_in_time_of(from, point, count);
             }
         }
@@ -115,7 +121,7 @@ impl World {
         }
     }
 
-    /// How many messages came to a point while a node hadn't said that one may be late.
+    /// How many messages came to a point while a node hadn't counted that one may be late.
     pub(crate) fn in_time(&self, from: u16, to: u16) -> usize {
         self.in_time.get(pair_of(from, to)).copied().unwrap_or(0)
     }
