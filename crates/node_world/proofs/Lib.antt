@@ -1,5 +1,15 @@
 pub mod Logs
 pub mod Standing
-pub mod Worlds
-pub mod Promised
 pub mod MadeGates
+pub mod Places
+pub mod TwoPlaces
+pub mod TwoNodes
+pub mod Reached
+pub mod Worlds
+pub mod Ends
+pub mod FirstPoints
+pub mod OneByOne
+pub mod FirstWorld
+pub mod Shown
+pub mod Promised
+pub mod CallsThere

@@ -14,8 +14,8 @@ use Rattle.exchange.specs.Calls.{Kept}
 use Rattle.exchange_rules.specs.Queues.{WholeQueues, whole}
 use Rattle.sctp_gate.specs.Gates.{Gate, Did}
 use Rattle.sctp_gate.specs.Calling.{Call, called}
-use Rattle.gate_rules.specs.Calls.{books_kept}
-use Rattle.gate_rules.specs.Worlds.{Port, Node, port_after, done_by, with_call}
+use Rattle.gate_rules.specs.Worlds.{Port, port_after, done_by, with_call}
+use Rattle.network_gates.specs.GateWorlds.{Node, node_kept}
 use Rattle.gate_rules.proofs.Seen.{in-either, in-front, in-behind}
 use Rattle.node_world.specs.Kept.{KeptPort, KeptNode}
 use Rattle.node_world.specs.Calls.{PortCalls, NodeCalls}
@@ -82,22 +82,22 @@ set-same [] i x y e = grind (arith, common_steps)
 set-same (z ∷ xs) zero x y e = some-same e
 set-same (z ∷ xs) (suc i) x y e = set-same xs i x y e
 
-set-other : {X : Type 0} (xs : List X) (i j : ℕ) (x : X) → j ≢ i → slice_get (slice_set xs i x) j ≡ slice_get xs j
+pub set-other : {X : Type 0} (xs : List X) (i j : ℕ) (x : X) → j ≢ i → slice_get (slice_set xs i x) j ≡ slice_get xs j
 set-other [] i j x e = refl
 set-other (z ∷ xs) zero zero x e = absurd (e refl)
 set-other (z ∷ xs) zero (suc j) x e = refl
 set-other (z ∷ xs) (suc i) zero x e = refl
 set-other (z ∷ xs) (suc i) (suc j) x e = set-other xs i j x (λ h. e (ap suc h))
 
-is-other : (j i : ℕ) → nat_eq j i ≡ false → j ≢ i
+pub is-other : (j i : ℕ) → nat_eq j i ≡ false → j ≢ i
 is-other j i e h = grind (arith, nat_tests, e, h)
 
-is-same : (j i : ℕ) → nat_eq j i ≡ true → j ≡ i
+pub is-same : (j i : ℕ) → nat_eq j i ≡ true → j ≡ i
 is-same j i e = grind (arith, nat_tests, e)
 
 module _ (link : ℕ) (call : Call) (was is : KeptNode) (n : Node) (h : NodeStands was n) (c : NodeCalls link call was is n.books.exchange) where
   abbrev d : Did WholeQueues
-  d = done_by books_kept call link n
+  d = done_by node_kept call link n
 
   old : PortStands c.old_port (n.ports link)
   old = h.ports link c.old_port c.old_is
@@ -116,7 +116,7 @@ module _ (link : ℕ) (call : Call) (was is : KeptNode) (n : Node) (h : NodeStan
       (set-same was.ports link c.new_port port (subst (λ (j : ℕ). slice_get (slice_set was.ports link c.new_port) j ≡ Some port) (is-same other link e) there)) new-port
   port-by false other port e there = h.ports other port (sym (set-other was.ports link other c.new_port (is-other other link e)) ∙ there)
 
-  pub node-calls : NodeStands is (with_call books_kept call link d n)
+  pub node-calls : NodeStands is (with_call node_kept call link d n)
   node-calls = record {
     exchange = calls-so.stands;
     ports = λ other port there. port-by (nat_eq other link) other port refl (subst (λ (l : List KeptPort). slice_get l other ≡ Some port) c.new_is there);

@@ -1,15 +1,18 @@
--- When two nodes in code stand for two abstract ones, with all packets that these ever put out.
-use Rattle.std.specs.Prelude.{◌≡◌, ◌≤◌, ◌+◌, ◌*◌, ℕ, true, All, List, Some, length, map, slice_get}
+-- When nodes in code stand for abstract ones, with all packets that these ever put out.
+use Rattle.std.specs.Prelude.{◌≡◌, ◌≤◌, ◌+◌, ◌*◌, ℕ, true, All, List, [], Option, Some, None, length, map, slice_get}
 use Rattle.std.specs.List.{Contains}
 use Rattle.sctp_moves.specs.Numbers.{modulus, window}
 use Rattle.sctp_ends.specs.Worlds.{Emitted}
 use Rattle.sctp_bundling.specs.ChunkRows.{packet_text}
 use Rattle.sctp_bundling.specs.Watching.{Sent}
 use Rattle.exchange.specs.Calls as exchanges
-use Rattle.pair_rules.specs.Promises.{AreJoined}
-use Rattle.gate_rules.specs.Worlds.{Port, Node, Make, World, Steps, new_world, last_world}
+use Rattle.network_rules.specs.Totals.{IsJoined}
+use Rattle.gate_rules.specs.Worlds.{Port, Make}
 use Rattle.gate_rules.specs.Octets.{HavePorts}
-use Rattle.node_world.specs.Kept.{KeptPort, KeptNode, KeptWorld}
+use Rattle.network_gates.specs.GateWorlds.{GateWorld, Node, Steps, last_world, new_node, new_world}
+use Rattle.network_gates.specs.GatePromises.{settings_of}
+use Rattle.node_world.specs.Kept.{KeptPort, KeptNode, node_at, points_of}
+use Rattle.node_world.specs.Making.{make_of, no_node}
 
 -- octets that a gate put out are those of a packet
 pub record IsPutOut (p : Port) (octets : List ℕ) : Type 0 where
@@ -36,24 +39,26 @@ pub record NodeStands (k : KeptNode) (n : Node) : Type 0 where
   pub exchange : exchanges.StandsFor k.exchange n.books.exchange
   pub ports : (link : ℕ) (port : KeptPort) → slice_get k.ports link ≡ Some port → PortStands port (n.ports link)
 
--- by these steps it comes of two new nodes, whose settings face each other
-pub record IsReached (near_gates far_gates : ℕ) (w : World) : Type 0 where
-  pub near : Make
-  pub far : Make
-  pub joined : AreJoined near.configuration far.configuration
-  pub near_ports : HavePorts near
-  pub far_ports : HavePorts far
-  -- each link has a gate
-  pub near_links : near_gates ≡ length near.configuration.links
-  pub far_links : far_gates ≡ length far.configuration.links
-  pub list : List World
-  pub steps : Steps near far (new_world near far) list
-  pub last : last_world (new_world near far) list ≡ w
+-- where none is kept, one without links, at which nothing was done
+abbrev pub IsNodeAt : (point : ℕ) → Option KeptNode → Node → Type 0
+IsNodeAt point (Some k) n = NodeStands k n
+IsNodeAt point None n = n ≡ new_node (make_of (no_node point) [])
 
-pub record StandsFor (k : KeptWorld) (w : World) : Type 0 where
-  pub reached : IsReached (length k.near.ports) (length k.far.ports) w
-  pub near : NodeStands k.near w.near
-  pub far : NodeStands k.far w.far
+-- by these steps it comes of new nodes at these points, whose links join them
+pub record IsReached (points : List ℕ) (w : GateWorld) : Type 0 where
+  pub make : (point : ℕ) → Make
+  pub joined : IsJoined (settings_of make) points
+  pub ports : (point : ℕ) → HavePorts (make point)
+  pub list : List GateWorld
+  pub steps : Steps (new_world make) list
+  pub last : last_world (new_world make) list ≡ w
+
+pub record StandsFor (k : List KeptNode) (w : GateWorld) : Type 0 where
+  pub reached : IsReached (points_of k) w
+  pub nodes : (point : ℕ) → IsNodeAt point (node_at point k) (w.node point)
+  -- each link has a gate
+  pub gates : (point : ℕ) (n : KeptNode) → node_at point k ≡ Some n →
+      length n.ports ≡ length (w.node point).books.exchange.settings.links
 
 -- octets that a gate put out, since when no more messages passed there than there are numbers, less two windows
 pub record IsYoung (p : Port) (octets : List ℕ) : Type 0 where

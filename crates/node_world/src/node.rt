@@ -1,6 +1,6 @@
 //! A node: an exchange, and a gate for each of its links.
 
-ghost use Rattle.std.specs.Prelude.{◌≡◌, ◌≢◌, ◌<◌, length, slice_get, [], IfOk, IfErr, OnOk};
+ghost use Rattle.std.specs.Prelude.{◌≡◌, ◌<◌, length, slice_get, [], IfOk, IfErr, OnOk};
 ghost use Rattle.exchange.specs.Calls.{StandsFor, happened};
 ghost use Rattle.exchange_rules.specs.Exchange.{after, outcome_of};
 ghost use Rattle.exchange_rules.specs.First.{Abstract};
@@ -12,12 +12,12 @@ ghost use Rattle.node_world.specs.Making.{make_of, gate_make, gate_make_of, firs
 ghost use Rattle.node_world.specs.Calls.{told, NodeCalls, is_there, octets_heard};
 
 use crate::call::Call;
-use crate::fault::WorldFault;
+use crate::fault::NodeFault;
 use crate::log::Datagram;
 use crate::making::{GateMaking, are_in_order};
 use crate::port::Port;
 use exchange::{Event, Exchange, NoMemory};
-use settings::{LinkId, Outcome, Settings};
+use settings::{LinkId, Outcome, PointCode, Settings};
 use std::alloc::{AllocError, Global};
 use std::marker::Model;
 
@@ -53,20 +53,19 @@ impl Node {
         alloc: Global,
         settings: Settings,
         gates: &[GateMaking],
-    ) -> Result<Node, WorldFault>
+    ) -> Result<Node, NodeFault>
         ensures first { IfOk result (λ node. node ≡ first_node settings gates.now) }
         ensures ports { OnOk result (HavePorts (make_of settings gates.now)) }
         ensures suit { OnOk result (Suits settings gates.now) }
-        ensures fault { IfErr result (λ fault. fault ≢ WorldFault.NotFacing) }
-        ensures bad { IfErr result (λ fault. fault ≡ WorldFault.BadGates → ¬ (Suits settings gates.now)) }
+        ensures bad { IfErr result (λ fault. fault ≡ NodeFault.BadGates → ¬ (Suits settings gates.now)) }
     {
         if gates.len() != settings.link_count() {
-            return Err(WorldFault::BadGates);
+            return Err(NodeFault::BadGates);
         }
         let ports = ports_of(alloc, gates, settings.link_count() as u8)?;
         match Exchange::boot(alloc, settings) {
             Ok(exchange) => Ok(Node { exchange, ports }),
-            Err(NoMemory) => Err(WorldFault::NoMemory),
+            Err(NoMemory) => Err(NodeFault::NoMemory),
         }
     }
 
@@ -88,6 +87,20 @@ impl Node {
         ensures ports { self.new.ports ≡ self.old.ports }
     {
         self.exchange.step(event)
+    }
+
+    /// Its settings.
+    pub(crate) fn settings(&self) -> &Settings
+        ensures { result.now ≡ self.now.exchange.settings }
+    {
+        self.exchange.settings()
+    }
+
+    /// The point at which it is.
+    pub(crate) fn point(&self) -> PointCode
+        ensures { result ≡ self.now.exchange.settings.own }
+    {
+        self.exchange.settings().own()
     }
 
     pub(crate) fn exchange(&self) -> &Exchange
@@ -135,7 +148,7 @@ impl Node {
 
     /// Whether what a call hears is there.
     pub(crate) fn has(&self, link: LinkId, call: Call) -> bool
-        ensures { result ≡ is_there call link self.now }
+        ensures { result ≡ is_there call (sent_on self.now link) }
     {
         match call {
             Call::Hear(place, _) => place < self.sent(link).len(),
@@ -145,7 +158,7 @@ impl Node {
 
     /// The octets that a call hears.
     pub(crate) fn octets_heard(&self, link: LinkId, call: Call) -> &[u8]
-        ensures { result.now ≡ octets_heard call link self.now }
+        ensures { result.now ≡ octets_heard call (sent_on self.now link) }
     {
         match call {
             Call::Hear(place, _) => octets_in(self.sent(link), place),
@@ -165,53 +178,50 @@ fn octets_in(sent: &[Datagram], place: usize) -> &[u8]
 }
 
 /// The gates of this many links.
-fn ports_of(alloc: Global, gates: &[GateMaking], links: u8) -> Result<Vec<Port>, WorldFault>
+fn ports_of(alloc: Global, gates: &[GateMaking], links: u8) -> Result<Vec<Port>, NodeFault>
     requires { links ≡ length gates.now }
     ensures first { IfOk result (λ ports. ports.items ≡ first_ports 0 gates.now) }
     ensures ports { OnOk result (HaveAllPorts gates.now) }
     ensures order { OnOk result (AreAllInOrder gates.now) }
-    ensures fault { IfErr result (λ fault. fault ≢ WorldFault.NotFacing) }
-    ensures bad { IfErr result (λ fault. fault ≡ WorldFault.BadGates → ¬ (AreAllInOrder gates.now)) }
+    ensures bad { IfErr result (λ fault. fault ≡ NodeFault.BadGates → ¬ (AreAllInOrder gates.now)) }
 {
     let mut ports = Vec::new(alloc);
     for link in 0..links {
         let port = port_in(alloc, gates, LinkId::new(link))?;
         if ports.push(port).is_err() {
-            return Err(WorldFault::NoMemory);
+            return Err(NodeFault::NoMemory);
         }
     }
     Ok(ports)
 }
 
 /// The gate of a link, if there is one.
-fn port_in(alloc: Global, gates: &[GateMaking], link: LinkId) -> Result<Port, WorldFault>
+fn port_in(alloc: Global, gates: &[GateMaking], link: LinkId) -> Result<Port, NodeFault>
     ensures first { IfOk result (λ port. port ≡ first_port link (gate_make_of (slice_get gates.now link))) }
     ensures ports { OnOk result (HasPorts (gate_make_of (slice_get gates.now link)).settings) }
     ensures order { OnOk result (AreInOrder (gate_make_of (slice_get gates.now link)).settings.bounds) }
-    ensures fault { IfErr result (λ fault. fault ≢ WorldFault.NotFacing) }
-    ensures bad { IfErr result (λ fault. fault ≡ WorldFault.BadGates → link < length gates.now →
+    ensures bad { IfErr result (λ fault. fault ≡ NodeFault.BadGates → link < length gates.now →
         ¬ (AreInOrder (gate_make_of (slice_get gates.now link)).settings.bounds)) }
 {
     match gates.get(link.index()) {
         Some(making) => port_of(alloc, link, making),
-        None => Err(WorldFault::BadGates),
+        None => Err(NodeFault::BadGates),
     }
 }
 
 /// The gate of a link, of what it is made of.
-fn port_of(alloc: Global, link: LinkId, making: &GateMaking) -> Result<Port, WorldFault>
+fn port_of(alloc: Global, link: LinkId, making: &GateMaking) -> Result<Port, NodeFault>
     ensures first { IfOk result (λ port. port ≡ first_port link (gate_make making.now)) }
     ensures ports { OnOk result (HasPorts (gate_make making.now).settings) }
     ensures order { OnOk result (AreInOrder making.now.settings.bounds) }
-    ensures fault { IfErr result (λ fault. fault ≢ WorldFault.NotFacing) }
-    ensures bad { IfErr result (λ fault. fault ≡ WorldFault.BadGates →
+    ensures bad { IfErr result (λ fault. fault ≡ NodeFault.BadGates →
         ¬ (AreInOrder making.now.settings.bounds)) }
 {
     if !are_in_order(making) {
-        return Err(WorldFault::BadGates);
+        return Err(NodeFault::BadGates);
     }
     match Port::new(alloc, link, making) {
         Ok(port) => Ok(port),
-        Err(AllocError) => Err(WorldFault::NoMemory),
+        Err(AllocError) => Err(NodeFault::NoMemory),
     }
 }

@@ -1,9 +1,12 @@
 -- While a log is whole, it has all that was put out.
-use Rattle.std.proofs.Common.{sym, ap, ◌∙◌}
-use Rattle.node_world.specs.Kept.{KeptNode, is_whole_on}
-use Rattle.node_world.proofs.Promised.{has-all}
+use Rattle.std.proofs.Common.{rules, ◌≡◌, List, ap, sym, ◌∙◌}
+use Rattle.node_world.specs.Kept.{KeptNode, is_whole_at, node_at}
+use Rattle.node_world.proofs.Shown.{has-all}
 use Rattle.node_world.proofs.world.World.is_whole.Goals as goal
 
 pub returns : goal.returns
-returns c = λ w h t.
-    has-all c.args.self.now w h c.args.end c.args.link (sym (c.is_whole.ensures ∙ ap (λ (n : KeptNode). is_whole_on n c.args.link) c.node.ensures) ∙ t)
+returns c =
+    let here : c.deref.result.now ≡ c.args.self.now = search rules in
+    λ w s t.
+    has-all c.args.self.now w s c.args.at c.args.link
+    (sym (c.is_whole_at.ensures ∙ ap (λ (k : List KeptNode). is_whole_at (node_at c.args.at k) c.args.link) here) ∙ t)

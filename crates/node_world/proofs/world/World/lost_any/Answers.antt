@@ -1,13 +1,10 @@
--- While no flag is raised, nothing was lost.
-use Rattle.std.proofs.Common.{sym, ◌∙◌}
-use Rattle.node_world.proofs.Promised.{come-once, come-in-order, nothing-lost}
+-- The flags of the exchange that is kept are those of the abstract one.
+use Rattle.std.proofs.Common.{rules, ◌≡◌, List, ap, ◌∙◌}
+use Rattle.node_world.specs.Kept.{KeptNode, lost_at, node_at}
+use Rattle.node_world.proofs.Shown.{lost-same}
 use Rattle.node_world.proofs.world.World.lost_any.Goals as goal
 
-pub returns-clause-nothing : goal.returns-clause-nothing
-returns-clause-nothing c = λ w h e. nothing-lost c.args.self.now w h (sym c.is_any_lost.ensures ∙ e)
-
-pub returns-clause-once : goal.returns-clause-once
-returns-clause-once c = λ w h e. come-once c.args.self.now w h (returns-clause-nothing c w h e)
-
-pub returns-clause-order : goal.returns-clause-order
-returns-clause-order c = λ w h e. come-in-order c.args.self.now w h (returns-clause-nothing c w h e)
+pub returns : goal.returns
+returns c =
+    let here : c.deref.result.now ≡ c.args.self.now = search rules in
+    λ w s. c.lost_at.ensures ∙ ap (λ (k : List KeptNode). lost_at (node_at c.args.at k)) here ∙ lost-same c.args.self.now w s c.args.at

@@ -1,11 +1,19 @@
--- Two nodes whose settings face each other stand for two new ones.
-use Rattle.std.proofs.Common.{rules}
-use Rattle.node_world.proofs.Worlds.{first-world}
+-- New nodes stand for the new world of what they are made of.
+use Rattle.std.proofs.Common.{rules, ◌≡◌, true, List, sym, subst}
+use Rattle.network_gates.specs.GateWorlds.{new_world}
+use Rattle.node_world.specs.declared.node_making.NodeMaking.{NodeMaking}
+use Rattle.node_world.specs.Joined.{AreJoined, AreWell, are_apart}
+use Rattle.node_world.specs.Kept.{KeptNode}
+use Rattle.node_world.specs.Making.{make_at}
+use Rattle.node_world.specs.Stands.{StandsFor}
+use Rattle.node_world.proofs.FirstWorld.{first-world}
 use Rattle.node_world.proofs.world.World.new.Goals as goal
 
-pub returns-clause-first : goal.returns-clause-first
-returns-clause-first c =
-    rw (c.in_ok-new.ensures.first, c.in_ok-new-2.ensures.first)
-    (first-world c.args.near c.args.far c.args.near_gates.now c.args.far_gates.now
-    (record { near_well = c.are_well.ensures; far_well = c.are_well-2.ensures; facing = search rules })
-    c.in_ok-new.ensures.ports c.in_ok-new-2.ensures.ports c.in_ok-new.ensures.suit.many c.in_ok-new-2.ensures.suit.many)
+pub returns-in-Ok-clause-first : goal.returns-in-Ok-clause-first
+returns-in-Ok-clause-first c =
+    let nodes = c.args.nodes.items in
+    let apart : are_apart nodes ≡ true = subst (λ (ms : List NodeMaking). are_apart ms ≡ true) c.deref-2.ensures.value (search rules) in
+    let well : AreWell nodes = subst AreWell c.deref.ensures.value c.are_well.ensures in
+    let joined : AreJoined nodes = subst AreJoined c.deref-3.ensures.value (c.are_joined.ensures.0 (search rules)) in
+    subst (λ (k : List KeptNode). StandsFor k (new_world (make_at nodes))) (sym c.in-Ok.ensures.first)
+    (first-world nodes apart well joined c.in-Ok.ensures.ports c.in-Ok.ensures.suit)
