@@ -10,7 +10,7 @@ ghost use Rattle.exchange_rules.specs.State.{lost_any};
 ghost use Rattle.network_datagrams.specs.NetworkPromises.{BooksAreOfTheTwo, EachFlowInOrder, EachMessageAccounted, EachMessageOnce, FlowsStayBetween, HopsKeepFlows, LastHopsKeepOrder, MessagesComeToEnd, NodesPassInOrder, NothingAwaitedInVain, NothingHeldInVain, PathsKeepFlows, PathsKeepOrder};
 ghost use Rattle.network_gates.specs.GateWorlds.{Calls, GateWorld, Happens, after};
 ghost use Rattle.sctp_gate.specs.Gates.{due};
-ghost use Rattle.node_world.specs.Kept.{has_node, node_at, sent_at, sent_to};
+ghost use Rattle.node_world.specs.Kept.{due_at, has_node, is_whole_at, lost_at, node_at, sent_at, sent_to};
 ghost use Rattle.node_world.specs.Calls.{told, octets_heard, is_made, is_there};
 ghost use Rattle.node_world.specs.Stands.{StandsFor, IsSentBy, HasAll};
 ghost use Rattle.node_world.specs.Promised.{AloneComeBetween, Promises};
@@ -98,7 +98,8 @@ impl World {
 impl World {
     /// Whether a message may have been lost at the node at a point (`Exchange::lost_any`). False where no node is.
     pub fn lost_any(&self, at: PointCode) -> bool
-        ensures { (w : GateWorld) → StandsFor self.now w →
+        ensures kept { result ≡ lost_at (node_at at self.now) }
+        ensures stands { (w : GateWorld) → StandsFor self.now w →
             result ≡ lost_any (w.node at).books.exchange.node.parts }
     {
         lost_at(&self.nodes, at)
@@ -127,7 +128,8 @@ impl World {
     /// Whether `sent` has all datagrams that the gate of a link put out: memory never ran out for one. False if there
     /// is no such node or link.
     pub fn is_whole(&self, at: PointCode, link: LinkId) -> bool
-        ensures { (w : GateWorld) → StandsFor self.now w → result ≡ true →
+        ensures kept { result ≡ is_whole_at (node_at at self.now) link }
+        ensures has_all { (w : GateWorld) → StandsFor self.now w → result ≡ true →
             HasAll ((w.node at).ports link) (sent_at (node_at at self.now) link) }
     {
         is_whole_at(&self.nodes, at, link)
@@ -135,7 +137,8 @@ impl World {
 
     /// When to call the gate of a link next, in milliseconds (`Gate::deadline`); None if there is no such node or link.
     pub fn deadline(&self, at: PointCode, link: LinkId) -> Option<u64>
-        ensures { (w : GateWorld) → StandsFor self.now w →
+        ensures kept { result ≡ due_at (node_at at self.now) link }
+        ensures stands { (w : GateWorld) → StandsFor self.now w →
             link < length (w.node at).books.exchange.settings.links → result ≡ due ((w.node at).ports link).gate }
     {
         deadline_at(&self.nodes, at, link)
