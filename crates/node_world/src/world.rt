@@ -147,11 +147,13 @@ impl World {
     /// What holds over datagrams between any two steps and calls, however the network treats them (`laws` of
     /// `network_gates`).
     ///
-    /// Between each two nodes that share a link set, while neither may have lost a message (`lost_any`): "exactly once"
-    /// and "order", and nothing is awaited in vain; whatever was lost, nothing is held in vain, what is booked of the
-    /// two is for the one or the other, and their flows to each other stay on their set. Between two that have only
-    /// each other, of all user messages: as many of every kind were accepted at one as the other received and as wait,
-    /// and those of each flow came in order.
+    /// Between each two nodes that share a link set, while neither may have lost a message (`lost_any`): "exactly
+    /// once", and nothing is awaited in vain; and "order" of each flow, while besides `Exchange::late_any` is false at
+    /// the node that accepted it. Whatever was lost, nothing is held in vain, what is booked of the two is for the one
+    /// or the other, and their flows to each other stay on their set. Between two that have only each other, while
+    /// neither may have lost a message, of all user messages: as many of every kind were accepted at one as the other
+    /// received and as wait; and those of each flow came in order, while besides `late_any` is false at the node that
+    /// accepted them.
     ///
     /// From end to end, while no node may have lost a message: as many user messages entered, by any test, as were
     /// received, as wait, and as were refused on the way; so it is of the messages for each node, if all have its
