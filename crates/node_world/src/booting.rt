@@ -18,8 +18,9 @@ impl World {
     /// order.
     ///
     /// SamePoint where two of them are at the same point; else NotJoined where a link leads to no node with which its
-    /// own shares a link set (`Settings::shares_set_with`); else BadGates where a node has more or fewer gates than
-    /// links, or the bounds of a gate's timeouts are out of order. NoMemory comes only if a growth was refused.
+    /// own shares a link set (`Settings::shares_set_with`); else BadGates or NoMemory. BadGates comes only where a node
+    /// has more or fewer gates than links, or the bounds of a gate's timeouts are out of order; but there NoMemory may
+    /// come before it. NoMemory means that memory ran out.
     pub fn new(alloc: Global, nodes: Vec<NodeMaking>) -> Result<World, WorldFault>
         // It stands for the new world of these nodes.
         ensures first { IfOk result (λ world. StandsFor world (new_world (make_at nodes.items))) }
@@ -28,7 +29,7 @@ impl World {
         ensures apart { OnOk result (are_apart nodes.items ≡ true) }
         ensures joined { OnOk result (AreJoined nodes.items) }
         ensures suit { OnOk result (SuitsAll nodes.items) }
-        // and the fault says which of these isn't so.
+        // and the fault says which of these isn't so, but for NoMemory.
         ensures same_point { IfErr result (λ fault.
             (fault ≡ WorldFault.SamePoint) ↔ (are_apart nodes.items ≡ false)) }
         ensures not_joined { IfErr result (λ fault.
