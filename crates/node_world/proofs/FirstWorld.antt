@@ -82,6 +82,12 @@ found (first ∷ nodes) point m e = by (nat_eq first.settings.own point) refl (f
         record { place = 0; at = g; own = ap (λ (d : NodeMaking). d.settings.own) (sym same) ∙ equal first.settings.own point f }
     by false f rest g = let its : IsFound nodes point m = rest g in record { place = suc its.place; at = its.at; own = its.own }
 
+-- ---- their points
+
+pub points-are : (ms : List NodeMaking) → points_of (first_nodes ms) ≡ map own ms
+points-are [] = refl
+points-are (m ∷ ms) = ap (λ (rest : List ℕ). m.settings.own ∷ rest) (points-are ms)
+
 module _ (nodes : List NodeMaking) (apart : are_apart nodes ≡ true) (well : AreWell nodes) (joined : AreJoined nodes) (ports : HavePortsAll nodes) (suit : SuitsAll nodes) where
   abbrev make : (point : ℕ) → Make
   make point = make_at nodes point
@@ -173,10 +179,6 @@ module _ (nodes : List NodeMaking) (apart : are_apart nodes ≡ true) (well : Ar
       let f : IsFound nodes point m = found nodes point m e in
       let suits : Suits m.settings m.gates.items = all-at (λ x. Suits x.settings x.gates.items) nodes suit f.place m f.at in
       sym (ap (λ (x : KeptNode). length x.ports) (some-same is)) ∙ many-from 0 m.gates.items ∙ suits.many
-
-  points-are : (ms : List NodeMaking) → points_of (first_nodes ms) ≡ map own ms
-  points-are [] = refl
-  points-are (m ∷ ms) = ap (λ (rest : List ℕ). m.settings.own ∷ rest) (points-are ms)
 
   pub first-world : StandsFor (first_nodes nodes) (new_world make)
   first-world = record {

@@ -13,8 +13,9 @@ module _ (k : List KeptNode) (near link now : ℕ) (there : KeptPlace) (call : C
   module _ (front_is : front ≡ take there.place k) (back_is : back ≡ drop there.place k) (less : near < there.place) (near_in : near < length k) (far_in : there.place < length k) where
     pub called-front : ((a : Abstract) → StandsFor (slice_index_or front near dx).exchange a
         → NodeCalls link (told call (octets_heard call (sent_on (slice_index_or back 0 dy) there.link)) now) (slice_index_or front near dx) new a)
+        → new.exchange.settings ≡ (slice_index_or front near dx).exchange.settings
         → NodesCall near link (told call (octets_heard call (sent_there k (Some there))) now) k (slice_set front near new ++ back)
-    called-front calls =
+    called-front calls same =
         let far_is : slice_get k there.place ≡ Some (slice_index_or back 0 dy) = got-back k there.place back dy back_is far_in in
         record {
           old = slice_index_or front near dx;
@@ -26,6 +27,7 @@ module _ (k : List KeptNode) (near link now : ℕ) (there : KeptPlace) (call : C
               ∙ set-front k near there.place new less;
           calls = subst (λ (o : Option KeptNode). (a : Abstract) → StandsFor (slice_index_or front near dx).exchange a
               → NodeCalls link (told call (octets_heard call (sent_at o there.link)) now) (slice_index_or front near dx) new a) (sym far_is) calls;
+          settings = same;
         }
 
   -- or at the head of the back
@@ -38,8 +40,9 @@ module _ (k : List KeptNode) (near link now : ℕ) (there : KeptPlace) (call : C
 
     pub called-back : ((a : Abstract) → StandsFor (slice_index_or back 0 dx).exchange a
         → NodeCalls link (told call (octets_heard call (sent_on (slice_index_or front there.place dy) there.link)) now) (slice_index_or back 0 dx) new a)
+        → new.exchange.settings ≡ (slice_index_or back 0 dx).exchange.settings
         → NodesCall near link (told call (octets_heard call (sent_there k (Some there))) now) k (front ++ slice_set back 0 new)
-    called-back calls = record {
+    called-back calls same = record {
       old = slice_index_or back 0 dx;
       new = new;
       old_is = near-is;
@@ -49,6 +52,7 @@ module _ (k : List KeptNode) (near link now : ℕ) (there : KeptPlace) (call : C
           ∙ set-back k near new near_in;
       calls = subst (λ (o : Option KeptNode). (a : Abstract) → StandsFor (slice_index_or back 0 dx).exchange a
           → NodeCalls link (told call (octets_heard call (sent_at o there.link)) now) (slice_index_or back 0 dx) new a) (sym far-is) calls;
+      settings = same;
     }
 
     pub answer-back : (done : Bool) → nat_eq near there.place ≡ false

@@ -87,6 +87,7 @@ pub record NodesCall (place link : ℕ) (call : calling.Call) (was is : List Kep
   pub old_is : slice_get was place ≡ Some old
   pub new_is : is ≡ slice_set was place new
   pub calls : (a : Abstract) → StandsFor old.exchange a → NodeCalls link call old new a
+  pub settings : new.exchange.settings ≡ old.exchange.settings
 
 -- ---- what becomes of an event, for an abstract exchange
 
@@ -100,3 +101,4 @@ pub record NodesStep (place : ℕ) (event : Event) (outcome : Outcome) (was is :
   pub exchange : (a : Abstract) → StandsFor old.exchange a →
       StandsFor new.exchange (after whole (happened event outcome) a)
   pub ports : new.ports ≡ old.ports
+  pub settings : new.exchange.settings ≡ old.exchange.settings

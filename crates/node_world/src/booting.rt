@@ -1,8 +1,9 @@
 //! A world of new nodes.
 
-ghost use Rattle.std.specs.Prelude.{◌≡◌, ◌↔◌, true, false, IfOk, IfErr, OnOk};
+ghost use Rattle.std.specs.Prelude.{◌≡◌, ◌↔◌, true, false, map, IfOk, IfErr, OnOk};
 ghost use Rattle.network_gates.specs.GateWorlds.{new_world};
 ghost use Rattle.node_world.specs.Joined.{AreJoined, are_apart};
+ghost use Rattle.node_world.specs.Kept.{points_of};
 ghost use Rattle.node_world.specs.Making.{HavePortsAll, SuitsAll, first_nodes, make_at};
 ghost use Rattle.node_world.specs.Stands.{StandsFor};
 
@@ -24,6 +25,8 @@ impl World {
     pub fn new(alloc: Global, nodes: Vec<NodeMaking>) -> Result<World, WorldFault>
         // It stands for the new world of these nodes.
         ensures first { IfOk result (λ world. StandsFor world (new_world (make_at nodes.items))) }
+        // Its nodes are at their points, in order.
+        ensures points { IfOk result (λ world. points_of world ≡ map (λ m. m.settings.own) nodes.items) }
         // There is one only if each has a point of its own, all links are joined, and each has a gate whose timeouts
         // are in order,
         ensures apart { OnOk result (are_apart nodes.items ≡ true) }

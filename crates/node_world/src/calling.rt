@@ -49,6 +49,7 @@ fn step_at(node: &mut Node, event: &Event<'_>) -> Outcome
     ensures exchange { is_own event.now ≡ true → (a : Abstract) → StandsFor node.old.exchange a →
         StandsFor node.new.exchange (after whole (happened event.now result) a) }
     ensures ports { node.new.ports ≡ node.old.ports }
+    ensures settings { node.new.exchange.settings ≡ node.old.exchange.settings }
     ensures ignored { is_own event.now ≡ false → result ≡ Ignored }
     ensures unchanged { is_own event.now ≡ false → node.new ≡ node.old }
 {
@@ -139,6 +140,7 @@ fn call_at(node: &mut Node, far: &Node, link: LinkId, other: LinkId, call: Call,
     ensures answer { result ≡ (nat_lt link (length node.old.ports) && is_there call (sent_on far.now other)) }
     ensures calls { result ≡ true → (a : Abstract) → StandsFor node.old.exchange a →
         NodeCalls link (told call (octets_heard call (sent_on far.now other)) now) node.old node.new a }
+    ensures settings { node.new.exchange.settings ≡ node.old.exchange.settings }
     ensures unchanged { result ≡ false → node.new ≡ node.old }
 {
     if link.index() >= node.gate_count() || !far.has(other, call) {

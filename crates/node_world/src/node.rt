@@ -72,8 +72,9 @@ impl Node {
     /// The gate of a link is called, with the octets that come, at a time in milliseconds.
     pub(crate) fn call(&mut self, link: LinkId, call: Call, octets: &[u8], now: u64)
         requires { link < length self.old.ports }
-        ensures { (a : Abstract) → StandsFor self.old.exchange a →
+        ensures calls { (a : Abstract) → StandsFor self.old.exchange a →
             NodeCalls link (told call octets.now now) self.old self.new a }
+        ensures settings { self.new.exchange.settings ≡ self.old.exchange.settings }
     {
         self.ports[link.index()].call(call, octets, now, &mut self.exchange);
     }
@@ -85,6 +86,7 @@ impl Node {
         ensures exchange { (a : Abstract) → StandsFor self.old.exchange a →
             StandsFor self.new.exchange (after whole (happened event.now result) a) }
         ensures ports { self.new.ports ≡ self.old.ports }
+        ensures settings { self.new.exchange.settings ≡ self.old.exchange.settings }
     {
         self.exchange.step(event)
     }

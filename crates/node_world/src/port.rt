@@ -59,8 +59,9 @@ impl Port {
 
     /// The gate is called, with the octets that come, at a time in milliseconds.
     pub(crate) fn call(&mut self, call: Call, octets: &[u8], now: u64, exchange: &mut Exchange)
-        ensures { (a : Abstract) → StandsFor exchange.old a → PortCalls self.old self.new exchange.new
+        ensures calls { (a : Abstract) → StandsFor exchange.old a → PortCalls self.old self.new exchange.new
             (called whole (told call octets.now now) self.old.gate a) }
+        ensures settings { exchange.new.settings ≡ exchange.old.settings }
     {
         match call {
             Call::Hear(_, source) => self

@@ -10,7 +10,7 @@ ghost use Rattle.exchange_rules.specs.State.{lost_any};
 ghost use Rattle.network_datagrams.specs.NetworkPromises.{BooksAreOfTheTwo, EachFlowInOrder, EachMessageAccounted, EachMessageOnce, FlowsStayBetween, HopsKeepFlows, LastHopsKeepOrder, MessagesComeToEnd, NodesPassInOrder, NothingAwaitedInVain, NothingHeldInVain, PathsKeepFlows, PathsKeepOrder};
 ghost use Rattle.network_gates.specs.GateWorlds.{Calls, GateWorld, Happens, after};
 ghost use Rattle.sctp_gate.specs.Gates.{due};
-ghost use Rattle.node_world.specs.Kept.{due_at, has_node, is_whole_at, lost_at, node_at, sent_at, sent_to};
+ghost use Rattle.node_world.specs.Kept.{due_at, has_node, is_whole_at, lost_at, node_at, points_of, sent_at, sent_to};
 ghost use Rattle.node_world.specs.Calls.{told, octets_heard, is_made, is_there};
 ghost use Rattle.node_world.specs.Stands.{StandsFor, IsSentBy, HasAll};
 ghost use Rattle.node_world.specs.Promised.{AloneComeBetween, Promises};
@@ -66,6 +66,8 @@ impl World {
             StandsFor self.new (after at (Happens (happened event.now result)) w) }
         ensures ignored { may_happen event.now at self.old ≡ false → result ≡ Ignored }
         ensures unchanged { may_happen event.now at self.old ≡ false → self.new ≡ self.old }
+        // Its nodes stay at their points.
+        ensures points { points_of self.new ≡ points_of self.old }
     {
         match place_of(&self.nodes, at) {
             Some(place) => step_from(&mut self.nodes, place, event),
@@ -87,6 +89,7 @@ impl World {
             StandsFor self.new
             (after at (Calls link (told call (octets_heard call (sent_to self.old at link)) now)) w) }
         ensures unchanged { result ≡ false → self.new ≡ self.old }
+        ensures points { points_of self.new ≡ points_of self.old }
     {
         match place_of(&self.nodes, at) {
             Some(place) => call_from(&mut self.nodes, place, link, call, now),

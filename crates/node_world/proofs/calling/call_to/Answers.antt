@@ -17,7 +17,7 @@ returns-then-near-far-2-clause-calls c = λ made.
     subst (λ (p : KeptPlace). NodesCall c.args.near c.args.link (told c.args.call (octets_heard c.args.call (sent_there k (Some p))) c.args.now) k
     (slice_set c.split_at_mut-front.result.0.now c.args.near c.call_at.new.node ++ c.split_at_mut-front.result.1.now)) c.there.view_is
     (called-front k c.args.near c.args.link c.args.now there c.args.call c.split_at_mut-front.result.0.now c.split_at_mut-front.result.1.now
-    c.index-front-near.result c.index-back-0.result c.call_at.new.node front_is back_is less c.requires.near far_in (c.call_at.ensures.calls made))
+    c.index-front-near.result c.index-back-0.result c.call_at.new.node front_is back_is less c.requires.near far_in (c.call_at.ensures.calls made) c.call_at.ensures.settings)
 
 pub returns-else-near-far-2-clause-answer : goal.returns-else-near-far-2-clause-answer
 returns-else-near-far-2-clause-answer c =
@@ -45,4 +45,4 @@ returns-else-near-far-2-clause-calls c = λ made.
     (c.split_at_mut-front-else-near-far-2.result.0.now ++ slice_set c.split_at_mut-front-else-near-far-2.result.1.now 0 c.call_at-else-near-far-2.new.node)) c.there.view_is
     (called-back k c.args.near c.args.link c.args.now there c.args.call c.split_at_mut-front-else-near-far-2.result.0.now c.split_at_mut-front-else-near-far-2.result.1.now
     c.index-back-0-else-near-far-2.result c.index-front-far.result c.call_at-else-near-far-2.new.node front_is back_is less c.requires.near far_in
-    (c.call_at-else-near-far-2.ensures.calls made))
+    (c.call_at-else-near-far-2.ensures.calls made) c.call_at-else-near-far-2.ensures.settings)

@@ -13,4 +13,5 @@ returns-clause-steps c = λ own. record {
   outcome_is = c.step_at.ensures.outcome own;
   exchange = c.step_at.ensures.exchange own;
   ports = c.step_at.ensures.ports;
+  settings = c.step_at.ensures.settings;
 }

@@ -4,9 +4,10 @@ use Rattle.std.proofs.lemmas.List.{with_items_is}
 use Rattle.std.specs.Prelude.{slice_get}
 use Rattle.network_gates.specs.GateWorlds.{Calls, after}
 use Rattle.node_world.specs.Calls.{NodesCall, is_made_from, octets_heard, told}
-use Rattle.node_world.specs.Kept.{KeptNode, kept_other_end, place_at, sent_there, sent_to}
+use Rattle.node_world.specs.Kept.{KeptNode, kept_other_end, place_at, points_of, sent_there, sent_to}
 use Rattle.node_world.specs.Stands.{StandsFor}
 use Rattle.node_world.proofs.CallsThere.{answers, called-there, made-so, none-made}
+use Rattle.node_world.proofs.PointsStay.{StayThere, stay-called}
 use Rattle.node_world.proofs.Worlds.{call-length}
 use Rattle.node_world.proofs.world.World.call.Goals as goal
 
@@ -48,3 +49,10 @@ returns-in-None-clause-made c = λ w s less.
     let here : c.deref.result.now ≡ c.args.self.now = search rules in
     let none : place_at c.args.at c.args.self.now ≡ None = ap (place_at c.args.at) (sym here) ∙ sym c.in-None.ensures.place in
     absurd (none-made c.args.self.now c.args.at c.args.link w s none less)
+
+pub returns-in-Some-clause-points : goal.returns-in-Some-clause-points
+returns-in-Some-clause-points c =
+    let old : c.deref_mut.result.now ≡ c.args.self.now = c.deref_mut.ensures.value ∙ c.self.view_is in
+    let stay : StayThere c.deref_mut.result.now c.call_from.new.nodes =
+    stay-called c.deref_mut.result.now c.call_from.new.nodes c.in-Some.place c.args.link _ c.call_from.result c.call_from.ensures.calls c.call_from.ensures.unchanged in
+    ap points_of (with_items_is c.self.inside.nodes c.call_from.new.nodes (stay.many ∙ c.deref_mut.ensures.len)) ∙ stay.points ∙ ap points_of old

@@ -4,9 +4,10 @@ use Rattle.std.proofs.lemmas.List.{with_items_is}
 use Rattle.exchange.specs.Calls.{happened}
 use Rattle.network_gates.specs.GateWorlds.{Happens, after}
 use Rattle.node_world.specs.Calls.{NodesStep}
-use Rattle.node_world.specs.Kept.{KeptNode, has_node, place_at}
+use Rattle.node_world.specs.Kept.{KeptNode, has_node, place_at, points_of}
 use Rattle.node_world.specs.Stands.{StandsFor}
 use Rattle.node_world.specs.Worlds.{is_own}
+use Rattle.node_world.proofs.PointsStay.{StayThere, stay-steps}
 use Rattle.node_world.proofs.Worlds.{happens-there, outcome-there, second-of, step-length}
 use Rattle.node_world.proofs.world.World.step.Goals as goal
 
@@ -31,3 +32,10 @@ returns-in-Some-clause-state c = λ w s may.
     (sym (with_items_is c.self.inside.nodes c.step_from.new.nodes many))
     (happens-there c.args.self.now c.step_from.new.nodes w s c.args.at c.in-Some.place place c.args.event.now c.step_from.result own
     (subst (λ (k : List KeptNode). NodesStep c.in-Some.place c.args.event.now c.step_from.result k c.step_from.new.nodes) old t))
+
+pub returns-in-Some-clause-points : goal.returns-in-Some-clause-points
+returns-in-Some-clause-points c =
+    let old : c.deref_mut.result.now ≡ c.args.self.now = c.deref_mut.ensures.value ∙ c.self.view_is in
+    let stay : StayThere c.deref_mut.result.now c.step_from.new.nodes =
+    stay-steps c.deref_mut.result.now c.step_from.new.nodes c.in-Some.place c.args.event.now c.step_from.result c.step_from.ensures.steps c.step_from.ensures.unchanged in
+    ap points_of (with_items_is c.self.inside.nodes c.step_from.new.nodes (stay.many ∙ c.deref_mut.ensures.len)) ∙ stay.points ∙ ap points_of old
