@@ -9,8 +9,8 @@ use Rattle.command_line.specs.declared.Words.{Words}
 use Rattle.command_line.specs.declared.Words.TheVariants as words
 
 -- run a script, on the built-in settings or on those of a file; check a file; run a lab script on the settings of two
--- files, over streams or over datagrams, or over streams on those of three files or more; serve a node with the settings
--- of a file; print the program's help, or its version; anything else
+-- files, over streams or over datagrams, or over streams on those of three files or more; serve a node with the
+-- settings of a file; print the program's help, or its version; anything else
 pub data Task : Type 0 where
   BuiltInRun : Task
   FileRun : List ℕ → Task

@@ -22,7 +22,7 @@ pub enum LinkStanding {
     Proving,
     /// The link is proved, and the peer isn't ready yet.
     AlignedReady,
-    /// The link carries messages.
+    /// The link is in service. It carries user messages, unless it waits for its first test.
     InService,
 }
 

@@ -1,4 +1,5 @@
--- What becomes of a message for a user part that isn't here: it is counted, and its sender is told by one message, or none.
+-- What becomes of a message for a user part that isn't here: it is counted, and its sender is told by one message, or
+-- none.
 use Rattle.exchange_rules.proofs.Basics.{◌≡◌, ◌≢◌, ◌<◌, ◌^◌, ◌+◌, ◌*◌, ◌%◌, ◌&&◌, ◌||◌, ℕ, Bool, true, false, not, nat_eq, nat_lt, nat_le, is_some, slice_set, slice_index_or, length, List, [], Option, Some, None, refl, ap, sym, subst, ◌∙◌, arith, if◌then◌else◌, nat_tests, position-Some, get_or-set_same, get_or-set_other}
 use Rattle.exchange_rules.proofs.Definitions.{Done, Message, flow_of, is_management, opc_of, service_indicator, Cause, Configuration, Management, IsManagement, destination_place, Node, with_parts, answer, refuse, Local, link_of, no_room, queue_on, send, is_unequipped_told, send_if, tell_unavailable, answer_no_user_part, unavailable, unequipped_counted, is_user, sccp, on_unitdata, local, manage, distribute, UserPartUnavailable, Unequipped, WholeQueues, whole}
 use Rattle.signalling_types.specs.declared.cause.Cause.TheVariants as causes

@@ -1,5 +1,5 @@
--- A link that begins to carry traffic takes over flows itself, and no flow moves to any other link: each flow whose link
--- changed is held.
+-- A link that begins to carry traffic takes over flows itself, and no flow moves to any other link: each flow whose
+-- link changed is held.
 use Rattle.exchange_rules.proofs.Basics.{◌≡◌, ◌≢◌, ◌<◌, ℕ, Bool, true, false, ◌&&◌, length, not, refl, ap, sym, ◌∙◌, ⊎_elim, length-set, length-map}
 use Rattle.exchange_rules.proofs.Definitions.{take_step, test_if, queue_if, send_test, awaiting_test, link_test, tests_links, no_room, Cause, HoldSet, Allowed, Facts, Link, Running, carries_traffic, is_in_service, with_status_over, chosen_link, Configuration, is_held, reset_shape, Parts, Node, with_parts, in_service, in_traffic, link_at, network_of, WholeQueues, whole, facts, change_back, set_of, has_other, enters, enters_traffic, is_first_test, test_passed, begun_anew_if, begun_anew, begin_traffic, step_on, HasPlacesFor, entries_hold_changed_flows}
 use Rattle.std.specs.Prelude.{Some, None, Option, map, if◌then◌else◌}

@@ -1,5 +1,5 @@
--- If nothing but ticks happens, no timer runs after a while that may take a link into service or out of it, those of tests
--- included. So all holds end.
+-- If nothing but ticks happens, no timer runs after a while that may take a link into service or out of it, those of
+-- tests included. So all holds end.
 use Rattle.exchange_rules.proofs.Basics.{◌≡◌, ◌≤◌, ◌-◌, ◌+◌, ℕ, zero, suc, Bool, true, false, List, [], ◌∷◌, ◌++◌, Option, Some, None, refl, ap, sym, ◌∙◌, subst, arith, is_some, false_from_ne_true as not-so, if◌then◌else◌, max}
 use Rattle.exchange_rules.proofs.Definitions.{Configuration, TimerName, is_running, Asking, Abstract, apply, after_each, first_state, link_at, tests_links, answer_ticks, pause_ticks, after_asking}
 use Rattle.link.specs.declared.period.Period.{Period}

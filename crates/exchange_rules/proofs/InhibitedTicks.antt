@@ -79,7 +79,8 @@ module _ (c : Configuration) (s d : ℕ) (first : Node WholeQueues) where
     ready : state_of first.parts link ≡ Proving true
     none : serves_set c first.parts s ≡ false
 
-  -- in the midst of it: links that are to enter service were to do so before, and while L4 is due none ceased to carry traffic
+  -- in the midst of it: links that are to enter service were to do so before, and while L4 is due none ceased to carry
+  -- traffic
   record Midst (n : Node WholeQueues) : Type 0 where
     proving : (link : ℕ) → state_of n.parts link ≡ Proving true → state_of first.parts link ≡ Proving true
     dues : (its : TimerName) → is_due n.parts.timers its ≡ true → is_due first.parts.timers its ≡ true

@@ -1,5 +1,5 @@
--- The tests of links, and links that take a step: what is kept of the node that a rule leaves is what the rule leaves of
--- what was kept, and it stays sound. Over any two kinds of queues P and Q of which h keeps one as the other.
+-- The tests of links, and links that take a step: what is kept of the node that a rule leaves is what the rule leaves
+-- of what was kept, and it stays sound. Over any two kinds of queues P and Q of which h keeps one as the other.
 use Rattle.exchange_rules.proofs.Basics.{ℕ, Bool, true, false, ◌&&◌, Option, Some, None, refl, ap, ◌∙◌}
 use Rattle.exchange_rules.proofs.Definitions.{enters_traffic, is_first_test, pass_test, begun_anew, Message, Configuration, Cause, Handled, Ignored, Transition, LinkTestValue, Node, QueueKind, keep, with_parts, answer, link_at, in_service, facts, enters, moved_on, take_step, test_if, advance, no_room, link_test, tests_links, passes_test, awaiting_test, with_test_failed, test_passed, queue_if, send_test, begin_test, repeat_test, test_unanswered, on_test_answer}
 use Rattle.exchange_rules.proofs.Combining.{IsKeeping, KeepsNode, Keeps, changed, answered, parted, either, either_node, behind_node}

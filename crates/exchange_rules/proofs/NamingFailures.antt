@@ -1,5 +1,5 @@
--- What it is that links that go down are named as failed, and those alone: of what changes no link, of what changes one,
--- and of one after another.
+-- What it is that links that go down are named as failed, and those alone: of what changes no link, of what changes
+-- one, and of one after another.
 use Rattle.exchange_rules.proofs.Basics.{◌≡◌, ◌≢◌, ◌<◌, ◌≤◌, ◌⊎◌, inl, inr, ℕ, Bool, true, false, List, [], ◌∷◌, ◌++◌, length, refl, ap, sym, ◌∙◌, subst, arith, ⊎_elim, cases_eq, cases_lt, get_or_past, get_or-set_same, get_or-set_other, length-set, count_by}
 use Rattle.exchange_rules.proofs.Definitions.{Period, Notice, note, noted_all, FailureReason, Input, Go, Transition, action_at, Alignment, state_number, Link, down_link, is_down, Node, link_at, links_with, down, WholeQueues}
 use Rattle.std.specs.Prelude.{Contains}
@@ -15,8 +15,8 @@ use Rattle.exchange_rules.proofs.ProvedFirst.{kind_of, leads, each-leads}
 use Rattle.exchange_rules.proofs.Steps.{Deed, LinkOpens, LinkFails, is_failure}
 use Rattle.exchange_rules.proofs.WillEnding.{no-way}
 
--- each link that goes down is named as failed, and each that is named may fail for that reason, and goes down; unless it
--- opens meanwhile
+-- each link that goes down is named as failed, and each that is named may fail for that reason, and goes down; unless
+-- it opens meanwhile
 pub record Names (May : Deed → Type 0) (n m : Node WholeQueues) : Type 0 where
   pub made : List Notice
   pub noted : m.parts.notices ≡ noted_all made n.parts.notices

@@ -257,8 +257,9 @@ sends-of s = record {
   lost = λ notice n e. s.both _ _ _ (s.lost n) (s.noted notice _ (record { other = loss-other notice e; lost = λ f. refl; late = λ f. absurd (not-both notice e f) }));
 }
 
--- what not every event may do: a link opens, or fails for a reason, a set comes back by a test, the holds of a procedure
--- end, a message for a user part that isn't here is counted, and translation rows or prohibited subsystems change
+-- what not every event may do: a link opens, or fails for a reason, a set comes back by a test, the holds of a
+-- procedure end, a message for a user part that isn't here is counted, and translation rows or prohibited subsystems
+-- change
 pub data Deed : Type 0 where
   LinkOpens : (link : ℕ) → Deed
   SetReturns : (set : ℕ) → Deed

@@ -19,8 +19,8 @@ use Rattle.exchange_rules.specs.State.{Parts}
 
 -- ---- an SSP and an SSA
 
--- an SSP or an SSA leaves what is known of each other subsystem. An SSP about one that is prohibited changes nothing, so
--- its test comes when it would; of one that wasn't, the first test comes after all the ticks between two
+-- an SSP or an SSA leaves what is known of each other subsystem. An SSP about one that is prohibited changes nothing,
+-- so its test comes when it would; of one that wasn't, the first test comes after all the ticks between two
 pub record IsKnownAs (sst : ℕ) (news : SubsystemNews) (titles : TitlesValue) : Type 0 where
   pub others : (subsystem : Subsystem) → is_same subsystem news.subsystem ≡ false →
       known_of subsystem (heard sst news titles).prohibited ≡ known_of subsystem titles.prohibited

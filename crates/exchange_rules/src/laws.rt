@@ -136,8 +136,8 @@ pub fn failures_hold_the_flows_that_fail()
 {}
 
 /// When a link enters service, or passes a test, each flow whose link changed from one link to another is held; and
-/// what was held stays held. This holds for every node that has a place for each link, set and destination of its settings, and every
-/// exchange has (`Exchange::has_its_places`).
+/// what was held stays held. This holds for every node that has a place for each link, set and destination of its
+/// settings, and every exchange has (`Exchange::has_its_places`).
 pub fn flows_that_change_their_link_are_held()
     ensures entered { entries_hold_changed_flows }
     ensures tested { tests_hold_changed_flows }

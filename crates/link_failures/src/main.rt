@@ -1,8 +1,8 @@
 //! Two nodes whose links stop and come back, at each place of a busy exchange and at random.
 //!
-//! Two nodes (`Network` of `network_world`) with the built-in timers have one to four links of one set between them, and
-//! each other as the one destination. All that is done is a `Network::turn`. A round is, for each end and each link in
-//! order, a frame that is taken and then delivered at the other end. Each message carries its flow in its label, and
+//! Two nodes (`Network` of `network_world`) with the built-in timers have one to four links of one set between them,
+//! and each other as the one destination. All that is done is a `Network::turn`. A round is, for each end and each link
+//! in order, a frame that is taken and then delivered at the other end. Each message carries its flow in its label, and
 //! after that its number in the flow: the accepted messages of a flow are numbered 1, 2, 3 and so on.
 //!
 //! # What a line says

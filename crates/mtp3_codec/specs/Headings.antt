@@ -51,8 +51,8 @@ cause_code Inaccessible = 2
 abbrev pub cause_of_code : ℕ → UnavailabilityCause
 cause_of_code code = if code == 1 then Unequipped else if code == 2 then Inaccessible else Unknown
 
--- a user part and why it is unavailable before the fields: the part's service indicator in the low half of an octet, the
--- cause in the high half
+-- a user part and why it is unavailable before the fields: the part's service indicator in the low half of an octet,
+-- the cause in the high half
 abbrev pub part_octet : ℕ → UnavailabilityCause → ℕ
 part_octet user_part cause = user_part + cause_code cause * 16
 

@@ -1,5 +1,5 @@
--- One link changes, but neither its alignment, its changeover nor whether it has a test to pass; or only timers, notices or translation rows change:
--- the same pair is shown.
+-- One link changes, but neither its alignment, its changeover nor whether it has a test to pass; or only timers,
+-- notices or translation rows change: the same pair is shown.
 use Rattle.pair_rules.proofs.Basics.{◌≡◌, ℕ, List, [], refl, ap, sym, ◌∙◌, slice_set}
 use Rattle.pair_rules.proofs.Definitions.{Message, Outcome, Handled, Held, Ignored, Local, Queued, Refused, Configuration, TitleEntry, Alignment, Running, Link, down_link, is_down, Node, Noted, with_parts, link_at, WholeQueues, note_outcome, with_titles, StaysFit, fit-steps, alike-at, each-set}
 use Rattle.sccp_relay.specs.Statuses.{TitlesValue}

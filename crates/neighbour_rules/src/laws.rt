@@ -115,8 +115,9 @@ pub fn flows_stay_between_the_two()
 {}
 
 /// Nothing is held in vain, at either end (Q.704 §16.8). A changeover that holds a flow isn't complete, and has T1
-/// running, or its answer awaited and T2 running. T4 of a code that holds one runs, and so do T3 of a link that holds
-/// one by time and T6 of a destination whose flows are rerouted. This holds whatever has been lost.
+/// running, or its answer awaited and T2 running; or its link is in service while the peer's processor is out, and L6
+/// runs. T4 of a code that holds one runs, and so do T3 of a link that holds one by time and T6 of a destination whose
+/// flows are rerouted. This holds whatever has been lost.
 pub fn nothing_is_held_in_vain()
     ensures { nothing_is_held_in_vain }
 {}
@@ -124,9 +125,10 @@ pub fn nothing_is_held_in_vain()
 /// Of two nodes that have only each other, at either end: received means delivered, or handled by SCCP. A frame that is
 /// handed in comes to Local exactly if what the end received grew by a message of a user part that its settings list,
 /// or by one of SCCP for a subsystem there; to NoUserPart exactly if it grew by one of another part; and to Queued or
-/// Held exactly if it grew by one of SCCP that goes on by its title. What the end accepted then grew by that message as
-/// its relay wrote it, and by nothing else. If one of SCCP is refused, it grew by the UDTS or XUDTS that returns it, or
-/// by nothing; otherwise it didn't grow (Q.704 §2.4, Q.714 §2.3, §4.2). This holds even if a message may be lost.
+/// Held only if it grew by one of SCCP that its row leads to another point, or that tests a subsystem there. What the
+/// end accepted then grew by that message as its relay wrote it, or by the SSA that answers it, and by nothing else. If
+/// one of SCCP is refused, by its relay or on its way on, it grew by the UDTS or XUDTS that returns it, or by nothing;
+/// otherwise it didn't grow (Q.704 §2.4, Q.714 §2.3, §4.2, §5.3.4). This holds even if a message may be lost.
 pub fn deliveries_tell_what_came()
     ensures { deliveries_tell }
 {}

@@ -1,4 +1,5 @@
--- What the far end of a link received and didn't confirm: how it goes as a queue grows, as some are confirmed, and as a changeover ends.
+-- What the far end of a link received and didn't confirm: how it goes as a queue grows, as some are confirmed, and as a
+-- changeover ends.
 use Rattle.exchange_rules.proofs.Basics.{◌≡◌, ◌≢◌, ◌<◌, ◌≤◌, ◌+◌, ◌-◌, ◌%◌, ℕ, zero, suc, Bool, List, [], ◌∷◌, ◌++◌, length, Some, Ok, refl, ap, sym, subst, ◌∙◌, arith, take, ⊎_elim, cases_eq, slice_set, slice_index_or, get_or-set_same, get_or-set_other, take-append-drop}
 use Rattle.std.proofs.Common.{drop}
 use Rattle.std.proofs.lemmas.List.{drop-append-le, take-append-le, drop-drop, length-drop}

@@ -1,4 +1,5 @@
--- Ends that are alike stay so: as the same changes on a link between the two, and as anything changes on one that leads elsewhere.
+-- Ends that are alike stay so: as the same changes on a link between the two, and as anything changes on one that leads
+-- elsewhere.
 use Rattle.pair_rules.proofs.Basics.{◌≡◌, ◌≢◌, ◌<◌, ◌≤◌, ℕ, Bool, true, false, List, [], ◌∷◌, ◌++◌, length, refl, ap, sym, subst, ◌∙◌, slice_index_or, slice_set, slice_get, drop, take, ⊎_elim, cases_eq, cases_lt, get_or_past, get_or-set_other, get_or-set_same, length-set}
 use Rattle.pair_rules.proofs.Definitions.{Configuration, FrameValue, EmptyFrame, MessageFrame, StatusFrame, spelled, Streams}
 use Rattle.pair_rules.specs.Pairs.{emptied, launched, with_status_twice, without_data, without_status}

@@ -1,4 +1,5 @@
--- Lists of moves of a network, and of other changes, as each two of its nodes that share a set see them; and nobody speaks for another meanwhile.
+-- Lists of moves of a network, and of other changes, as each two of its nodes that share a set see them; and nobody
+-- speaks for another meanwhile.
 use Rattle.pair_rules.proofs.Basics.{◌≡◌, ◌≢◌, ℕ, true, false, List, [], ◌∷◌, ◌++◌, refl, ap, sym, subst, ◌∙◌, length, map}
 use Rattle.std.specs.Prelude.{nat_lt}
 use Rattle.pair_rules.proofs.Definitions.{Message, Configuration, Queue, first_queue, queue_at, PairState, first_pair, turned, in_flight, each-replicate, read_frame}

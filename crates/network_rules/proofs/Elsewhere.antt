@@ -1,4 +1,5 @@
--- What one of two nodes of a network sends on a link that leads elsewhere carries no management of one of the two for the other.
+-- What one of two nodes of a network sends on a link that leads elsewhere carries no management of one of the two for
+-- the other.
 use Rattle.pair_rules.proofs.Basics.{◌≡◌, ◌≢◌, ◌&&◌, ◌||◌, ℕ, Bool, true, false, not, List, Option, Some, None, refl, ap, sym, ◌∙◌, slice_get, eq-eqb, list_any, option_to_list}
 use Rattle.pair_rules.proofs.Definitions.{Message, Configuration, FrameValue, whole, queue_at, spelled, frame_to_take, link_with_code, set_of}
 use Rattle.pair_moves.specs.Sayings.{Other}

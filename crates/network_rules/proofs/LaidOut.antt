@@ -1,4 +1,5 @@
--- A network whose nodes are at points 1, 2 and 3, as three nodes: so a step computes the node at which it is done, once.
+-- A network whose nodes are at points 1, 2 and 3, as three nodes: so a step computes the node at which it is done,
+-- once.
 use Rattle.pair_rules.proofs.Basics.{◌≡◌, ℕ, Bool, true, false, List, [], ◌∷◌, Option, Some, None, nat_eq, refl, ap, sym, ◌∙◌, arith, if◌then◌else◌}
 use Rattle.pair_rules.proofs.Definitions.{FrameValue, Nothing, Open, Close, frame_to_take, wants_of, whole}
 use Rattle.exchange_rules.proofs.Basics.{eqb-true}

@@ -1,4 +1,5 @@
--- An event that counts no loss loses nothing, and no changeover ends in it without a reasonable number. What was counted isn't taken back.
+-- An event that counts no loss loses nothing, and no changeover ends in it without a reasonable number. What was
+-- counted isn't taken back.
 use Rattle.exchange_rules.proofs.Basics.{◌≡◌, ◌<◌, ◌≤◌, ◌+◌, ◌-◌, ◌^◌, ℕ, zero, suc, List, [], ◌∷◌, ◌++◌, map, filter, refl, sym, subst, ◌∙◌, arith, cond, count_by, sum_by-cons}
 use Rattle.exchange_rules.proofs.Definitions.{counted, names_a_message, losses_of, tells_of_loss, Notice, Message, whole, Abstract, Happening, handle_event, gone, gone_by, gone_by_release}
 use Rattle.exchange_rules.specs.State.{Asking, AsksWants, Happens, Takes, once_more}

@@ -1,4 +1,5 @@
--- What an event lets go of queues: what a frame confirms, and what a word of the peer says that it received; else a changeover ends with no reasonable number.
+-- What an event lets go of queues: what a frame confirms, and what a word of the peer says that it received; else a
+-- changeover ends with no reasonable number.
 use Rattle.exchange_rules.proofs.Basics.{◌≡◌, ◌<◌, ◌&&◌, ℕ, Bool, true, false, not, List, [], Option, Some, None, Result, Ok, Err, refl, subst, arith, if◌then◌else◌, nat_eq}
 use Rattle.exchange_rules.proofs.Definitions.{Message, is_management, opc_of, service_indicator, Configuration, Management, TrafficRestartAllowed, ExtendedChangeoverOrder, ExtendedChangeoverAcknowledgement, EmergencyChangeoverOrder, EmergencyChangeoverAcknowledgement, ChangebackDeclaration, ChangebackAcknowledgement, TransferProhibited, TransferRestricted, TransferAllowed, RouteSetTestProhibited, RouteSetTestRestricted, MgmtFault, Discrimination, Allowed, Restricted, Prohibited, Node, Done, with_parts, answer, refuse, WholeQueues, whole, destination_place, set_place, link_with_code, route_about, is_adjacent, testing, read_link_test, read_management, from_afar, UserPartUnavailable}
 use Rattle.exchange_rules.proofs.Definitions.{Gone, nothing_gone, gone_by_completion, gone_by_order, gone_by_answer, gone_by_word, gone_by_message, gone_by_new}
@@ -14,7 +15,8 @@ use Rattle.network_rules.proofs.Passing.{IsFine, IsPassing, each-sent, routed, s
 use Rattle.network_rules.proofs.PassingLinks.{do_test-keeps, confirmed-keeps}
 use Rattle.network_rules.proofs.Growing.{AreGrown, Grows, MayMake, all-any, any_message, any-fine, grown-same, grown-then, growing}
 
--- nothing goes; or the changeover of a link ends by a number that was said, and all that it names goes; or one ends with no reasonable number
+-- nothing goes; or the changeover of a link ends by a number that was said, and all that it names goes; or one ends
+-- with no reasonable number
 pub data Does (Said : (link number : ℕ) → Type 0) (qs : WholeQueues) (m : Node WholeQueues) (g : Gone) : Type 0 where
   grows : AreGrown qs m.queues → g.accepted ≡ [] → g.lost ≡ [] → Does Said qs m g
   ends : (link number : ℕ) → Said link number → AreGrown (whole.completed qs link (Some number)) m.queues → (whole.found qs link (Some number)).is_reasonable ≡ true

@@ -1,5 +1,5 @@
--- Whatever happens at a node, what then stands in its queues and in Held stood there before, was made there, is a user message, or came by the frame: so what
--- is fine of all these is fine of all that stands there.
+-- Whatever happens at a node, what then stands in its queues and in Held stood there before, was made there, is a user
+-- message, or came by the frame: so what is fine of all these is fine of all that stands there.
 use Rattle.exchange_rules.proofs.Basics.{◌<◌, ◌^◌, ◌%◌, arith, ◌≡◌, ◌&&◌, ℕ, zero, suc, Bool, true, false, not, List, [], ◌∷◌, ◌++◌, Option, Some, None, Result, Ok, Err, refl, ◌∙◌, if◌then◌else◌, nat_eq, nat_lt, length, list_all, and_from as pair}
 use Rattle.std.proofs.lemmas.List.Folds.{list_all-append}
 use Rattle.exchange_rules.proofs.Definitions.{Message, is_management, dpc_of, flow_of, service_indicator, Configuration, Cause, Management, ExtendedChangeoverOrder, ChangebackDeclaration, RouteSetTestProhibited, RouteSetTestRestricted, LinkTestValue, RelayedValue, relay, returned, FailureReason, LinkStatus, LinkTimer, Transition, Expiry, Facts, RouteStatus, Allowed, Restricted, Prohibited, RouteTest, Heard, Owed, Node, Done, Parts, with_parts, answer, refuse, WholeQueues, whole, queue_on, hold, declaration, test_answer, link_of, no_room, no_room_for, waits, is_destination, destination_place, link_at, down, in_service, set_of, peer_of, point_of, adjacent_of, telling, entry_of, facts, owed}
@@ -26,7 +26,8 @@ pub record IsFine (c : Configuration) (fine : Message → Bool) : Type 0 where
   pub probed : (link : ℕ) → fine (link_test c link) ≡ true
   pub users : (m : Message) → is_management m ≡ false → fine m ≡ true
 
--- R holds of what rules do that no changeover ends by and no frame: parts change, and a message that is fine goes to the end of a queue, or into Held
+-- R holds of what rules do that no changeover ends by and no frame: parts change, and a message that is fine goes to
+-- the end of a queue, or into Held
 pub record IsPassing (c : Configuration) (fine : Message → Bool) (R : Node WholeQueues → Node WholeQueues → Type 0) : Type 0 where
   pub same : (n m : Node WholeQueues) → m.queues ≡ n.queues → R n m
   pub both : (n m o : Node WholeQueues) → R n m → R m o → R n o

@@ -1,5 +1,5 @@
--- In a network nobody speaks for another: no frame that comes to one of two nodes that share a set by a link that leads elsewhere carries management of one of
--- them for the other.
+-- In a network nobody speaks for another: no frame that comes to one of two nodes that share a set by a link that leads
+-- elsewhere carries management of one of them for the other.
 use Rattle.pair_rules.proofs.Basics.{◌≡◌, ◌≢◌, ℕ, zero, suc, Bool, true, false, List, [], ◌∷◌, Option, Some, None, refl, ap, sym, subst, ◌∙◌, nat_eq, slice_get, slice_set, slice_index_or, drop, take, if◌then◌else◌, ⊎_elim, cases_eq}
 use Rattle.exchange_rules.proofs.Basics.{eqb-true}
 use Rattle.pair_rules.proofs.Definitions.{Message, Configuration, LinkEntry, IsWell, FrameValue, EmptyFrame, MessageFrame, StatusFrame, Happening, FrameCame, Open, Nothing, Close, whole, queue_at, apply, after, Streams, in_flight, spelled, frame_to_take, wants_of}

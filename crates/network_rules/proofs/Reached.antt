@@ -1,4 +1,5 @@
--- States that a network comes to: the settings of its nodes stay, each node has its places and its links are steady, and losses are counted on.
+-- States that a network comes to: the settings of its nodes stay, each node has its places and its links are steady,
+-- and losses are counted on.
 use Rattle.pair_rules.proofs.Basics.{◌≡◌, ◌≢◌, ◌<◌, ◌≤◌, ◌+◌, ◌-◌, ◌^◌, ℕ, Bool, true, false, List, [], ◌∷◌, refl, sym, subst, ◌∙◌, arith, nat_eq, if◌then◌else◌, ⊎_elim, cases_eq, cases_lt}
 use Rattle.pair_rules.proofs.Definitions.{Configuration, IsWell, CameUp, FrameCame, Submitted}
 use Rattle.exchange_rules.specs.State.{Asking, AsksWants, Happens, Takes}

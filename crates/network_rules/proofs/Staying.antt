@@ -1,4 +1,5 @@
--- An event takes in what it brings, and of what waits at a node nothing goes: what goes for good was received at the far ends.
+-- An event takes in what it brings, and of what waits at a node nothing goes: what goes for good was received at the
+-- far ends.
 use Rattle.exchange_rules.proofs.Basics.{◌≡◌, ◌<◌, ◌≤◌, ◌⊎◌, inl, inr, ◌+◌, ◌-◌, ℕ, zero, suc, Bool, List, [], ◌∷◌, length, refl, ap, sym, subst, ◌∙◌, arith, take, sum_by, sum_by-cons, ⊎_elim, cases_lt, slice_index_or, get_or_past}
 use Rattle.std.proofs.Common.{drop}
 use Rattle.exchange_rules.proofs.Definitions.{Message, Configuration, Queue, first_queue, unconfirmed, IsQueue, AreQueues, WholeQueues, queue_at, whole, Abstract, users_that, standing, gone_that, Gone, both_gone, gone, gone_by, gone_by_new, gone_by_release, gone_by_tick, brought_in, new_message, accept_text, read_frame, HasAllPlaces, AreLinksSteady, Happening, CameUp, WentDown, FrameCame, Ticked, Submitted, Activated, Deactivated, TitleAdded, TitleRemoved, handle_event, Happens}

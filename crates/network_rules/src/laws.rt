@@ -126,9 +126,8 @@ pub fn messages_pass_through()
 
 /// A node accepts what it is to pass on in the order in which it came: of the user messages, what came for another
 /// point is made up of those that it accepted and those that it refused, and what it accepted of these and those that
-/// entered there, each in order. This holds whatever is done or lost, and however often nodes start again, or whatever
-/// comes from outside; in which
-/// order they leave, the hops say.
+/// entered there, each in order. This holds whatever is done or lost, however often nodes start again, and whatever
+/// comes from outside; in which order they leave, the hops say.
 pub fn nodes_pass_on_in_order()
     ensures each { each_node_passes_in_order }
     ensures outside { each_node_passes_what_comes_in_order }

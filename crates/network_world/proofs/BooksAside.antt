@@ -1,5 +1,5 @@
--- What a network books doesn't matter to what becomes of it: but for the books, it comes to the same, whether these begin
--- anew before or after some changes.
+-- What a network books doesn't matter to what becomes of it: but for the books, it comes to the same, whether these
+-- begin anew before or after some changes.
 use Rattle.std.proofs.Common.{◌≡◌, ℕ, Bool, true, false, List, [], ◌∷◌, Option, Some, None, nat_eq, refl, ap, sym, subst, ◌∙◌}
 use Rattle.std.specs.Prelude.{if◌then◌else◌, slice_get}
 use Rattle.settings_rows.specs.Configuration.{Configuration, LinkEntry}

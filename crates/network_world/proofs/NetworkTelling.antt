@@ -1,4 +1,5 @@
--- What a delivery at a node of a network comes to tells what it brought, where the node and another have only each other.
+-- What a delivery at a node of a network comes to tells what it brought, where the node and another have only each
+-- other.
 use Rattle.std.proofs.Common.{◌≡◌, ℕ, Bool, false, List, length, Option, Some, None, drop, refl, ap, sym, subst}
 use Rattle.std.specs.Prelude.{slice_get}
 use Rattle.settings_rows.specs.Configuration.{Configuration}

@@ -1,4 +1,5 @@
--- Each node of a network that some moves led to has all its places, its settings, and two lists of frames for each link.
+-- Each node of a network that some moves led to has all its places, its settings, and two lists of frames for each
+-- link.
 use Rattle.std.proofs.Common.{◌≡◌, ◌≤◌, ℕ, Bool, true, false, List, [], ◌∷◌, length, Option, Some, None, inl, inr, ◌⊎◌, nat_eq, refl, sym, subst, ◌∙◌, arith}
 use Rattle.std.specs.Prelude.{if◌then◌else◌, slice_get}
 use Rattle.std.proofs.lemmas.List.{length-replicate, length-set}

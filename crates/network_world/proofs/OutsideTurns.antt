@@ -1,4 +1,5 @@
--- A network that stood for an abstract one stands for that after what comes by a link that leads out, or goes out by it.
+-- A network that stood for an abstract one stands for that after what comes by a link that leads out, or goes out by
+-- it.
 use Rattle.std.proofs.Common.{arith, ◌≡◌, ◌<◌, ℕ, Bool, true, false, not, List, [], ◌∷◌, length, Option, Some, None, nat_eq, refl, ap, sym, subst, ◌∙◌}
 use Rattle.std.specs.Prelude.{nat_lt, position, slice_get}
 use Rattle.std.proofs.lemmas.Bool.Decides.{nat_tests}

@@ -56,8 +56,8 @@ GivesTitle (Err cause) read = read ≡ Err cause
 
 -- ---- writing
 
--- the octets of digits, two in each, the first in the low half; the last high half of an odd number of digits is filler,
--- 0
+-- the octets of digits, two in each, the first in the low half; the last high half of an odd number of digits is
+-- filler, 0
 abbrev pub packed : List ℕ → List ℕ
 packed [] = []
 packed (low ∷ []) = low ∷ []

@@ -17,8 +17,8 @@ use sccp_codec::{
 use signalling_types::{Limits, PointCode};
 
 /// Writes the SSA that answers a message for this subsystem here at the front of the field that is lent, and returns
-/// how many octets it has. None if the message is none to answer: a UDT for SCCP management with an SST about this point
-/// and a subsystem that is here, from another point, where tests are answered (Q.714 §5.3.4).
+/// how many octets it has. None if the message is none to answer: a UDT for SCCP management with an SST about this
+/// point and a subsystem that is here, from another point, where tests are answered (Q.714 §5.3.4).
 pub(crate) fn answer<W: Ways>(
     message: &Message<'_>,
     ssn: Option<u8>,

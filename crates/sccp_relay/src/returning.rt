@@ -43,8 +43,8 @@ const KEPT_OCTETS: usize = 2 + 4 + 2 + 1 + 1;
 /// may hold anything (Q.714 §4.2).
 ///
 /// None if the message is neither a UDT nor an XUDT, or doesn't ask for a return on error; if the cause is none of
-/// NoNature, NoDigits, SubsystemProhibited, Unequipped, HopCounter, UnknownDestination, NoRoute and TooLong; and if what
-/// returns it would go to this point or to a prohibited subsystem, finds no translation, or would be too long.
+/// NoNature, NoDigits, SubsystemProhibited, Unequipped, HopCounter, UnknownDestination, NoRoute and TooLong; and if
+/// what returns it would go to this point or to a prohibited subsystem, finds no translation, or would be too long.
 #[tactic(auto, unfolding(crate::specs::Returning::returned))]
 pub fn returned<W: Ways>(
     sif: &[u8],

@@ -46,7 +46,8 @@ unfoldable pub ssn_at : ℕ → List ℕ → Members → Result (Option ℤ) Set
 ssn_at i route t = ssn_in i route (get_member (codes "ssn") t)
 
 -- how a translation row changes titles, if the version of the file has these keys: the numbering plan and the nature of
--- address that they get, how many digits are taken off, and which are put on. Each may be left out, and is no change then
+-- address that they get, how many digits are taken off, and which are put on. Each may be left out, and is no change
+-- then
 unfoldable pub change_at : (has_keys : Bool) → ℕ → Members → Result WrittenChange SettingsFault
 change_at has_keys i t =
     and_then (optional_integer_at has_keys (codes "new_plan") (key.TitleNewPlan i) t) (λ plan.

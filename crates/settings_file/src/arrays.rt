@@ -238,8 +238,8 @@ pub(crate) fn destinations(
     each_destination(alloc, has_joined, values)
 }
 
-/// The translation rows of a file, which may have none, and whose version has the keys of changed titles or doesn't have
-/// them.
+/// The translation rows of a file, which may have none, and whose version has the keys of changed titles or doesn't
+/// have them.
 #[tactic(auto, unfolding(crate::specs::Entries::titles_at))]
 pub(crate) fn titles(
     alloc: Global,

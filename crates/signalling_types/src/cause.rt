@@ -54,8 +54,8 @@ pub enum Cause {
     HopCounter = 23,
     /// The link of the message keeps as many messages as its share allows.
     ShareFull = 24,
-    /// The subsystem of an SCCP message is known to be prohibited at the point that the message is led to, and so is the
-    /// backup's (Q.714 §5.3.2).
+    /// The subsystem of an SCCP message is known to be prohibited at the point that the message is led to, and so is
+    /// the backup's (Q.714 §5.3.2).
     SubsystemProhibited = 25,
 }
 

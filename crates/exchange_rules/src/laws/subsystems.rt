@@ -23,10 +23,10 @@ pub fn subsystems_are_as_their_points_say()
     ensures known { news_change_one }
 {}
 
-/// At first no subsystem is prohibited. Rows and prohibited subsystems change only by what is heard, by a tick, and by
-/// an order about rows; that leaves which subsystems are prohibited. No take changes them. After a tick the points of
-/// all that are prohibited are reached: what was known of the others is forgotten (Q.714 §5.2.3). One to which no row
-/// leads any more is forgotten as its test is due, and not before.
+/// At first no subsystem is prohibited. Rows and prohibited subsystems change only by what is heard, just as that says,
+/// by a tick, and by an order about rows; that leaves which subsystems are prohibited. No take changes them. After a
+/// tick the points of all that are prohibited are reached: what was known of the others is forgotten (Q.714 §5.2.3).
+/// One to which no row leads any more is forgotten as its test is due, and not before.
 pub fn subsystems_are_forgotten_with_their_points()
     ensures first { none_is_prohibited_at_first }
     ensures others { nothing_else_changes_titles }
@@ -39,8 +39,8 @@ pub fn subsystems_are_forgotten_with_their_points()
 {}
 
 /// While its point is reached and a row leads to it, a subsystem stays prohibited until its SSA comes, and a test of it
-/// is due every `sst` ticks. That is an SST about it, for SCCP management at its point (Q.714 §5.3.4). One goes out of
-/// each of which a test is due, and of no other.
+/// is due every `sst` ticks. That is an SST about it, for SCCP management at its point (Q.714 §5.3.4). There is one to
+/// submit for each of which a test is due, and for no other.
 pub fn prohibited_subsystems_are_tested()
     ensures stay { reached_ones_stay }
     ensures turns { tests_come_in_turn }
