@@ -9,8 +9,9 @@
  * User Data whose field has the routing label and the message's number.
  *
  * With `stay` it outlives its associations: where one is lost, it gives up what isn't acknowledged, and opens or awaits
- * the next. Its messages are numbered from FIRST on. What comes has to have rising numbers, so nothing may come twice.
- * It ends at SIGTERM. With `abort` or `shutdown` it ends its first association so once AFTER messages came. */
+ * the next. It sends no more than half of its messages in one. They are numbered from FIRST on. What comes has to have
+ * rising numbers, so nothing may come twice. It ends at SIGTERM. With `abort` or `shutdown` it ends its first
+ * association so once AFTER messages came. */
 #include <arpa/inet.h>
 #include <errno.h>
 #include <signal.h>
@@ -107,8 +108,9 @@ static unsigned field_length(unsigned number) { return number < count ? LOAD : 0
 static unsigned field_length(unsigned number) { return 8 + number * 7919u % (MOST_FIELD - 8 + 1); }
 #endif
 
-/* whether the next message goes: with LOAD only some seconds after the link is in service, and no further ahead of what
- * came than AHEAD, so that no node in between fills */
+/* whether the next message goes: where this end stays, only if enough are left for the next association; with LOAD only
+ * some seconds after the link is in service, and no further ahead of what came than AHEAD, so that no node in between
+ * fills */
 static int may_send(void) {
 #ifdef LOAD
 	enum { AHEAD = 8192, REST_S = 3 };
@@ -116,6 +118,7 @@ static int may_send(void) {
 	if (!since) since = time(NULL);
 	if (time(NULL) - since < REST_S || sent >= received + AHEAD) return 0;
 #endif
+	if (stays && sent - before >= count / 2) return 0;
 	return sent < count && sent - acknowledged < WINDOW;
 }
 

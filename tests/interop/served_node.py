@@ -144,7 +144,7 @@ class End:
     """The M2PA end over usrsctp, as a process."""
 
     def __init__(self, program, run: Run, udp: int, relay: int, stays: bool, first: int = 0) -> None:
-        # one that stays sends more, so that it hasn't sent everything when the association ends
+        # one that stays sends half of them in an association, and so has the other half for the next
         count = 2 * run.count if stays else run.count
         words = [program, udp, relay, END_SCTP, NODE_SCTP, run.end_mode, END, NODE, count]
         words += ["stay", first] if stays else []
@@ -237,8 +237,7 @@ def go_on(setting: Setting) -> str:
     end = setting.end(stays=True)
     traffic = first = Traffic(node, 0, ends=True)
     wait_until(setting.in_service, "the link is in service")
-    # the end that ends it does so once a third has reached it; otherwise it is ended here, before the end has sent
-    # everything
+    # the end that ends it does so once a third has reached it; otherwise it is ended here
     traffic.submit(run.count // 2 if run.ending in ("abort", "shutdown") else BURST)
     traffic.hear_until(lambda: traffic.judge.received >= run.count // 3)
     end, traffic = end_it(setting, end, traffic)
