@@ -313,6 +313,7 @@ static void prepare(unsigned far_udp_port, unsigned port) {
 	usrsctp_sysctl_set_sctp_rto_min_default(100);
 	usrsctp_sysctl_set_sctp_rto_max_default(1000);
 	usrsctp_sysctl_set_sctp_rto_initial_default(300);
+	usrsctp_sysctl_set_sctp_heartbeat_interval_default(500); /* so that an idle end misses its peer, too */
 	usrsctp_sysctl_set_sctp_delayed_sack_time_default(20);
 	sock = usrsctp_socket(AF_INET, SOCK_SEQPACKET, IPPROTO_SCTP, NULL, NULL, 0, NULL);
 	if (!sock) fail("no socket");
