@@ -9,7 +9,7 @@
  * User Data whose field has the routing label and the message's number.
  *
  * With `stay` it outlives its associations: where one is lost, it gives up what isn't acknowledged, and opens or awaits
- * the next. It sends no more than half of its messages in one. They are numbered from FIRST on. What comes has to have
+ * the next. It sends no more than half of its messages in any one. They are numbered from FIRST on. What comes has to have
  * rising numbers, so nothing may come twice. It ends at SIGTERM. With `abort` or `shutdown` it ends its first
  * association so once AFTER messages came. */
 #include <arpa/inet.h>
@@ -313,7 +313,7 @@ static void prepare(unsigned far_udp_port, unsigned port) {
 	usrsctp_sysctl_set_sctp_rto_min_default(100);
 	usrsctp_sysctl_set_sctp_rto_max_default(1000);
 	usrsctp_sysctl_set_sctp_rto_initial_default(300);
-	usrsctp_sysctl_set_sctp_heartbeat_interval_default(500); /* so that an idle end misses its peer, too */
+	usrsctp_sysctl_set_sctp_heartbeat_interval_default(500); /* an idle end, too, is to notice that its peer is gone */
 	usrsctp_sysctl_set_sctp_delayed_sack_time_default(20);
 	sock = usrsctp_socket(AF_INET, SOCK_SEQPACKET, IPPROTO_SCTP, NULL, NULL, 0, NULL);
 	if (!sock) fail("no socket");
