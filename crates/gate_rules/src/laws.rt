@@ -29,7 +29,7 @@ pub fn each_message_comes_once()
 {}
 
 /// "Order" over datagrams, of two nodes with gates, in both directions. While neither exchange may have lost a message,
-/// and no timer of the accepting node ended a hold, the user messages of a flow to the other that one node accepted
+/// and no T3 or T4 of the accepting node ended a hold, the user messages of a flow to the other that one node accepted
 /// are, in order, those that the other received, and then those that wait.
 pub fn each_flow_keeps_its_order()
     ensures { each_flow_in_order }

@@ -64,7 +64,7 @@ Always Statement =
 abbrev pub each_message_once : Type 0
 each_message_once = Always (λ p. LostNothing p → BothWays EachOnce p)
 
--- "Order", if furthermore no timer of the accepting end ended a hold
+-- "Order", if furthermore no T3 or T4 of the accepting end ended a hold
 abbrev pub each_flow_in_order : Type 0
 each_flow_in_order = Always (λ p. LostNothing p → BothWays (λ q. IsPunctual q → InOrder q) p)
 

@@ -61,7 +61,7 @@ module _ (settings : (point : ℕ) → Configuration) (points : List ℕ) (s : N
   abbrev pub EachMessageOnce : Type 0
   EachMessageOnce = Between (λ p. LostNothing p → BothWays EachOnce p)
 
-  -- "Order", where besides no timer of the accepting end ended a hold
+  -- "Order", where besides no T3 or T4 of the accepting end ended a hold
   abbrev pub EachFlowInOrder : Type 0
   EachFlowInOrder = Between (λ p. LostNothing p → BothWays (λ q. IsPunctual q → InOrder q) p)
 

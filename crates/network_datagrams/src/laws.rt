@@ -65,9 +65,9 @@ pub fn messages_come_from_end_to_end()
 /// been lost. So over a path of which each hop keeps a flow in order, and whose nodes between get the flow from the one
 /// before alone, what came to the last node is in the order in which the first accepted it; what is missing there waits
 /// at a node of the path, or was refused or ended at one between. The last hop keeps a flow that is for the last node,
-/// while neither of its nodes may have lost a message and no timer of the former ended a hold. So does each hop for a
-/// flow that goes on beyond it by the set between the two alone, while no status about its route (TFP, TFR, TFA, Q.704
-/// §13) is among what came from the next node; and so does a path of such hops.
+/// while neither of its nodes may have lost a message and no T3 or T4 of the former ended a hold. So does each hop for
+/// a flow that goes on beyond it by the set between the two alone, while no status about its route (TFP, TFR, TFA,
+/// Q.704 §13) is among what came from the next node; and so does a path of such hops.
 pub fn paths_keep_the_order_of_their_hops()
     ensures nodes { Always NodesPassInOrder }
     ensures paths { Always PathsKeepOrder }

@@ -31,8 +31,8 @@ pub fn each_message_comes_once()
 {}
 
 /// "Order" over datagrams, of nodes with gates, in both directions. While neither exchange may have lost a message, and
-/// no timer of the accepting node ended a hold, the user messages of a flow to the other point that one node accepted
-/// are, in order, those that the other received from it, and then those that wait.
+/// no T3 or T4 of the accepting node ended a hold, the user messages of a flow to the other point that one node
+/// accepted are, in order, those that the other received from it, and then those that wait.
 pub fn each_flow_keeps_its_order()
     ensures { AlwaysShown EachFlowInOrder }
 {}
@@ -64,9 +64,9 @@ pub fn messages_come_from_end_to_end()
 /// Order over a path, of nodes with gates. A node accepts what it is to pass on in the order in which it came. So over
 /// a path of which each hop keeps a flow in order, what came to the last node is in the order in which the first
 /// accepted it. The last hop keeps a flow that is for the last node, while neither of its nodes may have lost a message
-/// and no timer of the former ended a hold. So does each hop for a flow that goes on beyond it by the set between the
-/// two alone, while no status about its route (TFP, TFR, TFA, Q.704 §13) is among what came from the next node; and so
-/// does a path of such hops.
+/// and no T3 or T4 of the former ended a hold. So does each hop for a flow that goes on beyond it by the set between
+/// the two alone, while no status about its route (TFP, TFR, TFA, Q.704 §13) is among what came from the next node; and
+/// so does a path of such hops.
 pub fn paths_keep_the_order_of_their_hops()
     ensures nodes { AlwaysShown NodesPassInOrder }
     ensures paths { AlwaysShown PathsKeepOrder }

@@ -38,7 +38,7 @@ pub data LeadsOver (settings : ℕ → Configuration) (w : NetworkState) (flow :
   beyond : LeadsOnward (settings near) (settings far) flow.point →
       HearsOfNoRoute flow.point (w.node near) (w.node far) → LeadsOver settings w flow near far
 
--- and neither of its nodes may have lost a message, nor did a timer of the former end a hold
+-- and neither of its nodes may have lost a message, nor did a T3 or T4 of the former end a hold
 pub record IsOpenHop (settings : ℕ → Configuration) (w : NetworkState) (flow : Flow) (near far : ℕ) : Type 0 where
   pub sharing : AreSharing (settings near) (settings far)
   pub leads : LeadsOver settings w flow near far

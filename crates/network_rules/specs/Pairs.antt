@@ -124,7 +124,7 @@ nobody_speaks_for_another = Always (BothWays HearsNothingElsewhere)
 abbrev pub each_message_once : Type 0
 each_message_once = Always (λ p. LostNothing p → BothWays EachOnce p)
 
--- "Order", where besides no timer of the accepting end ended a hold
+-- "Order", where besides no T3 or T4 of the accepting end ended a hold
 abbrev pub each_flow_in_order : Type 0
 each_flow_in_order = Always (λ p. LostNothing p → BothWays (λ q. IsPunctual q → InOrder q) p)
 

@@ -135,7 +135,7 @@ paths_keep_the_order_of_their_hops =
 
 -- ---- the last hop, where the flow is for the last point
 
--- it keeps the flow in order while neither of its two nodes may have lost a message, and no timer of the former one
+-- it keeps the flow in order while neither of its two nodes may have lost a message, and no T3 or T4 of the former one
 -- ended a hold, whatever comes from outside
 abbrev pub last_hops_keep_flows_in_order : Type 0
 last_hops_keep_flows_in_order =

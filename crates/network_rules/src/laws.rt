@@ -41,7 +41,7 @@ pub fn each_message_comes_once()
     ensures { each_message_once }
 {}
 
-/// "Order", in both directions. While neither exchange may have lost a message, and no timer of the accepting node
+/// "Order", in both directions. While neither exchange may have lost a message, and no T3 or T4 of the accepting node
 /// ended a hold, the user messages of a flow to the other point that one node accepted are, in order, those that the
 /// other received from it, and then those that wait.
 pub fn each_flow_keeps_its_order()
@@ -138,7 +138,7 @@ pub fn nodes_pass_on_in_order()
 /// for either of them, and the nodes between get the flow from the one before alone, then what came to the last node is
 /// in the order in which the first accepted it; what is missing there waits at a node of the path, or was refused or
 /// ended at one between. The last hop does keep a flow that is for the last node, while neither of its nodes may have
-/// lost a message and no timer of the former ended a hold.
+/// lost a message and no T3 or T4 of the former ended a hold.
 pub fn paths_keep_the_order_of_their_hops()
     ensures paths { paths_keep_the_order_of_their_hops }
     ensures last { last_hops_keep_flows_in_order }
@@ -147,7 +147,7 @@ pub fn paths_keep_the_order_of_their_hops()
 
 /// So flows come over a path in order, by settings, books and flags alone. A hop keeps the order of a flow that is for
 /// the next node, or goes on beyond it by the set between the two alone, while no status about its route (TFP, TFR,
-/// TFA, Q.704 §13) is among what came from there, neither node may have lost a message, and no timer of the former
+/// TFA, Q.704 §13) is among what came from there, neither node may have lost a message, and no T3 or T4 of the former
 /// ended a hold. So over nodes in a row, to which the flow comes from the one before alone, what came to the last node
 /// is in the order in which the first accepted it. Both hold whatever comes from outside.
 pub fn paths_keep_flows_in_order()

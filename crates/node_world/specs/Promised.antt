@@ -22,7 +22,7 @@ Promises Statement k = (w : GateWorld) → StandsFor k w → Statement (settings
 pub record ComeBetween (near far : ℕ) (w : GateWorld) : Type 0 where
   -- as many of every kind were accepted at one node as the other received and as wait between them
   pub once : BothWays EachOnce (whole_ends (two_of w near far))
-  -- and while no timer of the accepting node ended a hold, those of each flow came in order
+  -- and while no T3 or T4 of the accepting node ended a hold, those of each flow came in order
   pub order : BothWays (λ p. IsPunctual p → InOrder p) (whole_ends (two_of w near far))
 
 -- while neither may have lost a message

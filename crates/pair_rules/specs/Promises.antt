@@ -79,6 +79,6 @@ pub record BothWays (Statement : PairState → Type 0) (p : PairState) : Type 0 
   pub there : Statement p
   pub back : Statement (turned p)
 
--- "Order", if furthermore no timer of the accepting end ended a hold
+-- "Order", if furthermore no T3 or T4 of the accepting end ended a hold
 abbrev pub IsPunctual : PairState → Type 0
 IsPunctual p = late_any p.near.exchange.node.parts ≡ false
