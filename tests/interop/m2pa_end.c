@@ -9,8 +9,8 @@
  * User Data whose field has the routing label and the message's number.
  *
  * With `stay` it outlives its associations: where one is lost, it gives up what isn't acknowledged, and opens or awaits
- * the next. It sends no more than half of its messages in any one. They are numbered from FIRST on. What comes has to have
- * rising numbers, so nothing may come twice. It ends at SIGTERM. With `abort` or `shutdown` it ends its first
+ * the next. It sends no more than half of its messages in any one. They are numbered from FIRST on. What comes has to
+ * have rising numbers, so nothing may come twice. It ends at SIGTERM. With `abort` or `shutdown` it ends its first
  * association so once AFTER messages came. */
 #include <arpa/inet.h>
 #include <errno.h>
