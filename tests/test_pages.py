@@ -6,7 +6,7 @@ import unittest
 from pathlib import Path
 
 TOP = Path(__file__).resolve().parent.parent
-PAGES = [*TOP.glob("*.md"), *(TOP / "docs").glob("*.md"), TOP / "crates/transcripts/data/README.md"]
+PAGES = [*TOP.glob("*.md"), *(TOP / "docs").glob("*.md"), TOP / "examples/README.md"]
 
 
 def without_code(page: Path) -> str:

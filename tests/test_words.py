@@ -3,7 +3,7 @@
 from harness import ROOT, Link, NodeTest, free_port, links_between, run, settings
 from traffic import FAR, NEAR
 
-EXAMPLES = ROOT / "crates/transcripts/data"
+EXAMPLES = ROOT / "examples"
 
 # The first of its runs is one of a link.
 TRANSCRIPT = EXAMPLES / "lab.transcript"
