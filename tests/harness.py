@@ -109,14 +109,16 @@ class SctpLink:
 
 
 def settings(own: int, links: Sequence[Link | SctpLink], *, window: int = 128, pool: int = 1000, tick_ms: int = 50,
-             console: int | None = None, page: int | None = None, page_open: bool = False, capture: str | None = None,
+             console: int | str | None = None, page: int | None = None, page_open: bool = False, capture: str | None = None,
              points: str | None = None, udp: int | None = None, sctp: dict[str, int] | None = None, **timers: int) -> str:
-    """The settings of a node with these links. Timers that aren't named are LONG, but for the proving period."""
+    """The settings of a node with these links. A console is at a port, or at the path of a Unix socket. Timers that
+    aren't named are LONG, but for the proving period."""
     adjacents = list(dict.fromkeys(link.adjacent for link in links))
     ticks = {**dict.fromkeys(TIMERS, LONG), "l4": 1, **timers}
     lines = ["version = 2", f"own = {own}", "network = 2", f"window = {window}", f"pool = {pool}"]
     lines += ["users = [5]", "subsystems = [8]", "[serve]", f"tick_ms = {tick_ms}"]
-    lines += [f'console = "{HOST}:{console}"'] * (console is not None)
+    lines += [f'console = "{HOST}:{console}"'] * isinstance(console, int)
+    lines += [f'console = "{console}"'] * isinstance(console, str)
     lines += [f'page = "{HOST}:{page}"'] * (page is not None)
     lines += ["page_open = true"] * page_open
     lines += [f'capture = "{capture}"'] * (capture is not None)
@@ -132,15 +134,16 @@ def settings(own: int, links: Sequence[Link | SctpLink], *, window: int = 128, p
 
 
 class Caller:
-    """A caller of a node's console."""
+    """A caller of a node's console, at a port or at the path of a Unix socket."""
 
-    def __init__(self, port: int, receive_octets: int | None = None) -> None:
-        self.socket = socket.socket()
+    def __init__(self, console: int | str, receive_octets: int | None = None) -> None:
+        is_path = isinstance(console, str)
+        self.socket = socket.socket(socket.AF_UNIX if is_path else socket.AF_INET)
         if receive_octets is not None:
             self.socket.setsockopt(socket.SOL_SOCKET, socket.SO_RCVBUF, receive_octets)
         self.socket.settimeout(PATIENCE)
         try:
-            self.socket.connect((HOST, port))
+            self.socket.connect(console if is_path else (HOST, console))
         except OSError:
             self.socket.close()
             raise
@@ -189,7 +192,7 @@ class Caller:
 class Node:
     """A node that `stp serve` runs, in a folder of its own."""
 
-    def __init__(self, folder: Path, text: str, console: int, links: Sequence[Link | SctpLink]) -> None:
+    def __init__(self, folder: Path, text: str, console: int | str, links: Sequence[Link | SctpLink]) -> None:
         folder.mkdir()
         self.folder, self.console, self.link_names = folder, console, [link.name for link in links]
         (folder / "node.toml").write_text(text)
@@ -207,7 +210,7 @@ class Node:
 
     def _is_there(self) -> bool:
         assert self.process is not None and self.process.poll() is None, f"the node ended: {self.log()[-3:]}"
-        with contextlib.suppress(ConnectionRefusedError):
+        with contextlib.suppress(ConnectionRefusedError, FileNotFoundError):
             self.operator = self.call()
             return True
         return False
@@ -308,9 +311,10 @@ class NodeTest(unittest.TestCase):
     def _give_up(self, number: int, frame: object) -> None:
         raise AssertionError(f"it took longer than {self.LIMIT} s")
 
-    def node(self, own: int, links: Sequence[Link | SctpLink], **more: Any) -> Node:
-        """A node with these links, which isn't started."""
-        console = free_port()
+    def node(self, own: int, links: Sequence[Link | SctpLink], *, console: int | str | None = None,
+             **more: Any) -> Node:
+        """A node with these links, which isn't started. Its console is at a port of its own, unless a place is given."""
+        console = console or free_port()
         text = settings(own, links, console=console, **more)
         node = Node(self.folder / f"{own}-{len(os.listdir(self.folder))}", text, console, links)
         self.addCleanup(node.kill)

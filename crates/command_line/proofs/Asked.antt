@@ -8,7 +8,7 @@ use Rattle.std.proofs.lemmas.Slice.Eq.{bytes_eq-Decides}
 use Rattle.std.proofs.lemmas.List.{length-map}
 use Rattle.std.proofs.lemmas.Bool.{false_from_ne_true}
 use Rattle.clap.specs.Words.{Text}
-use Rattle.command_line.specs.Words.{Task, asked_by, asked_with, asked_with_two, is_plain, are_plain, texts, OtherWords}
+use Rattle.command_line.specs.Words.{Task, asked_by, asked_with, asked_with_two, is_plain, are_plain, is_in_line, are_in_line, texts, OtherWords}
 
 -- two words and more are asked for by none but the labs
 pub unasked-more : (command near far : Text) (more : List Text) → bytes_eq command (codes "lab") ≡ false → bytes_eq command (codes "lab-udp") ≡ false
@@ -44,8 +44,12 @@ length-texts words = length-map words (λ word. string_bytes word)
 pub all-plain : (words : List (String Global)) → list_all is_plain (texts words) ≡ are_plain words
 all-plain words = sym (plain-texts words)
 
+pub all-in-line : (words : List (String Global)) → list_all is_in_line (texts words) ≡ are_in_line words
+all-in-line [] = refl
+all-in-line (word ∷ words) = ap (λ b. is_in_line (string_bytes word) && b) (all-in-line words)
+
 -- what is asked of texts is asked of the words
-pub ruleset word_steps = (length-texts, all-plain)
+pub ruleset word_steps = (length-texts, all-plain, all-in-line)
 
 -- a word that isn't plain names nothing
 unnamed : (word name : Text) → is_plain word ≡ false → is_plain name ≡ true → bytes_eq word name ≡ false

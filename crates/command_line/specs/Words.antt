@@ -10,7 +10,7 @@ use Rattle.command_line.specs.declared.Words.TheVariants as words
 
 -- run a script, on the built-in settings or on those of a file; check a file; run a lab script on the settings of two
 -- files, over streams or over datagrams, or over streams on those of three files or more; serve a node with the
--- settings of a file; print the program's help, or its version; anything else
+-- settings of a file; tell words to the console of such a node; print the program's help, or its version; anything else
 pub data Task : Type 0 where
   BuiltInRun : Task
   FileRun : List ℕ → Task
@@ -19,6 +19,7 @@ pub data Task : Type 0 where
   DatagramLabRun : (near far : List ℕ) → Task
   NetworkRun : List (List ℕ) → Task
   FileServe : List ℕ → Task
+  FileTell : (file : List ℕ) → (words : List (List ℕ)) → Task
   Help : Task
   Version : Task
   OtherWords : Task
@@ -77,12 +78,32 @@ abbrev pub network_or : Option (List (List ℕ)) → Task → Task
 network_or (Some files) other = NetworkRun files
 network_or None other = other
 
+-- a word of a line of the console may be empty and begin with `-`, but has no line feed (10)
+abbrev pub is_in_line : List ℕ → Bool
+is_in_line word = list_all (λ octet. not (nat_eq octet 10)) word
+
+-- `tell FILE` and any further words
+abbrev pub are_told : (command file : List ℕ) → (words : List (List ℕ)) → Bool
+are_told command file words = bytes_eq command (codes "tell") && (is_plain file && list_all is_in_line words)
+
+-- the file of such words, and the words behind it
+abbrev pub told_words : List (List ℕ) → Option (List ℕ × List (List ℕ))
+told_words (command ∷ file ∷ words) = if are_told command file words then Some (file, words) else None
+told_words (command ∷ []) = None
+told_words [] = None
+
+-- words that are told to the console of a file, or else a command
+abbrev pub told_or : Option (List ℕ × List (List ℕ)) → Task → Task
+told_or (Some p) other = FileTell p.0 p.1
+told_or None other = other
+
 -- help, the version, or a command
 abbrev pub asked : List (String Global) → Task
 asked words =
     if asks_help (texts words) then Help
     else (if asks_version (texts words) then Version
-    else network_or (network_files (texts words)) (asked_by (texts words)))
+    else network_or (network_files (texts words))
+    (told_or (told_words (texts words)) (asked_by (texts words))))
 
 -- what the command that was parsed asks for, by the file after it
 abbrev pub asked_by_command : List ℕ → Option (List ℕ) → Task
@@ -110,6 +131,9 @@ found (Some p) = found_by p.0 (first_of (codes "file") p.1) (first_of (codes "ne
 abbrev pub are_plain : List (String Global) → Bool
 are_plain words = list_all (λ word. is_plain (string_bytes word)) words
 
+abbrev pub are_in_line : List (String Global) → Bool
+are_in_line words = list_all (λ word. is_in_line (string_bytes word)) words
+
 -- arguments that memory is allocated for: plain ones that ask neither for help nor for the version
 abbrev pub take_memory : List (String Global) → Bool
 take_memory words = are_plain words && not (asks_help (texts words) || asks_version (texts words))
@@ -123,6 +147,7 @@ said (words.Lab near far) = Some (LabRun (string_bytes near) (string_bytes far))
 said (words.DatagramLab near far) = Some (DatagramLabRun (string_bytes near) (string_bytes far))
 said (words.Network files) = Some (NetworkRun (texts files.now))
 said (words.Serve file) = Some (FileServe (string_bytes file))
+said (words.Tell file line) = Some (FileTell file.now (texts line.now))
 said words.Help = Some Help
 said words.Version = Some Version
 said words.Usage = Some OtherWords

@@ -7,7 +7,7 @@ ghost use Rattle.clap.specs.Words.{app_of, kind_of, subcommand_rows_of};
 ghost use Rattle.clap.specs.declared.builder.command.Command.TheViews.{out-Command as fields_of};
 ghost use Rattle.clap.specs.declared.error.kind.ErrorKind.TheVariants.{OutOfMemory};
 ghost use Rattle.command_line.specs.Words.{asked_by, asked_by_command, asked_by_two, are_plain, asks_help, asks_version};
-ghost use Rattle.command_line.specs.Words.{are_network, found, found_by, is_plain, network_files, said, texts};
+ghost use Rattle.command_line.specs.Words.{are_network, are_in_line, are_told, found, found_by, is_in_line, is_plain, network_files, said, texts, told_words};
 ghost use Rattle.command_line.specs.Words.{OtherWords, AreReadAs, IsReadAs};
 ghost use Rattle.command_line.specs.Grammar.{stp, bare, run, check, lab, lab_udp, serve};
 
@@ -31,6 +31,9 @@ pub enum Words<'a> {
     Network(&'a [String]),
     /// `serve FILE`: serve a node on the network with the settings of this file.
     Serve(String),
+    /// `tell FILE` and any further words: write these, as one line, or else the lines on standard input, to the console
+    /// that the settings of this file name.
+    Tell(&'a str, &'a [String]),
     /// `help` or `--help`: print the program's commands, and what they mean.
     Help,
     /// `version` or `--version`: print the version of the program.
@@ -42,8 +45,8 @@ pub enum Words<'a> {
 }
 
 /// What the program's arguments ask for. If one of them is empty or begins with `-`, they are none of the commands,
-/// unless they are `--help` or `--version`. No memory is allocated for these, `help` and `version`; for all others it
-/// may run out.
+/// unless they are `--help` or `--version`, or `tell` with a file that isn't such. No memory is allocated for `--help`,
+/// `--version`, `help` and `version`; for all others it may run out.
 pub fn read_words<'a>(alloc: Global, words: &'a [String]) -> Words<'a>
     ensures { AreReadAs words.now result }
 {
@@ -53,6 +56,8 @@ pub fn read_words<'a>(alloc: Global, words: &'a [String]) -> Words<'a>
         Words::Version
     } else if let Some(files) = network_files(words) {
         Words::Network(files)
+    } else if let Some((file, line)) = told_words(words) {
+        Words::Tell(file, line)
     } else {
         read_command(alloc, words)
     }
@@ -74,6 +79,40 @@ fn are_network(command: &str, files: &[String]) -> bool
     ensures { result ≡ are_network command.now (texts files.now) }
 {
     command == "lab" && files.len() > 2 && are_plain(files)
+}
+
+/// The file whose console is told something, and the words that it is told, where the words ask for that.
+fn told_words(words: &[String]) -> Option<(&str, &[String])>
+    ensures { option_map (λ told. (told.0.now, texts told.1.now)) result ≡ told_words (texts words.now) }
+{
+    match words {
+        [command, file, line @ ..] if are_told(command.as_str(), file.as_str(), line) => {
+            Some((file.as_str(), line))
+        }
+        _ => None,
+    }
+}
+
+/// Whether this command, this file and these words ask for something to be told.
+#[tactic(auto, using(crate::proofs::Asked::word_steps))]
+fn are_told(command: &str, file: &str, line: &[String]) -> bool
+    ensures { result ≡ are_told command.now file.now (texts line.now) }
+{
+    command == "tell" && is_plain(file) && are_in_line(line)
+}
+
+/// Whether no word has a line feed.
+fn are_in_line(words: &[String]) -> bool
+    ensures { result ≡ are_in_line words.now }
+{
+    words.iter().all(|word| is_in_line(word.as_str()))
+}
+
+/// Whether a word has no line feed.
+fn is_in_line(word: &str) -> bool
+    ensures { result ≡ is_in_line word.now }
+{
+    word.as_bytes().iter().all(|octet| *octet != b'\n')
 }
 
 /// Whether the words ask for help.

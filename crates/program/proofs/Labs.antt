@@ -9,7 +9,8 @@ use Rattle.lab.specs.Script.{LeavesAll}
 use Rattle.program.specs.Explaining.{IsLabEndExplained}
 use Rattle.script.specs.Faults.{Counts}
 use Rattle.program.specs.Folders.{FileRead}
-use Rattle.program.specs.Program.{Streams, streams, told, status_after, EndsWith, EndsAtFile, HasNoMemory, RunsLabScript, RunsNodes, RunsLab, DoesTask, Does}
+use Rattle.program.specs.Program.{Streams, streams, told, status_after, EndsWith, EndsAtFile, HasNoMemory, RunsLabScript, RunsNodes, RunsLab}
+use Rattle.program.specs.Tasks.{DoesTask, Does}
 use Rattle.script.specs.Streams.{Input, Output}
 use Rattle.program.specs.declared.program.Status.{Status}
 use Rattle.program.specs.declared.program.Status.TheVariants as status

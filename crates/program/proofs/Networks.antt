@@ -9,7 +9,8 @@ use Rattle.lab.specs.Network.{settings_in}
 use Rattle.script.specs.Streams.{Input, Output}
 use Rattle.command_line.specs.Words.{Task, NetworkRun, asked, texts}
 use Rattle.program.specs.Folders.{FileRead}
-use Rattle.program.specs.Program.{Streams, streams, HasNoMemory, RunsJoined, HasNode, HaveSettings, EndsForMemory, EndsAtNode, EndsReading, RunsNetwork, DoesTask, Does}
+use Rattle.program.specs.Program.{Streams, streams, HasNoMemory, RunsJoined, HasNode, HaveSettings, EndsForMemory, EndsAtNode, EndsReading, RunsNetwork}
+use Rattle.program.specs.Tasks.{DoesTask, Does}
 use Rattle.program.specs.declared.program.Status.{Status}
 
 one-more : (files : List (List ℕ)) (reads : List ℕ → FileRead → Type 0) (nodes : List Configuration) (a b d : Output) (file : List ℕ) (c : Configuration)

@@ -41,10 +41,11 @@ usage_text =
     ++ (codes "stp lab FILE FILE ..  runs it on three nodes or more, whose points the script then names\n"
     ++ (codes "stp lab-udp NEAR FAR  runs it on two nodes that it joins by SCTP in UDP\n"
     ++ (codes "stp serve FILE        serves a node on the network, with the settings in FILE\n"
+    ++ (codes "stp tell FILE ..      writes a line, or those on standard input, to the console of that node\n"
     ++ (codes "stp help              prints these lines\n"
     ++ (codes "stp version           prints the version\n"
     ++ (codes "The lines of a script, the settings and the exit statuses are in docs/MANUAL.md.\n"
-    ++ codes "README.md is the introduction, and lists the other pages in docs/.\n")))))))))
+    ++ codes "README.md is the introduction, and lists the other pages in docs/.\n"))))))))))
 
 -- ---- files
 

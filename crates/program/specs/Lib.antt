@@ -3,3 +3,5 @@ pub mod Sentences
 pub mod Explaining
 pub mod Network
 pub mod Program
+pub mod Telling
+pub mod Tasks

@@ -1,4 +1,4 @@
--- What the program does for its arguments, and its exit statuses.
+-- What the program does with files and scripts, and its exit statuses.
 use Rattle.std.specs.Prelude.{◌≡◌, ◌≢◌, ◌⊎◌, ℕ, List, [], ◌∷◌, ◌++◌, codes, None, Some, Result, Ok, Err, OnOk, String, true}
 use Rattle.std.specs.Global.{Global}
 use Rattle.std.specs.Io.KnownBytes.{Appends, IsAtEnd}
@@ -27,8 +27,6 @@ use Rattle.script.specs.declared.fault.ScriptFault.{ScriptFault}
 use Rattle.script.specs.declared.fault.ScriptFault.TheVariants as fault
 use Rattle.program.specs.declared.program.Status.{Status}
 use Rattle.program.specs.declared.program.Status.TheVariants as status
-use Rattle.command_line.specs.Words.{Task, BuiltInRun, FileRun, FileCheck, LabRun, DatagramLabRun, NetworkRun, FileServe}
-use Rattle.command_line.specs.Words.{Help, Version, OtherWords, asked, take_memory}
 
 -- the streams of a program: its input, its output, and its standard error
 pub record Streams : Type 0 where
@@ -42,7 +40,7 @@ streams input output errors = record { input = input; output = output; errors = 
 -- the exit statuses
 abbrev pub status_number : Status → ℕ
 status_number status.Done = 0
-status_number status.Usage = 1
+status_number status.Refused = 1
 status_number status.Start = 2
 status_number status.Line = 3
 status_number status.Stream = 4
@@ -264,29 +262,3 @@ RunsNetwork files reads old new ended =
     × (RunsJoined files settings (record old { errors = warned }) new ended
     ⊎ HasNoMemory (record old { errors = warned }) new ended))
     ⊎ (EndsReading files reads old.output new.output old.errors new.errors ended × (new.input ≡ old.input))
-
--- what the program does for a task, if a file is read as `reads` says
-abbrev pub DoesTask : Task → (List ℕ → FileRead → Type 0) → Streams → Streams → Status → Type 0
-DoesTask BuiltInRun reads old new ended =
-    RunsNode (λ settings. settings ≡ built_in_settings) (λ why. why ≡ no_memory) NoText old new ended
-DoesTask (FileRun file) reads old new ended =
-    (read : FileRead) × reads file read × RunsFile file read old new ended
-DoesTask (FileCheck file) reads old new ended =
-    (read : FileRead) × reads file read
-    × ChecksFile file read old.output new.output old.errors new.errors ended × (new.input ≡ old.input)
-DoesTask (LabRun near far) reads old new ended = RunsLab near far reads old new ended
-DoesTask (DatagramLabRun near far) reads old new ended = RunsLab near far reads old new ended
-DoesTask (NetworkRun files) reads old new ended = RunsNetwork files reads old new ended
-DoesTask (FileServe file) reads old new ended =
-    (read : FileRead) × reads file read
-    × ServesFile file read old.output new.output old.errors new.errors ended × (new.input ≡ old.input)
-DoesTask Help reads old new ended = OnlyPrints status.Done usage_text old new ended
-DoesTask Version reads old new ended = OnlyPrints status.Done version_line old new ended
-DoesTask OtherWords reads old new ended =
-    EndsWith status.Usage (codes "usage\n") old.output new.output ended × (new.input ≡ old.input)
-    × IsTold usage_text old.errors new.errors
-
--- what the program does for its arguments: what they ask for, or memory runs out for them, if they take any
-abbrev pub Does : List (String Global) → (List ℕ → FileRead → Type 0) → Streams → Streams → Status → Type 0
-Does words reads old new ended =
-    DoesTask (asked words) reads old new ended ⊎ ((take_memory words ≡ true) × HasNoMemory old new ended)

@@ -25,7 +25,7 @@ pub fn refuse_words<W: Sink, E: Sink>(error: &Error, writer: &mut W, errors: &mu
         → EndsWith Status.Start (told no_memory) (W.output writer.old) (W.output writer.new) result
         × (E.output errors.new ≡ E.output errors.old) }
     ensures usage { error_kind error.now ≢ ErrorKind.OutOfMemory
-        → EndsWith Status.Usage (codes "usage\n") (W.output writer.old) (W.output writer.new) result
+        → EndsWith Status.Refused (codes "usage\n") (W.output writer.old) (W.output writer.new) result
         × IsTold usage_text (E.output errors.old) (E.output errors.new) }
 {
     if error.kind() == ErrorKind::OutOfMemory {
@@ -36,11 +36,11 @@ pub fn refuse_words<W: Sink, E: Sink>(error: &Error, writer: &mut W, errors: &mu
 
 /// Prints that the arguments aren't the program's, and explains what these are.
 pub(crate) fn tell_usage<W: Sink, E: Sink>(writer: &mut W, errors: &mut E) -> Status
-    ensures printed { EndsWith Status.Usage (codes "usage\n") (W.output writer.old) (W.output writer.new) result }
+    ensures printed { EndsWith Status.Refused (codes "usage\n") (W.output writer.old) (W.output writer.new) result }
     ensures told { IsTold usage_text (E.output errors.old) (E.output errors.new) }
 {
     explain_words(errors);
-    end_with(Status::Usage, b"usage\n", writer)
+    end_with(Status::Refused, b"usage\n", writer)
 }
 
 /// Prints the program's commands, and what they mean.

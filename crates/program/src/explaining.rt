@@ -9,8 +9,9 @@ ghost use Rattle.program.specs.Explaining.{strangers_sentence, lab_line_sentence
 
 use crate::folder::Unread;
 use crate::sentences::sentence;
+use console_caller::CallFault;
 use script::{LineFault, ScriptFault, Sink};
-use serve_settings::ServeFault;
+use serve_settings::{ConsolePlace, ServeFault};
 use settings_file::SettingsFault;
 use std::alloc::{AllocError, Global};
 use toml::Table;
@@ -24,11 +25,15 @@ stp lab NEAR FAR      runs the lab script on standard input, on two nodes that i
 stp lab FILE FILE ..  runs it on three nodes or more, whose points the script then names
 stp lab-udp NEAR FAR  runs it on two nodes that it joins by SCTP in UDP
 stp serve FILE        serves a node on the network, with the settings in FILE
+stp tell FILE ..      writes a line, or those on standard input, to the console of that node
 stp help              prints these lines
 stp version           prints the version
 The lines of a script, the settings and the exit statuses are in docs/MANUAL.md.
 README.md is the introduction, and lists the other pages in docs/.
 ";
+
+/// What is told if the system has no poll, or no time.
+pub(crate) const NO_POLL: &str = "the system fails to tell of sockets or of the time\n";
 
 /// Writes a text to standard error. If that fails, nothing more can be written there.
 fn tell<E: Sink>(text: &[u8], errors: &mut E)
@@ -38,7 +43,7 @@ fn tell<E: Sink>(text: &[u8], errors: &mut E)
 }
 
 /// Writes a text, unless memory ran out for it.
-fn tell_made<E: Sink>(text: Result<String, AllocError>, errors: &mut E)
+pub(crate) fn tell_made<E: Sink>(text: Result<String, AllocError>, errors: &mut E)
     ensures { IsToldMade text (E.output errors.old) (E.output errors.new) }
 {
     if let Ok(text) = text {
@@ -201,4 +206,28 @@ fn explain_lab_line<E: Sink>(alloc: Global, number: u64, errors: &mut E)
         format!(in alloc; "line {number}: not a line of a lab script; docs/MANUAL.md lists them\n"),
         errors,
     );
+}
+
+/// Explains why the console at this place wasn't told everything, or why its answers weren't read, but for memory that
+/// ran out.
+pub(crate) fn explain_call<E: Sink>(
+    alloc: Global,
+    place: ConsolePlace<'_>,
+    fault: CallFault,
+    errors: &mut E,
+) {
+    match fault {
+        CallFault::NoMemory => {}
+        CallFault::Connect(kind) => {
+            let text = format!(in alloc; "{place}: connecting there fails: {kind}\n");
+            tell_made(text, errors);
+        }
+        CallFault::Lost => {
+            let text = format!(in alloc; "{place}: the connection ended before the answer\n");
+            tell_made(text, errors);
+        }
+        CallFault::Poll => tell(NO_POLL.as_bytes(), errors),
+        CallFault::Read => tell(b"standard input: a read failed\n", errors),
+        CallFault::Write => tell(b"standard output: a write failed\n", errors),
+    }
 }

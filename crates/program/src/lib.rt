@@ -11,6 +11,7 @@ pub mod program;
 mod sentences;
 mod serving;
 mod settings_files;
+mod telling;
 mod two_nodes;
 
 pub use ending::refuse_words;

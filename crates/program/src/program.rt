@@ -9,7 +9,8 @@ ghost use Rattle.exchange_rules.specs.First.{first_state};
 ghost use Rattle.script.specs.BuiltIn.{built_in_settings};
 ghost use Rattle.program.specs.Folders.{FileRead};
 ghost use Rattle.settings_file.specs.Faults.{no_memory};
-ghost use Rattle.program.specs.Program.{status_number, status_after, streams, NoText, RunsScript, HasNoMemory, RunsNode, RunsFile, ChecksServer, ChecksFile, Does};
+ghost use Rattle.program.specs.Program.{status_number, status_after, streams, NoText, RunsScript, HasNoMemory, RunsNode, RunsFile, ChecksServer, ChecksFile};
+ghost use Rattle.program.specs.Tasks.{Does};
 
 use crate::ending::{
     end_with, tell_help, tell_no_memory, tell_server_fault, tell_usage, tell_version,
@@ -19,6 +20,7 @@ use crate::folder::Folder;
 use crate::network::run_network_files;
 use crate::serving::serve_file;
 use crate::settings_files::{document_of, settings_in, settings_of};
+use crate::telling::tell_file;
 use crate::two_nodes::{Medium, run_files};
 use command_line::{Words, read_words};
 use exchange::{Exchange, NoMemory};
@@ -35,8 +37,8 @@ use toml::Table;
 pub enum Status {
     /// Everything was done.
     Done = 0,
-    /// Words that aren't the program's.
-    Usage = 1,
+    /// Words that aren't the program's, or that a console refuses.
+    Refused = 1,
     /// The settings, nodes that a lab doesn't join, or the memory to start with.
     Start = 2,
     /// A line of the script.
@@ -56,8 +58,8 @@ impl Status {
 
 /// The whole program: does what the words after its name ask for. Settings files come from the folder, the script from
 /// the reader, and all that it prints goes to the writer. Why it doesn't do what was meant goes to `errors`, in
-/// sentences for a person. The joiner joins the links of a lab over streams; one over datagrams, and a node that is
-/// served, are on the machine's network.
+/// sentences for a person. The joiner joins the links of a lab over streams; one over datagrams, a node that is
+/// served, and a console that is told something are on the machine's network.
 pub fn run_program<F: Folder, J: Joiner, R: Source, W: Sink, E: Sink>(
     rt: &HostRuntime,
     words: &[String],
@@ -90,6 +92,7 @@ pub fn run_program<F: Folder, J: Joiner, R: Source, W: Sink, E: Sink>(
             run_network_files(alloc, folder, files, joiner, reader, writer, errors)
         }
         Words::Serve(file) => serve_file(rt, folder, file.as_str(), writer, errors),
+        Words::Tell(file, line) => tell_file(rt, folder, file, line, reader, writer, errors),
         Words::Help => tell_help(writer),
         Words::Version => tell_version(writer),
         Words::Usage => tell_usage(writer, errors),

@@ -7,13 +7,14 @@ ghost use Rattle.program.specs.Folders.{FileRead};
 ghost use Rattle.program.specs.Program.{ServesFile};
 
 use crate::ending::{tell_no_memory, tell_server_fault};
+use crate::explaining::{NO_POLL, tell_made};
 use crate::folder::Folder;
 use crate::program::Status;
 use crate::settings_files::{document_of, settings_in};
 use script::Sink;
-use serve_settings::{ServeSettings, read_server};
+use serve_settings::{ConsolePlace, ServeSettings, read_server};
 use settings::Settings;
-use std::alloc::Global;
+use std::alloc::{AllocError, Global};
 use stp_server::{OpenFault, ServeFailure};
 use toml::Table;
 
@@ -84,37 +85,69 @@ fn serve_with<W: Sink, E: Sink>(
 ) -> Status {
     match stp_server::serve(rt, settings, serve, writer) {
         Ok(()) => Status::Done,
-        Err(failure) => tell_failure(rt.alloc(), failure, serve.capture(), writer, errors),
+        Err(failure) => tell_failure(rt.alloc(), failure, serve, writer, errors),
     }
 }
 
-/// Explains why nothing is served, with this capture file if one was set.
+/// Explains why nothing is served with these settings.
 fn tell_failure<W: Sink, E: Sink>(
     alloc: Global,
     failure: ServeFailure,
-    capture: Option<&str>,
+    serve: &ServeSettings,
     writer: &mut W,
     errors: &mut E,
 ) -> Status {
+    if let ServeFailure::Open(OpenFault::NoMemory) = failure {
+        return tell_no_memory(writer);
+    }
+    tell_made(failure_sentence(alloc, failure, serve), errors);
+    Status::Stream
+}
+
+/// The sentence that says why nothing is served with these settings.
+fn failure_sentence(
+    alloc: Global,
+    failure: ServeFailure,
+    serve: &ServeSettings,
+) -> Result<String, AllocError> {
     match failure {
-        ServeFailure::Open(OpenFault::NoMemory) => return tell_no_memory(writer),
-        ServeFailure::Open(OpenFault::Listen(address, kind)) => {
-            if let Ok(text) = format!(in alloc; "{address}: listening there fails: {kind}\n") {
-                let _told = errors.write(text.as_bytes());
-            }
-        }
-        ServeFailure::Open(OpenFault::Poll) | ServeFailure::System => {
-            let _told = errors.write(b"the system fails to tell of sockets or of the time\n");
-        }
-        ServeFailure::Open(OpenFault::Random) => {
-            let _told = errors.write(b"the system gives no random octets\n");
-        }
+        ServeFailure::Open(fault) => open_sentence(alloc, fault, serve),
+        ServeFailure::System => String::from_str(alloc, NO_POLL),
         ServeFailure::Capture => {
-            let file = capture.unwrap_or("");
-            if let Ok(text) = format!(in alloc; "{file}: the capture file can't be made\n") {
-                let _told = errors.write(text.as_bytes());
-            }
+            let file = serve.capture().unwrap_or("");
+            format!(in alloc; "{file}: the capture file can't be made\n")
         }
     }
-    Status::Stream
+}
+
+/// The sentence that says why a server with these settings can't be opened; for lack of memory there is none.
+fn open_sentence(
+    alloc: Global,
+    fault: OpenFault,
+    serve: &ServeSettings,
+) -> Result<String, AllocError> {
+    match fault {
+        OpenFault::NoMemory => Err(AllocError),
+        OpenFault::Poll => String::from_str(alloc, NO_POLL),
+        OpenFault::Random => String::from_str(alloc, "the system gives no random octets\n"),
+        OpenFault::Listen(address, kind) => {
+            format!(in alloc; "{address}: listening there fails: {kind}\n")
+        }
+        OpenFault::Console(kind) => {
+            let path = console_path(serve);
+            format!(in alloc; "{path}: listening there fails: {kind}\n")
+        }
+        OpenFault::Occupied => {
+            let path = console_path(serve);
+            format!(in alloc; "{path}: a file that isn't a socket is there\n")
+        }
+    }
+}
+
+/// The path of the console; nothing if it has none.
+fn console_path(serve: &ServeSettings) -> &str {
+    match serve.console() {
+        Some(ConsolePlace::Unix(path)) => path,
+        Some(ConsolePlace::Tcp(_)) | None => "",
+    }
 }

@@ -2,6 +2,7 @@
 use Rattle.std.specs.Prelude.{◌≡◌, ◌≤◌, true, string_bytes}
 use Rattle.std.specs.Option.{option_map}
 use Rattle.serve_settings.specs.Served.{Served}
+use Rattle.serve_settings.specs.Consoles.{kept_place}
 use Rattle.serve_settings.specs.Times.{AreWithin}
 use Rattle.serve_settings.specs.Endpoints.{have_source}
 use Rattle.serve_settings.specs.declared.server.ServeSettings.TheInside.{Inside}
@@ -9,7 +10,7 @@ use Rattle.serve_settings.specs.declared.server.ServeSettings.TheInside.{Inside}
 abbrev pub served_of : Inside → Served
 served_of s = record {
   tick_ms = s.tick_ms;
-  console = s.console;
+  console = option_map kept_place s.console;
   capture = option_map (λ file. string_bytes file) s.capture;
   points = s.points;
   udp = s.udp;

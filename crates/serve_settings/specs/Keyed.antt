@@ -54,15 +54,6 @@ is_open (Err fault) = false
 abbrev pub guarded : ServeKey → (opened : Bool) → SocketAddr → Result SocketAddr ServeFault
 guarded key opened a = if is_loopback a || opened then Ok a else Err (Range key)
 
--- where the console listens, if there is one; unless it is open, no other machine reaches that
-abbrev pub console_in : Spelling → (opened : Bool) → Option Data → Result (Option SocketAddr) ServeFault
-console_in s opened None = Ok None
-console_in s opened (Some d) =
-    and_then (address_in s key.Console d) (λ a. and_then (guarded key.Console opened a) (λ own. Ok (Some own)))
-
-unfoldable pub console_at : Spelling → (opened : Bool) → Members → Result (Option SocketAddr) ServeFault
-console_at s opened t = console_in s opened (get_member (codes "console") t)
-
 -- the file that frames are captured to, if there is one
 abbrev pub file_of : List ℕ → Result (Option (List ℕ)) ServeFault
 file_of [] = Err (Range key.Capture)

@@ -4,6 +4,7 @@ pub mod Sentences
 pub mod Shapes
 pub mod Addresses
 pub mod Keyed
+pub mod Consoles
 pub mod Times
 pub mod Endpoints
 pub mod Served

@@ -7,14 +7,15 @@ use Rattle.settings_rows.specs.Configuration.{Configuration}
 use Rattle.settings_file.specs.Reading as settings
 use Rattle.settings_file.specs.declared.fault.SettingsFault.{SettingsFault}
 use Rattle.settings_file.specs.declared.fault.SettingsFault.TheVariants as found
-use Rattle.serve_settings.specs.declared.key.ServeKey.TheVariants.{Serve}
+use Rattle.serve_settings.specs.declared.key.ServeKey.TheVariants.{Serve, Console}
 use Rattle.serve_settings.specs.declared.fault.ServeFault.{ServeFault}
 use Rattle.serve_settings.specs.declared.fault.ServeFault.TheVariants.{Settings, Missing, Kind}
 use Rattle.serve_settings.specs.Addresses.{Spelling}
 use Rattle.serve_settings.specs.Faults.{fault_of}
 use Rattle.serve_settings.specs.Shapes.{and_then, value_at, table_in}
-use Rattle.serve_settings.specs.Keyed.{tick_ms_at, console_open_at, is_open, console_at, capture_at, points_at}
+use Rattle.serve_settings.specs.Keyed.{tick_ms_at, console_open_at, is_open, capture_at, points_at}
 use Rattle.serve_settings.specs.Keyed.{udp_at, page_open_at, page_at}
+use Rattle.serve_settings.specs.Consoles.{Place, address_of, console_at}
 use Rattle.serve_settings.specs.Times.{times_at}
 use Rattle.serve_settings.specs.Endpoints.{endpoints_at}
 use Rattle.serve_settings.specs.Served.{Served}
@@ -35,8 +36,8 @@ document s t =
     and_then (udp_at s serve) (λ udp.
     and_then (times_at serve) (λ sctp.
     and_then (page_open_at serve) (λ is_page_open.
-    and_then (page_at s is_page_open console serve) (λ page.
-    and_then (endpoints_at s (record { console = console; page = page; udp = udp }) t) (λ links.
+    and_then (page_at s is_page_open (address_of console) serve) (λ page.
+    and_then (endpoints_at s (record { console = address_of console; page = page; udp = udp }) t) (λ links.
     Ok (record {
       tick_ms = tick_ms;
       console = console;
@@ -56,6 +57,13 @@ is_of_server t = is_some (get_member (codes "serve") t)
 -- what a file of a server and one of none come to: the first fault of the server's settings, if they have any
 unfoldable pub checked : Spelling → Members → Result Unit ServeFault
 checked s t = if is_of_server t then and_then (document s t) (λ served. Ok tt) else Ok tt
+
+-- where a file says that the console of its server is, whatever its other keys say
+unfoldable pub console_told : Spelling → Members → Result Place ServeFault
+console_told s t =
+    and_then (serve_at t) (λ serve.
+    and_then (console_at s (is_open (console_open_at serve)) serve) (λ console.
+    ok_or console (Missing Console)))
 
 -- what a text says of its server
 unfoldable pub reading : Spelling → List ℕ → Result Served ServeFault

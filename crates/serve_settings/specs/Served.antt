@@ -3,11 +3,12 @@ use Rattle.std.specs.Prelude.{ℕ, Bool, List, Option}
 use Rattle.std.specs.declared.net.socket_addr.SocketAddr.{SocketAddr}
 use Rattle.serve_settings.specs.declared.server.Endpoint.{Endpoint}
 use Rattle.serve_settings.specs.declared.sctp.SctpTimes.{SctpTimes}
+use Rattle.serve_settings.specs.Consoles.{Place}
 use Rattle.point_format.specs.declared.point.PointFormat.{PointFormat}
 
 pub record Served : Type 0 where
   pub tick_ms : ℕ
-  pub console : Option SocketAddr
+  pub console : Option Place
   pub capture : Option (List ℕ)
   pub points : PointFormat
   pub udp : Option SocketAddr

@@ -12,7 +12,7 @@ use std::net::SocketAddr;
 use toml::Value;
 
 /// The address that a text spells, with a port from 1 on.
-fn spelled(text: &str, key: ServeKey) -> Result<SocketAddr, ServeFault>
+pub(crate) fn spelled(text: &str, key: ServeKey) -> Result<SocketAddr, ServeFault>
     ensures { (s : Spelling) → result ≡ with_port key (s.address text.now) }
 {
     match text.parse::<SocketAddr>() {

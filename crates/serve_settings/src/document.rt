@@ -7,8 +7,10 @@ ghost use Rattle.toml.specs.View.{table_view};
 ghost use Rattle.settings_file.specs.Reading.{IsReadAs};
 ghost use Rattle.serve_settings.specs.Addresses.{Spelling};
 ghost use Rattle.serve_settings.specs.Faults.{Answers, AnswersOrNoMemory};
-ghost use Rattle.serve_settings.specs.Reading.{serve_at, document, checked, reading, IsFirstFault};
+ghost use Rattle.serve_settings.specs.Reading.{serve_at, document, checked, console_told, reading, IsFirstFault};
+ghost use Rattle.serve_settings.specs.Consoles.{place_of};
 
+use crate::console_place::{ConsolePlace, address_of, kept};
 use crate::endpoints::endpoints;
 use crate::fault::ServeFault;
 use crate::key::ServeKey;
@@ -45,10 +47,16 @@ fn contents(alloc: Global, table: &Table) -> Result<ServeSettings, ServeFault>
     let udp = udp(serve)?;
     let sctp = times(serve)?;
     let is_page_open = page_open(serve)?;
-    let page = page(serve, is_page_open, console)?;
-    let own = OwnAddresses { console, page, udp };
+    let address = address_of(console);
+    let page = page(serve, is_page_open, address)?;
+    let own = OwnAddresses {
+        console: address,
+        page,
+        udp,
+    };
     let links = endpoints(alloc, own, table)?;
     let capture = owned(alloc, file)?;
+    let console = kept(alloc, console)?;
     Ok(ServeSettings {
         tick_ms,
         console,
@@ -100,6 +108,22 @@ pub fn check_server(alloc: Global, document: &Table) -> Result<(), ServeFault>
             Ok(())
         }
         None => Ok(()),
+    }
+}
+
+/// Where the console of the server is, in the document that a settings file is. The other settings aren't looked at, so
+/// a fault of theirs keeps nobody from the console of a node that is served.
+///
+/// Returns the first fault of the table `serve` and of its key `console`: Missing, with this key, if it isn't there.
+#[tactic(auto, unfolding(crate::specs::Reading::console_told))]
+pub fn read_console(document: &Table) -> Result<ConsolePlace<'_>, ServeFault>
+    ensures { (s : Spelling) → Answers place_of (console_told s (table_view document.now)) result }
+{
+    let serve = serve_in(document)?;
+    let opened = console_open(serve);
+    match console(serve, matches!(opened, Ok(true)))? {
+        Some(place) => Ok(place),
+        None => Err(ServeFault::Missing(ServeKey::Console)),
     }
 }
 

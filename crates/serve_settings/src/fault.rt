@@ -16,13 +16,13 @@ use std::fmt;
 pub enum ServeFault {
     /// A fault of the settings of the node, other than lack of memory.
     Settings(SettingsFault),
-    /// 2: a required key is missing: `listen` of a link that has none of `listen`, `connect` and `remote`, or `udp` of
-    /// a server that has a link with `remote`.
+    /// 2: a required key is missing: `listen` of a link that has none of `listen`, `connect` and `remote`, `udp` of a
+    /// server that has a link with `remote`, or `console` for a caller of the console.
     Missing(ServeKey),
     /// 3: a value of another type than its key asks for.
     Kind(ServeKey),
-    /// 4: a number out of its range, a text that isn't an address with a port from 1 on, a console or a page that
-    /// others reach, or a peer that `udp` doesn't reach since only one of the two is an IPv4 address.
+    /// 4: a number out of its range, a text that isn't an address with a port from 1 on, a path that no socket can
+    /// have, a console or a page that others reach, or a peer that `udp` doesn't reach since only one of the two is an IPv4 address.
     Range(ServeKey),
     /// 5: an address that two listen on; `connect` of a link that has `listen` too; `remote`, or another key of SCTP,
     /// of a link that has `listen` or `connect`; or `remote` of a link whose datagrams an earlier link would take,

@@ -17,7 +17,8 @@ const TABLE: &str = "a table";
 
 const TICK: &str = "10 to 10000";
 
-const CONSOLE: &str = "an address and a port from 1 on, as \"127.0.0.1:2900\"";
+const CONSOLE: &str =
+    "an address and a port from 1 on, as \"127.0.0.1:2900\", or the path of a socket, as \"/run/stp/console\"";
 
 const ADDRESS: &str = "an address and a port from 1 on, as \"127.0.0.1:2904\"";
 

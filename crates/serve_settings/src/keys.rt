@@ -6,9 +6,11 @@ ghost use Rattle.toml.specs.Data.{get_member};
 ghost use Rattle.toml.specs.View.{table_view};
 ghost use Rattle.serve_settings.specs.Addresses.{Spelling};
 ghost use Rattle.serve_settings.specs.Faults.{Answers};
-ghost use Rattle.serve_settings.specs.Keyed.{truth_or, tick_ms_at, console_open_at, console_at, capture_at, points_at, udp_at, page_open_at, page_at};
+ghost use Rattle.serve_settings.specs.Consoles.{place_of, console_at};
+ghost use Rattle.serve_settings.specs.Keyed.{truth_or, tick_ms_at, console_open_at, capture_at, points_at, udp_at, page_open_at, page_at};
 
 use crate::address::{address_in, guarded, is_address_of};
+use crate::console_place::{ConsolePlace, place_in};
 use crate::fault::ServeFault;
 use crate::key::ServeKey;
 use crate::shapes::{found, integer_in, text_in, truth_in, value};
@@ -60,16 +62,16 @@ pub(crate) fn console_open(serve: &Table) -> Result<bool, ServeFault>
     truth_or(serve, "console_open", ServeKey::ConsoleOpen, false)
 }
 
-/// Where the console listens, if there is one. It asks for no password, so unless it is open no other machine may reach
-/// the address.
-#[tactic(auto, unfolding(crate::specs::Keyed::console_at))]
-pub(crate) fn console(serve: &Table, opened: bool) -> Result<Option<SocketAddr>, ServeFault>
-    ensures { (s : Spelling) → result ≡ console_at s opened (table_view serve.now) }
+/// Where the console is, if there is one. It asks for no password, so unless it is open no other machine may reach it.
+#[tactic(auto, unfolding(crate::specs::Consoles::console_at))]
+pub(crate) fn console(serve: &Table, opened: bool) -> Result<Option<ConsolePlace<'_>>, ServeFault>
+    ensures { (s : Spelling) → Answers (λ console. option_map place_of console)
+        (console_at s opened (table_view serve.now)) result }
 {
     match found(serve, "console") {
         Some(value) => {
-            let address = address_in(value, ServeKey::Console)?;
-            Ok(Some(guarded(address, opened, ServeKey::Console)?))
+            let text = text_in(value, ServeKey::Console)?;
+            Ok(Some(place_in(text, opened)?))
         }
         None => Ok(None),
     }

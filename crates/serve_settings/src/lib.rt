@@ -3,6 +3,7 @@
 #![tactic(auto)]
 
 mod address;
+pub mod console_place;
 mod document;
 mod endpoints;
 pub mod fault;
@@ -16,7 +17,8 @@ pub mod server;
 mod shapes;
 mod times;
 
-pub use document::{check_server, read, read_server};
+pub use console_place::ConsolePlace;
+pub use document::{check_server, read, read_console, read_server};
 pub use fault::ServeFault;
 pub use key::ServeKey;
 pub use sctp::{Remote, SctpTimes};

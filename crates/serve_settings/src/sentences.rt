@@ -4,6 +4,7 @@ ghost use Rattle.std.specs.Prelude.{◌≡◌, Some, IfOk, string_bytes};
 ghost use Rattle.serve_settings.specs.Sentences.{Explains, key_place, place_of};
 
 use crate::address::address_in;
+use crate::console_place::is_path;
 use crate::fault::ServeFault;
 use crate::key::ServeKey;
 use crate::key_rows::key_row;
@@ -24,6 +25,9 @@ const NOT_USUAL: &str = "is missing, and 300 isn't from rto_min_ms to rto_max_ms
 const LOOPBACK: &str = "a loopback address unless console_open is true";
 
 const LOOPBACK_PAGE: &str = "a loopback address unless page_open is true";
+
+/// What the path of a console must be.
+const SOCKET_PATH: &str = "a path of at most 107 octets without control characters";
 
 /// What the address of a peer must be.
 const OF_VERSION: &str = "an address of the same version of IP as serve.udp";
@@ -118,6 +122,9 @@ fn wrong_with(
 ) -> Result<String, AllocError> {
     match fault {
         ServeFault::Kind(_) => must_be(alloc, value, row.kind),
+        ServeFault::Range(ServeKey::Console) if names_path(value) => {
+            must_be(alloc, value, SOCKET_PATH)
+        }
         ServeFault::Range(key) if is_address(value) => must_be(alloc, value, demand(key, row)),
         ServeFault::Duplicate(key) => value_is(alloc, value, twice(document, key)),
         _ => must_be(alloc, value, row.demand),
@@ -160,6 +167,14 @@ fn beside(document: &Table, i: usize) -> &'static str {
 
 fn has_value(document: &Table, key: ServeKey) -> bool {
     value_at(document, &key_row(key)).is_some()
+}
+
+/// Whether a value is a text that names a Unix socket.
+fn names_path(value: &Value) -> bool {
+    match value.as_str() {
+        Some(text) => is_path(text),
+        None => false,
+    }
 }
 
 /// Whether a value is an address with a port from 1 on.

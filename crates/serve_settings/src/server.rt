@@ -2,9 +2,11 @@
 
 ghost use Rattle.std.specs.Prelude.{◌≡◌, ◌≤◌, true};
 ghost use Rattle.std.specs.Option.{option_map};
+ghost use Rattle.serve_settings.specs.Consoles.{place_of};
 ghost use Rattle.serve_settings.specs.Endpoints.{listens_on, has_same_peer, have_source};
 
 use crate::address::is_same_host;
+use crate::console_place::{ConsolePlace, KeptPlace};
 use crate::sctp::{Remote, SctpTimes};
 use point_format::PointFormat;
 use std::marker::Model;
@@ -51,7 +53,7 @@ impl Endpoint {
 /// The addresses that a server has itself, besides those at which its links listen.
 #[derive(Clone, Copy)]
 pub(crate) struct OwnAddresses {
-    /// Where the console listens, if there is one.
+    /// Where the console listens, if there is one over TCP.
     pub(crate) console: Option<SocketAddr>,
     /// Where the status page is, if there is one.
     pub(crate) page: Option<SocketAddr>,
@@ -59,13 +61,13 @@ pub(crate) struct OwnAddresses {
     pub(crate) udp: Option<SocketAddr>,
 }
 
-/// The settings of a server: the length of a tick, where its console listens, the capture file, how it shows point
+/// The settings of a server: the length of a tick, where its console is, the capture file, how it shows point
 /// codes, where its datagrams go out and with which times, where its status page is, and how the association of each
 /// link comes about.
 #[derive(Drop)]
 pub struct ServeSettings {
     pub(crate) tick_ms: u16,
-    pub(crate) console: Option<SocketAddr>,
+    pub(crate) console: Option<KeptPlace>,
     pub(crate) capture: Option<String>,
     pub(crate) points: PointFormat,
     pub(crate) udp: Option<SocketAddr>,
@@ -97,11 +99,15 @@ impl ServeSettings {
         self.tick_ms
     }
 
-    /// The address of the console, if one is set.
-    pub fn console(&self) -> Option<SocketAddr>
-        ensures { result ≡ self.now.console }
+    /// Where the console is, if one is set.
+    pub fn console(&self) -> Option<ConsolePlace<'_>>
+        ensures { option_map place_of result ≡ self.now.console }
     {
-        self.console
+        match &self.console {
+            Some(KeptPlace::Tcp(address)) => Some(ConsolePlace::Tcp(*address)),
+            Some(KeptPlace::Unix(path)) => Some(ConsolePlace::Unix(path.as_str())),
+            None => None,
+        }
     }
 
     /// The file that frames are captured to, if one is set.

@@ -1,11 +1,11 @@
 //! A client of the console and its socket.
 
-use crate::socket::{Progress, read_some, write_some};
+use crate::console_listener::CallerName;
+use crate::console_stream::ConsoleStream;
+use crate::socket::Progress;
 use console_session::{ConsoleClient, ConsoleContext, Ending, News};
 use mio::event::Event;
-use mio::net::TcpStream;
 use std::alloc::Global;
-use std::net::SocketAddr;
 
 /// Octets that one read of a client asks for.
 const PIECE_OCTETS: usize = 4096;
@@ -22,9 +22,9 @@ const LOW_OCTETS: usize = 65_536;
 /// A client and its connection.
 #[derive(Drop)]
 pub(crate) struct ClientSocket {
-    stream: TcpStream,
-    /// Where its connection leads.
-    pub(crate) peer: SocketAddr,
+    stream: ConsoleStream,
+    /// How the log names it.
+    pub(crate) name: CallerName,
     pub(crate) client: ConsoleClient,
     piece: [u8; PIECE_OCTETS],
     start: usize,
@@ -38,10 +38,10 @@ pub(crate) struct ClientSocket {
 
 impl ClientSocket {
     /// A client that just came.
-    pub(crate) fn new(alloc: Global, stream: TcpStream, peer: SocketAddr) -> ClientSocket {
+    pub(crate) fn new(alloc: Global, stream: ConsoleStream, name: CallerName) -> ClientSocket {
         ClientSocket {
             stream,
-            peer,
+            name,
             client: ConsoleClient::new(alloc),
             piece: [0; PIECE_OCTETS],
             start: 0,
@@ -121,7 +121,7 @@ impl ClientSocket {
         if !self.can_read {
             return false;
         }
-        match read_some(&mut self.stream, &mut self.piece) {
+        match self.stream.read(&mut self.piece) {
             Progress::Octets(count) => {
                 self.start = 0;
                 self.end = count;
@@ -155,7 +155,7 @@ impl ClientSocket {
 
     /// Makes one write.
     fn write_once(&mut self) {
-        match write_some(&mut self.stream, self.client.pending()) {
+        match self.stream.write(self.client.pending()) {
             Progress::Octets(count) => self.client.written(count),
             Progress::Later => self.can_write = false,
             Progress::Again => {}

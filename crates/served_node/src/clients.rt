@@ -1,19 +1,17 @@
 //! The clients of the console, and their sockets.
 
 use crate::client_socket::ClientSocket;
-use crate::listener::Listener;
+use crate::console_listener::{CallerName, ConsoleListener};
+use crate::console_stream::ConsoleStream;
 use crate::log::Log;
 use crate::naming::SocketName;
 use arrayvec::ArrayString;
 use console_session::{ConsoleContext, News};
 use mio::Registry;
 use mio::event::Event;
-use mio::net::TcpStream;
 use script::Sink;
 use std::alloc::{AllocError, Global};
-use std::fmt::Write as _;
-use std::io::Write;
-use std::net::SocketAddr;
+use std::fmt::Write;
 
 /// Octets of the line for a client that finds no place, at most.
 const LINE_OCTETS: usize = 64;
@@ -28,25 +26,26 @@ const ACCEPTS: usize = 16;
 /// if there is none. False if it has no place.
 fn is_seated<W: Sink>(
     free: usize,
-    stream: &mut TcpStream,
-    peer: SocketAddr,
+    stream: &mut ConsoleStream,
+    name: CallerName,
     registry: &Registry,
     log: &mut Log<'_, W>,
 ) -> bool {
     if free >= MOST_CLIENTS {
         tell_no_place(stream);
-        log.tell(&format_args!("caller {peer} no place"));
+        log.tell(&format_args!("caller {name} no place"));
         return false;
     }
-    let is_registered = SocketName::Client(free as u8).is_registered(registry, stream);
+    let token = SocketName::Client(free as u8).token();
+    let is_registered = stream.register(registry, token).is_ok();
     if is_registered {
-        log.tell(&format_args!("caller {peer}"));
+        log.tell(&format_args!("caller {name}"));
     }
     is_registered
 }
 
 /// Tells a client that there is no place for it.
-fn tell_no_place(stream: &mut TcpStream) {
+fn tell_no_place(stream: &mut ConsoleStream) {
     let mut line = ArrayString::<LINE_OCTETS>::new();
     let _fits = writeln!(line, "no place: {MOST_CLIENTS} callers are connected");
     let _told = stream.write(line.as_bytes());
@@ -56,8 +55,8 @@ fn tell_no_place(stream: &mut TcpStream) {
 fn is_over<W: Sink>(socket: &mut ClientSocket, log: &mut Log<'_, W>) -> bool {
     socket.write();
     if socket.is_closing {
-        let peer = socket.peer;
-        log.tell(&format_args!("caller {peer} gone"));
+        let name = socket.name;
+        log.tell(&format_args!("caller {name} gone"));
     }
     socket.is_closing
 }
@@ -71,7 +70,7 @@ fn clear(place: &mut Option<ClientSocket>) {
 #[derive(Drop)]
 pub struct ConsoleClients {
     /// Where they come.
-    pub listener: Listener,
+    pub listener: ConsoleListener,
     places: Vec<Option<ClientSocket>>,
     pub(crate) asked: Asked,
 }
@@ -101,7 +100,7 @@ impl ConsoleClients {
             places.push(None)?;
         }
         Ok(ConsoleClients {
-            listener: Listener::none(),
+            listener: ConsoleListener::none(),
             places,
             asked: Asked::none(),
         })
@@ -118,7 +117,7 @@ impl ConsoleClients {
     pub fn accept<W: Sink>(&mut self, alloc: Global, registry: &Registry, log: &mut Log<'_, W>) {
         for _ in 0..ACCEPTS {
             match self.listener.accept() {
-                Some((stream, peer)) => self.seat(alloc, stream, peer, registry, log),
+                Some((stream, name)) => self.seat(alloc, stream, name, registry, log),
                 None => return,
             }
         }
@@ -128,14 +127,14 @@ impl ConsoleClients {
     fn seat<W: Sink>(
         &mut self,
         alloc: Global,
-        mut stream: TcpStream,
-        peer: SocketAddr,
+        mut stream: ConsoleStream,
+        name: CallerName,
         registry: &Registry,
         log: &mut Log<'_, W>,
     ) {
         let free = self.free_place();
-        if is_seated(free, &mut stream, peer, registry, log) {
-            self.put(free, ClientSocket::new(alloc, stream, peer));
+        if is_seated(free, &mut stream, name, registry, log) {
+            self.put(free, ClientSocket::new(alloc, stream, name));
         }
     }
 

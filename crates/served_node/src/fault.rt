@@ -16,6 +16,10 @@ pub enum OpenFault {
     Random,
     /// It can't listen at this address, for this reason.
     Listen(SocketAddr, ErrorKind),
+    /// The console can't listen at its path, for this reason; AddrInUse if somebody answers there.
+    Console(ErrorKind),
+    /// A file that isn't a socket is at the path of the console.
+    Occupied,
 }
 
 impl From<AllocError> for OpenFault {

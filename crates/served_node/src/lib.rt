@@ -4,6 +4,8 @@
 
 mod client_socket;
 pub mod clients;
+pub mod console_listener;
+pub mod console_stream;
 pub mod datagram_socket;
 pub mod dropping;
 pub mod fault;
@@ -17,9 +19,12 @@ pub mod observers;
 mod packets;
 mod readiness;
 pub mod socket;
+pub mod socket_file;
 mod telling;
 
 pub use clients::ConsoleClients;
+pub use console_listener::ConsoleListener;
+pub use console_stream::ConsoleStream;
 pub use datagram_socket::{DatagramSocket, Received};
 pub use dropping::DroppingLog;
 pub use fault::OpenFault;
@@ -30,3 +35,4 @@ pub use naming::SocketName;
 pub use node::Node;
 pub use observers::{FileCapture, FrameObserver, Observers};
 pub use socket::{Progress, read_some, unmoved, write_some};
+pub use socket_file::SocketFile;

@@ -3,7 +3,6 @@
 ghost use Rattle.std.specs.Prelude.{ℕ, length};
 ghost use Rattle.served_node.specs.Progress.{IsWithin};
 
-use mio::net::TcpStream;
 use std::io::{ErrorKind, Read, Write};
 
 /// What a read or a write of a socket came to.
@@ -22,7 +21,7 @@ pub enum Progress {
 }
 
 /// Makes one read, to the front of the buffer.
-pub fn read_some(stream: &mut TcpStream, buffer: &mut [u8]) -> Progress
+pub fn read_some<S: Read>(stream: &mut S, buffer: &mut [u8]) -> Progress
     ensures { IsWithin result (length buffer.new) }
 {
     match stream.read(buffer) {
@@ -33,7 +32,7 @@ pub fn read_some(stream: &mut TcpStream, buffer: &mut [u8]) -> Progress
 }
 
 /// Makes one write, from the first of the octets on.
-pub fn write_some(stream: &mut TcpStream, octets: &[u8]) -> Progress
+pub fn write_some<S: Write>(stream: &mut S, octets: &[u8]) -> Progress
     ensures { IsWithin result (length octets.now) }
 {
     match stream.write(octets) {

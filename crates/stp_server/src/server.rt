@@ -8,13 +8,14 @@ use exchange::{Event, Exchange};
 use mio::{Events, Poll};
 use script::Sink;
 use sctp_links::SctpSockets;
-use serve_settings::{Endpoint, SctpTimes};
+use serve_settings::{ConsolePlace, Endpoint, SctpTimes};
 use served_link::Watch;
 use served_node::{FileCapture, Log, Node};
 use served_page::ServedPage;
 use settings::{FailureReason, Outcome};
 use status_page::NoticeLog;
 use std::alloc::Global;
+use std::fs::Files;
 use std::marker::Model;
 use std::net::{Net, SocketAddr};
 use std::time::Duration;
@@ -30,8 +31,8 @@ pub struct Places<'a> {
     pub udp: Option<SocketAddr>,
     /// The times of these links.
     pub sctp: SctpTimes,
-    /// Where the console listens, if it does.
-    pub console: Option<SocketAddr>,
+    /// Where the console is, if there is one.
+    pub console: Option<ConsolePlace<'a>>,
     /// Where its status page is, if it has one.
     pub page: Option<SocketAddr>,
     /// Whether the page may be asked for by any name.
@@ -126,9 +127,10 @@ impl Server {
         }
     }
 
-    /// Closes its sockets. Only this drops a server: its parts are many, and so are the states of a body that drops
-    /// them.
-    pub fn close(self) {
+    /// Removes the file of its console, if that is a Unix socket, and closes its sockets. Only this drops a server: its
+    /// parts are many, and so are the states of a body that drops them.
+    pub fn close<F: Files>(self, files: &F) {
+        self.node.observers.clients.listener.remove_file(files);
         drop(self);
     }
 

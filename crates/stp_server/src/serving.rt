@@ -50,7 +50,7 @@ fn serve_logged<W: Sink>(
     match Server::open(rt, rt.alloc(), settings, places, log) {
         Ok(mut server) => {
             let served = serve_opened(rt, &mut server, serve, log);
-            server.close();
+            server.close(rt);
             served
         }
         Err(fault) => Err(ServeFailure::Open(fault)),

@@ -6,11 +6,12 @@ use super::{Places, Server};
 use mio::{Events, Poll};
 use script::Sink;
 use sctp_links::{Keys, SctpSockets};
-use serve_settings::{Endpoint, SctpTimes};
-use served_node::{Listener, Log, Node, OpenFault, SocketName};
+use serve_settings::{ConsolePlace, Endpoint, SctpTimes};
+use served_node::{ConsoleListener, Listener, Log, Node, OpenFault, SocketFile, SocketName};
 use settings::{LinkId, Settings};
 use status_page::NoticeLog;
 use std::alloc::Global;
+use std::fs::Files;
 use std::net::{Net, SocketAddr};
 use std::random::RandomSource;
 use std::time::Duration;
@@ -22,7 +23,7 @@ const EVENTS: usize = 128;
 
 impl Server {
     /// A server of a node with these settings. It listens from now on, and no connection is there yet.
-    pub fn open<N: Net + RandomSource, W: Sink>(
+    pub fn open<N: Net + Files + RandomSource, W: Sink>(
         net: &N,
         alloc: Global,
         settings: Settings,
@@ -41,14 +42,14 @@ impl Server {
         match server.add_sockets(net, places, &mut log) {
             Ok(()) => Ok(server),
             Err(fault) => {
-                server.close();
+                server.close(net);
                 Err(fault)
             }
         }
     }
 
     /// Adds the sockets of all links, the console and the status page.
-    fn add_sockets<N: Net + RandomSource, W: Sink>(
+    fn add_sockets<N: Net + Files + RandomSource, W: Sink>(
         &mut self,
         net: &N,
         places: Places<'_>,
@@ -128,21 +129,46 @@ impl Server {
         }
     }
 
-    /// Adds the console, if it has an address.
-    fn add_console<N: Net, W: Sink>(
+    /// Adds the console, if there is one.
+    fn add_console<N: Net + Files, W: Sink>(
         &mut self,
         net: &N,
-        address: Option<SocketAddr>,
+        place: Option<ConsolePlace<'_>>,
         log: &mut Log<'_, W>,
     ) -> Result<(), OpenFault> {
-        let Some(address) = address else {
-            return Ok(());
+        let listener = match place {
+            Some(ConsolePlace::Tcp(address)) => self.console_at(net, address, log)?,
+            Some(ConsolePlace::Unix(path)) => self.console_socket(net, path, log)?,
+            None => return Ok(()),
         };
+        self.node.observers.clients.listener = listener;
+        Ok(())
+    }
+
+    /// A console at an address.
+    fn console_at<N: Net, W: Sink>(
+        &self,
+        net: &N,
+        address: SocketAddr,
+        log: &mut Log<'_, W>,
+    ) -> Result<ConsoleListener, OpenFault> {
         let registry = self.poll.registry();
         let (listener, address) = Listener::open(net, registry, address, SocketName::Console)?;
         log.tell(&format_args!("console {address}"));
-        self.node.observers.clients.listener = listener;
-        Ok(())
+        Ok(ConsoleListener::Tcp(listener))
+    }
+
+    /// A console at the path of a Unix socket.
+    fn console_socket<N: Net + Files, W: Sink>(
+        &self,
+        net: &N,
+        path: &str,
+        log: &mut Log<'_, W>,
+    ) -> Result<ConsoleListener, OpenFault> {
+        let registry = self.poll.registry();
+        let socket = SocketFile::open(net, self.alloc, registry, path, SocketName::Console)?;
+        log.tell(&format_args!("console {path}"));
+        Ok(ConsoleListener::Unix(socket))
     }
 }
 

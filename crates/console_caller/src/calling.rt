@@ -1,0 +1,118 @@
+//! Calling a console.
+
+use crate::answers::Answers;
+use crate::call::{CONNECTION, Call, is_input_told};
+use crate::fault::CallFault;
+use crate::outgoing::Outgoing;
+use mio::net::{TcpStream, UnixStream};
+use mio::{Events, Poll};
+use script::{Sink, Source};
+use serve_settings::ConsolePlace;
+use served_node::ConsoleStream;
+use std::os::unix;
+use std::{io, net};
+
+/// Events that one wait tells of, at most: one of each source.
+const EVENTS: usize = 2;
+
+/// What a console made of the lines.
+#[derive(Clone, Copy, PartialEq, Eq)]
+pub enum Told {
+    /// It answered, and refused nothing.
+    Done,
+    /// It says that something wasn't done.
+    Refused,
+}
+
+/// Calls the console at this place, writes it these words as one line, or what the reader gives if there are none, and
+/// prints what it answers. Then it ends its half, so that the console closes the connection after the last answer; a
+/// node that stops does so when its work is done.
+///
+/// Connect if nobody answers there. Lost if the connection breaks, ends within a line or before all was written, or,
+/// for words that always have an answer, ends without one; but not after an answer that says that something wasn't
+/// done, or that the node stops.
+pub fn call<R: Source, W: Sink>(
+    rt: &HostRuntime,
+    place: ConsolePlace<'_>,
+    words: &[String],
+    reader: &mut R,
+    writer: &mut W,
+) -> Result<Told, CallFault> {
+    let outgoing = Outgoing::new(rt.alloc(), words)?;
+    let stream = match connected(rt, place) {
+        Ok(stream) => stream,
+        Err(error) => return Err(CallFault::Connect(error.kind())),
+    };
+    let mut call = begun(rt, stream, outgoing)?;
+    let is_whole = call.run(reader, writer)?;
+    verdict(&call.answers, is_whole, has_answer(words))
+}
+
+/// A connection to a console. Its reads and writes wait for nobody.
+fn connected(rt: &HostRuntime, place: ConsolePlace<'_>) -> io::Result<ConsoleStream> {
+    match place {
+        ConsolePlace::Tcp(address) => {
+            let stream = net::TcpStream::connect(rt, address)?;
+            stream.set_nonblocking(true)?;
+            Ok(ConsoleStream::Tcp(TcpStream::from_std(stream)))
+        }
+        ConsolePlace::Unix(path) => {
+            let stream = unix::net::UnixStream::connect(rt, path)?;
+            stream.set_nonblocking(true)?;
+            Ok(ConsoleStream::Unix(UnixStream::from_std(stream)))
+        }
+    }
+}
+
+/// A call over this connection, of which nothing was written yet.
+fn begun(
+    rt: &HostRuntime,
+    mut stream: ConsoleStream,
+    outgoing: Outgoing,
+) -> Result<Call, CallFault> {
+    let events = Events::with_capacity(rt.alloc(), EVENTS)?;
+    let Ok(poll) = Poll::new(rt) else {
+        return Err(CallFault::Poll);
+    };
+    if stream.register(poll.registry(), CONNECTION).is_err() {
+        return Err(CallFault::Poll);
+    }
+    let is_input_polled = outgoing.wants_more() && is_input_told(poll.registry());
+    Ok(Call {
+        stream,
+        poll,
+        events,
+        outgoing,
+        answers: Answers::new(),
+        is_input_polled,
+        is_input_ready: !is_input_polled,
+        can_read: true,
+        can_write: true,
+        has_ended_writing: false,
+    })
+}
+
+/// Whether a line of these words always has an answer: it isn't empty, no remark, and shows nothing, of which there may
+/// be none.
+fn has_answer(words: &[String]) -> bool {
+    match words {
+        [first, ..] => {
+            let first = first.as_str();
+            !first.is_empty() && !first.starts_with('#') && first != "show"
+        }
+        [] => false,
+    }
+}
+
+/// What came of a call, whose connection ended by itself or broke.
+fn verdict(answers: &Answers, is_whole: bool, has_answer: bool) -> Result<Told, CallFault> {
+    if answers.is_refused {
+        return Ok(Told::Refused);
+    }
+    let is_complete = is_whole && !answers.is_within_line() && (answers.has_any || !has_answer);
+    if answers.has_stopped || is_complete {
+        Ok(Told::Done)
+    } else {
+        Err(CallFault::Lost)
+    }
+}
