@@ -313,7 +313,7 @@ class NodeTest(unittest.TestCase):
 
     def node(self, own: int, links: Sequence[Link | SctpLink], *, console: int | str | None = None,
              **more: Any) -> Node:
-        """A node with these links, which isn't started. Its console is at a port of its own, unless a place is given."""
+        """A node with these links, which isn't started. Its console is at a port of its own, if no place is given."""
         console = console or free_port()
         text = settings(own, links, console=console, **more)
         node = Node(self.folder / f"{own}-{len(os.listdir(self.folder))}", text, console, links)

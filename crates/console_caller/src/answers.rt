@@ -88,7 +88,8 @@ fn is_refused_outcome(line: &[u8]) -> bool
     starts_with(line, REFUSED) && blanks(line) == OUTCOME_BLANKS
 }
 
-fn starts_with(line: &[u8], front: &[u8]) -> bool
+/// Whether a line begins with this.
+pub(crate) fn starts_with(line: &[u8], front: &[u8]) -> bool
     ensures { result ≡ starts_with line.now front.now }
 {
     line.len() >= front.len() && &line[..front.len()] == front

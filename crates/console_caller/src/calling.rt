@@ -1,6 +1,6 @@
 //! Calling a console.
 
-use crate::answers::Answers;
+use crate::answers::{Answers, starts_with};
 use crate::call::{CONNECTION, Call, is_input_told};
 use crate::fault::CallFault;
 use crate::outgoing::Outgoing;
@@ -39,13 +39,14 @@ pub fn call<R: Source, W: Sink>(
     writer: &mut W,
 ) -> Result<Told, CallFault> {
     let outgoing = Outgoing::new(rt.alloc(), words)?;
+    let has_answer = has_answer(outgoing.pending());
     let stream = match connected(rt, place) {
         Ok(stream) => stream,
         Err(error) => return Err(CallFault::Connect(error.kind())),
     };
     let mut call = begun(rt, stream, outgoing)?;
     let is_whole = call.run(reader, writer)?;
-    verdict(&call.answers, is_whole, has_answer(words))
+    verdict(&call.answers, is_whole, has_answer)
 }
 
 /// A connection to a console. Its reads and writes wait for nobody.
@@ -92,16 +93,12 @@ fn begun(
     })
 }
 
-/// Whether a line of these words always has an answer: it isn't empty, no remark, and shows nothing, of which there may
-/// be none.
-fn has_answer(words: &[String]) -> bool {
-    match words {
-        [first, ..] => {
-            let first = first.as_str();
-            !first.is_empty() && !first.starts_with('#') && first != "show"
-        }
-        [] => false,
-    }
+/// Whether a line always has an answer: it isn't empty, no remark, and shows nothing, of which there may be none.
+fn has_answer(line: &[u8]) -> bool {
+    !line.is_empty()
+        && !starts_with(line, b"\n")
+        && !starts_with(line, b"#")
+        && !starts_with(line, b"show ")
 }
 
 /// What came of a call, whose connection ended by itself or broke.
