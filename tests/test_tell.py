@@ -117,8 +117,8 @@ class Tell(LoneTest):
     def test_another_user(self) -> None:
         node = self.at_a_socket()
         program = shutil.copy(STP, self.folder)
-        for folder in (self.folder, node.folder):
-            folder.chmod(0o755)
+        for path in (program, self.folder, node.folder):
+            os.chmod(path, 0o755)
         node.start()
         told = subprocess.run([program, "tell", "node.toml", "stop"], cwd=node.folder, user=NOBODY,
                               capture_output=True, text=True, timeout=PATIENCE)

@@ -60,11 +60,9 @@ impl Call {
         if !self.is_input_ready || !self.outgoing.wants_more() {
             return Ok(());
         }
-        if self.outgoing.read_from(reader)?.is_err() {
-            return Err(CallFault::Read);
-        }
+        self.outgoing.read_from(reader)?;
         if self.is_input_polled {
-            self.is_input_ready = is_asked_again(self.poll.registry()).is_none();
+            self.is_input_ready = !is_input_told_again(self.poll.registry());
         }
         Ok(())
     }
@@ -160,9 +158,9 @@ pub(crate) fn is_input_told(registry: &Registry) -> bool {
         .is_ok()
 }
 
-/// Has the poll tell of standard input once more, if there is something left to read. None if it doesn't.
-fn is_asked_again(registry: &Registry) -> Option<()> {
+/// Has the poll tell of standard input once more, if there is something left to read. False if it can't.
+fn is_input_told_again(registry: &Registry) -> bool {
     registry
         .reregister(&mut SourceFd(&STANDARD_INPUT), INPUT, Interest::READABLE)
-        .ok()
+        .is_ok()
 }

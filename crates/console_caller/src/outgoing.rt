@@ -1,6 +1,7 @@
 //! What is written to a console.
 
-use script::{ReadFailed, Source};
+use crate::fault::CallFault;
+use script::Source;
 use std::alloc::{AllocError, Global};
 
 /// Octets that one read of the lines asks for.
@@ -53,15 +54,13 @@ impl Outgoing {
         self.has_ended = true;
     }
 
-    /// Makes one read, after all is written that was there. A last line that lacks its line feed gets one. The error of
-    /// the error means that memory ran out.
-    pub(crate) fn read_from<R: Source>(
-        &mut self,
-        reader: &mut R,
-    ) -> Result<Result<(), ReadFailed>, AllocError> {
+    /// Makes one read, after all is written that was there. A last line that lacks its line feed gets one.
+    ///
+    /// Read if the read fails, or NoMemory.
+    pub(crate) fn read_from<R: Source>(&mut self, reader: &mut R) -> Result<(), CallFault> {
         let mut piece = [0; PIECE_OCTETS];
         let Ok(count) = reader.read(&mut piece) else {
-            return Ok(Err(ReadFailed));
+            return Err(CallFault::Read);
         };
         self.octets.clear();
         self.start = 0;
@@ -71,7 +70,7 @@ impl Outgoing {
         } else {
             self.ends_line = self.octets.last() == Some(&b'\n');
         }
-        Ok(Ok(()))
+        Ok(())
     }
 
     /// Nothing more follows but the end of the last line.
