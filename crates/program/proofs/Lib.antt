@@ -4,3 +4,4 @@ pub mod Told
 pub mod Files
 pub mod Labs
 pub mod Networks
+pub mod Consoles

@@ -9,7 +9,7 @@ use std::process::ExitCode;
 use std::{env, io};
 
 /// The program `stp` with the machine's arguments, files and standard streams. Its lab joins links by TCP on this
-/// machine, and it serves a node on the network. `main` is this call.
+/// machine; on the network it serves a node, and calls the console of one. `main` is this call.
 pub fn run_on_machine(rt: &HostRuntime) -> ExitCode {
     let mut reader = ReaderSource::new(rt.stdin());
     let mut writer = WriterSink::new(io::writer(rt));

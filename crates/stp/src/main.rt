@@ -1,6 +1,6 @@
 //! The node as a program: `stp run` runs the script on standard input, `stp check` checks settings, `stp lab` and `stp
-//! lab-udp` run the lab script on standard input on two nodes (`stp lab` also on more), and `stp serve` serves a node
-//! on the network. `stp help` and `stp version` are about the program.
+//! lab-udp` run the lab script on standard input on two nodes (`stp lab` also on more), `stp serve` serves a node on
+//! the network, and `stp tell` calls its console. `stp help` and `stp version` are about the program.
 #![tactic(auto)]
 
 use program::run_on_machine;

@@ -1,6 +1,7 @@
 use Rattle.std.proofs.Common.{inl, inr}
 use Rattle.program.proofs.Labs.{does-lab, does-datagram-lab}
 use Rattle.program.proofs.Networks.{does-network}
+use Rattle.program.proofs.Consoles.{does-tell}
 use Rattle.program.proofs.program.run_program.Goals as goal
 
 pub returns-in-Lab : goal.returns-in-Lab
@@ -18,5 +19,11 @@ returns-in-DatagramLab g c = elim c.in-DatagramLab.ensures [
 pub returns-in-Network : goal.returns-in-Network
 returns-in-Network g c = elim c.in-Network.ensures [
   | inl asked ↦ does-network c.args.words.now _ _ _ _ _ asked c.run_network_files.ensures
+  | inr refused ↦ absurd (cc (refused.0))
+]
+
+pub returns-in-Tell : goal.returns-in-Tell
+returns-in-Tell g c = elim c.in-Tell.ensures [
+  | inl asked ↦ does-tell c.args.words.now _ _ _ _ _ _ asked c.tell_file.ensures
   | inr refused ↦ absurd (cc (refused.0))
 ]

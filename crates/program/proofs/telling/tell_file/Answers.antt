@@ -1,0 +1,13 @@
+use Rattle.std.proofs.Common.{Ok}
+use Rattle.program.proofs.Consoles.{tells-from, ends-tell}
+use Rattle.program.proofs.telling.tell_file.Goals as goal
+
+pub returns : goal.returns
+returns g c =
+    let d = c.in-Ok.ensures.document in
+    (Ok d.0, d.1, tells-from c.args.file.now d.0 _ _ _ _ _ _ _ c.in-Ok.ensures.unwritten c.in-Ok.ensures.untold (c.tell_document-status.ensures d.0 d.2))
+
+pub returns-in-Err : goal.returns-in-Err
+returns-in-Err g c =
+    let ended = c.in-Err.ensures.ended in
+    (ended.0, ended.1, ends-tell c.args.file.now ended.0 _ _ _ _ _ _ ended.2)
