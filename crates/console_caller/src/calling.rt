@@ -1,6 +1,6 @@
 //! Calling a console.
 
-use crate::answers::{Answers, starts_with};
+use crate::answers::{Answers, Told, has_answer};
 use crate::call::{CONNECTION, Call, is_input_told};
 use crate::fault::CallFault;
 use crate::outgoing::Outgoing;
@@ -14,15 +14,6 @@ use std::{io, net};
 
 /// Events that one wait tells of, at most: one of each source.
 const EVENTS: usize = 2;
-
-/// What a console made of the lines.
-#[derive(Clone, Copy, PartialEq, Eq)]
-pub enum Told {
-    /// It answered, and refused nothing.
-    Done,
-    /// It says that something wasn't done.
-    Refused,
-}
 
 /// Calls the console at this place, writes it these words as one line, or what the reader gives if there are none, and
 /// prints what it answers. Then it ends its half, so that the console closes the connection after the last answer; a
@@ -39,14 +30,14 @@ pub fn call<R: Source, W: Sink>(
     writer: &mut W,
 ) -> Result<Told, CallFault> {
     let outgoing = Outgoing::new(rt.alloc(), words)?;
-    let has_answer = has_answer(outgoing.pending());
+    let is_answered = has_answer(outgoing.pending());
     let stream = match connected(rt, place) {
         Ok(stream) => stream,
         Err(error) => return Err(CallFault::Connect(error.kind())),
     };
     let mut call = begun(rt, stream, outgoing)?;
     let is_whole = call.run(reader, writer)?;
-    verdict(&call.answers, is_whole, has_answer)
+    call.answers.verdict(is_whole, is_answered)
 }
 
 /// A connection to a console. Its reads and writes wait for nobody.
@@ -91,25 +82,4 @@ fn begun(
         can_write: true,
         has_ended_writing: false,
     })
-}
-
-/// Whether a line always has an answer: it isn't empty, no remark, and shows nothing, of which there may be none.
-fn has_answer(line: &[u8]) -> bool {
-    !line.is_empty()
-        && !starts_with(line, b"\n")
-        && !starts_with(line, b"#")
-        && !starts_with(line, b"show ")
-}
-
-/// What came of a call, whose connection ended by itself or broke.
-fn verdict(answers: &Answers, is_whole: bool, has_answer: bool) -> Result<Told, CallFault> {
-    if answers.is_refused {
-        return Ok(Told::Refused);
-    }
-    let is_complete = is_whole && !answers.is_within_line() && (answers.has_any || !has_answer);
-    if answers.has_stopped || is_complete {
-        Ok(Told::Done)
-    } else {
-        Err(CallFault::Lost)
-    }
 }

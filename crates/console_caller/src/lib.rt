@@ -1,11 +1,12 @@
 //! A caller of the console of a served node: it writes lines there, and prints the answers as they come.
 #![tactic(auto)]
 
-mod answers;
+pub mod answers;
 mod call;
 mod calling;
-mod fault;
+pub mod fault;
 mod outgoing;
 
-pub use calling::{Told, call};
+pub use answers::Told;
+pub use calling::call;
 pub use fault::CallFault;
