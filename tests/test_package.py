@@ -1,0 +1,122 @@
+"""What is packed beside the program: its manual page, completion and settings, `stpd`, and the package itself."""
+
+from __future__ import annotations
+
+import os
+import re
+import shutil
+import signal
+import subprocess
+import unittest
+from pathlib import Path
+
+from harness import PATIENCE, ROOT, STP, NodeTest, free_port, run, settings, links_between, wait_until
+
+PACKAGING = ROOT / "packaging"
+
+
+def helped() -> list[tuple[str, str]]:
+    """Each form of the arguments that `stp help` lists, and what it means."""
+    lines = run("help", folder=ROOT).stdout.splitlines()
+    return [tuple(re.split(r"  +", line, maxsplit=1)) for line in lines if line.startswith("stp ")]
+
+
+def paged() -> list[tuple[str, str]]:
+    """The same of the manual page: of each form a heading, and its meaning on the next lines."""
+    section = (PACKAGING / "stp.1").read_text().partition(".SH COMMANDS\n")[2].partition(".SH ")[0]
+    blocks = [block.splitlines() for block in section.split(".TP\n")[1:]]
+    return [(re.sub(r'^\.BI? |"', "", head).replace(r"\-", "-"), " ".join(rest)) for head, *rest in blocks]
+
+
+class Pages(unittest.TestCase):
+    def test_manual_page_says_what_help_says(self) -> None:
+        self.assertEqual(paged(), helped())
+
+    def test_completion_has_each_command(self) -> None:
+        commands = re.search(r"compgen -W '(.*?)'", (PACKAGING / "stp.bash").read_text())
+        self.assertEqual(set(commands[1].split()), {form.split()[1] for form, _ in helped()})
+
+    def test_example_has_no_fault(self) -> None:
+        checked = run("check", str(PACKAGING / "example.toml"), folder=ROOT)
+        self.assertEqual((checked.returncode, checked.stdout, checked.stderr), (0, "ok\n", ""))
+
+
+class Wrapper(NodeTest):
+    """`stpd` ends its node in order, whichever of its processes the signal reaches, and ends with its status."""
+
+    def setUp(self) -> None:
+        super().setUp()
+        console = free_port()
+        self.text = settings(1, links_between([free_port()], 2, True), console=console)
+        (self.folder / "node.toml").write_text(self.text)
+
+    def started(self) -> subprocess.Popen:
+        """A wrapper with a process group of its own, whose node has a console."""
+        with open(self.folder / "log", "wb") as log:
+            wrapper = subprocess.Popen([PACKAGING / "stpd", "node.toml"], cwd=self.folder, stdout=log, stderr=log,
+                                       env={**os.environ, "STP": STP}, start_new_session=True)
+        self.addCleanup(self.end, wrapper)
+        wait_until(lambda: " console " in self.log(), "the console of the node")
+        return wrapper
+
+    def end(self, wrapper: subprocess.Popen) -> None:
+        if wrapper.poll() is None:
+            os.killpg(wrapper.pid, signal.SIGKILL)
+            wrapper.wait()
+
+    def log(self) -> str:
+        return (self.folder / "log").read_text()
+
+    def test_a_signal_to_the_wrapper(self) -> None:
+        for number in (signal.SIGTERM, signal.SIGINT):
+            wrapper = self.started()
+            wrapper.send_signal(number)
+            self.assertEqual(wrapper.wait(PATIENCE), 0)
+            self.assertTrue(self.log().endswith(" stop\n"), self.log())
+
+    def test_a_signal_to_all_of_a_terminal(self) -> None:
+        wrapper = self.started()
+        os.killpg(wrapper.pid, signal.SIGINT)
+        self.assertEqual(wrapper.wait(PATIENCE), 0)
+        self.assertTrue(self.log().endswith(" stop\n"), self.log())
+
+    def test_the_status_of_the_node(self) -> None:
+        (self.folder / "node.toml").write_text(self.text.replace("own = 1", "own = -1"))
+        wrapper = subprocess.run([PACKAGING / "stpd", "node.toml"], cwd=self.folder, capture_output=True,
+                                 env={**os.environ, "STP": STP}, timeout=PATIENCE, check=False)
+        self.assertEqual(wrapper.returncode, 2)
+
+
+@unittest.skipUnless(shutil.which("dpkg-deb"), "dpkg-deb isn't here")
+class Package(NodeTest):
+    def packed(self, name: str) -> Path:
+        """Makes the package, and returns its path."""
+        made = subprocess.run([ROOT / "tools/package", self.folder / name], env={**os.environ, "STP": STP},
+                              capture_output=True, text=True, check=True)
+        return Path(made.stdout.splitlines()[-1])
+
+    def told(self, *words: str | Path) -> str:
+        return subprocess.run(["dpkg-deb", *words], capture_output=True, text=True, check=True).stdout
+
+    def test_it_is_the_same_each_time(self) -> None:
+        self.assertEqual(self.packed("first").read_bytes(), self.packed("second").read_bytes())
+
+    def test_its_files(self) -> None:
+        package = self.packed("out")
+        rows = [line.split() for line in self.told("--contents", package).splitlines()]
+        self.assertEqual({row[1] for row in rows}, {"root/root"})
+        modes = {row[5].removeprefix("."): row[0] for row in rows}
+        program, data = "-rwxr-xr-x", "-rw-r--r--"
+        for path, mode in (("/usr/bin/stp", program), ("/usr/bin/stpd", program), ("/etc/sixhadobe/example.toml", data),
+                           ("/usr/lib/systemd/system/stp@.service", data), ("/usr/share/man/man1/stp.1.gz", data)):
+            self.assertEqual(modes[path], mode, path)
+
+    def test_its_version_and_libraries(self) -> None:
+        package = self.packed("out")
+        version = run("--version", folder=ROOT).stdout.split()[1]
+        self.assertEqual(self.told("--field", package, "Version").strip(), version)
+        self.assertEqual(self.told("--field", package, "Depends").strip(), "libc6 (>= 2.34), libgcc-s1")
+
+
+if __name__ == "__main__":
+    unittest.main()
