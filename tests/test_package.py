@@ -25,7 +25,8 @@ def paged() -> list[tuple[str, str]]:
     """The same of the manual page: of each form a heading, and its meaning on the next lines."""
     section = (PACKAGING / "stp.1").read_text().partition(".SH COMMANDS\n")[2].partition(".SH ")[0]
     blocks = [block.splitlines() for block in section.split(".TP\n")[1:]]
-    return [(re.sub(r'^\.BI? |"', "", head).replace(r"\-", "-"), " ".join(rest)) for head, *rest in blocks]
+    heads = (re.sub(r'^\.BI? |["\\]', "", head).split() for head, *_ in blocks)
+    return [(" ".join(words), " ".join(rest)) for words, (_, *rest) in zip(heads, blocks)]
 
 
 class Pages(unittest.TestCase):

@@ -109,7 +109,7 @@ class Services:
 
     def install(self, package: Path) -> None:
         shutil.copy(package, self.machine.top / "root")
-        installed = self.machine.run("apt-get", "install", "--yes", f"/root/{package.name}")
+        installed = self.machine.run("apt-get", "install", "--yes", "--reinstall", f"/root/{package.name}")
         look("apt-get install", installed.returncode, 0)
         for name in NODES:
             (self.machine.top / SETTINGS.format(name).lstrip("/")).write_text(settings(name))
@@ -166,7 +166,7 @@ def ends(services: Services) -> None:
     look("links that the peer closed", services.closes(), 2 * LINKS)
     services.control("start", UNIT.format("near"))
     services.machine.await_true("the links are in service", services.are_in_service)
-    services.control("kill", "--signal=KILL", UNIT.format("near"))
+    services.control("kill", "--kill-who=main", "--signal=KILL", UNIT.format("near"))
     services.machine.await_true("it runs again", lambda: services.state("near")["NRestarts"] == "1")
     services.machine.await_true("the links are in service", services.are_in_service)
 
