@@ -7,10 +7,11 @@ import re
 import shutil
 import signal
 import subprocess
+import tempfile
 import unittest
 from pathlib import Path
 
-from harness import PATIENCE, ROOT, STP, NodeTest, free_port, run, settings, links_between, wait_until
+from harness import PATIENCE, ROOT, STP, NodeTest, free_port, links_between, run, settings, wait_until
 
 PACKAGING = ROOT / "packaging"
 
@@ -89,10 +90,19 @@ class Wrapper(NodeTest):
 
 
 @unittest.skipUnless(shutil.which("dpkg-deb"), "dpkg-deb isn't here")
-class Package(NodeTest):
-    def packed(self, name: str) -> Path:
+class Package(unittest.TestCase):
+    @classmethod
+    def setUpClass(cls) -> None:
+        room = tempfile.TemporaryDirectory(prefix="stp-test-")
+        cls.addClassCleanup(room.cleanup)
+        cls.folder = Path(room.name)
+        cls.package = cls.pack("first")
+
+    @classmethod
+    def pack(cls, name: str) -> Path:
         """Makes the package, and returns its path."""
-        made = subprocess.run([ROOT / "tools/package", self.folder / name], env={**os.environ, "STP": STP},
+        environment = {**os.environ, "STP": STP, "SOURCE_DATE_EPOCH": "0"}
+        made = subprocess.run([ROOT / "tools/package", cls.folder / name], env=environment,
                               capture_output=True, text=True, check=True)
         return Path(made.stdout.splitlines()[-1])
 
@@ -100,11 +110,10 @@ class Package(NodeTest):
         return subprocess.run(["dpkg-deb", *words], capture_output=True, text=True, check=True).stdout
 
     def test_it_is_the_same_each_time(self) -> None:
-        self.assertEqual(self.packed("first").read_bytes(), self.packed("second").read_bytes())
+        self.assertEqual(self.pack("second").read_bytes(), self.package.read_bytes())
 
     def test_its_files(self) -> None:
-        package = self.packed("out")
-        rows = [line.split() for line in self.told("--contents", package).splitlines()]
+        rows = [line.split() for line in self.told("--contents", self.package).splitlines()]
         self.assertEqual({row[1] for row in rows}, {"root/root"})
         modes = {row[5].removeprefix("."): row[0] for row in rows}
         program, data = "-rwxr-xr-x", "-rw-r--r--"
@@ -113,11 +122,6 @@ class Package(NodeTest):
             self.assertEqual(modes[path], mode, path)
 
     def test_its_version_and_libraries(self) -> None:
-        package = self.packed("out")
         version = run("--version", folder=ROOT).stdout.split()[1]
-        self.assertEqual(self.told("--field", package, "Version").strip(), version)
-        self.assertEqual(self.told("--field", package, "Depends").strip(), "libc6 (>= 2.34), libgcc-s1")
-
-
-if __name__ == "__main__":
-    unittest.main()
+        self.assertEqual(self.told("--field", self.package, "Version").strip(), version)
+        self.assertEqual(self.told("--field", self.package, "Depends").strip(), "libc6 (>= 2.34), libgcc-s1")
