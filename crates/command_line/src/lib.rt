@@ -45,8 +45,8 @@ pub enum Words<'a> {
 }
 
 /// What the program's arguments ask for. If one of them is empty or begins with `-`, they are none of the commands,
-/// unless they are `--help` or `--version`, or `tell` with a file that isn't such. No memory is allocated for `--help`,
-/// `--version`, `help` and `version`; for all others it may run out.
+/// unless they are `--help` or `--version`, or it is among the words that `tell` writes. No memory is allocated for
+/// `--help`, `--version`, `help` and `version`; for all others it may run out.
 pub fn read_words<'a>(alloc: Global, words: &'a [String]) -> Words<'a>
     ensures { AreReadAs words.now result }
 {
