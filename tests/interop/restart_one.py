@@ -38,10 +38,10 @@ LOWER_PORT, UPPER_PORT = 3565, 3665
 BETWEEN, QUIET = 5.0, 5.0
 
 
-def settings(name: str, udp: dict[str, int], console: Path) -> str:
+def settings(name: str, udp: dict[str, int], console: int) -> str:
     """The settings of a node of the pair, with what it serves on. A link is named by the two nodes that it joins."""
     text = (ROOT / f"examples/mated_{name}.toml").read_text()
-    served = f'[serve]\ntick_ms = {TICK_MS}\nudp = "{HOST}:{udp[name]}"\nconsole = "{console}"\n'
+    served = f'[serve]\ntick_ms = {TICK_MS}\nudp = "{HOST}:{udp[name]}"\nconsole = "{HOST}:{console}"\n'
     text = re.sub(r"^pool = \d+", f"pool = {POOL}", text, flags=re.MULTILINE).replace("[timers]", f"{served}[timers]")
     for number, ends in enumerate(itertools.combinations("abcd", 2)):
         other = "".join(ends).replace(name, "")
@@ -144,8 +144,8 @@ class Mated:
         udp = {name: free_port() for name in POINTS}
         self.nodes, self.watches = {}, []
         for name in POINTS:
-            console = folder / name / "console"
-            self.nodes[name] = Node(folder / name, settings(name, udp, console), str(console), [])
+            console = free_port()
+            self.nodes[name] = Node(folder / name, settings(name, udp, console), console, [])
         for node in self.nodes.values():
             self.start(node)
         wait_until(self.is_in_service, "all links are in service")
