@@ -1,6 +1,6 @@
 //! What an end of an SCTP association tells.
 
-use crate::total::Total;
+use super::total::Total;
 use sctp_endpoint::{Address, Event, Watch};
 use std::marker::Model;
 

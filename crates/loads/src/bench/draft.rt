@@ -2,7 +2,7 @@
 
 ghost use Rattle.std.specs.Prelude.{◌≤◌};
 
-use crate::titles::{Table, title_drafts};
+use super::titles::{Table, title_drafts};
 use settings::{
     DestinationDraft, Draft, Limits, LinkDraft, LinkId, PointCode, SetDraft, TimersDraft,
 };

@@ -1,13 +1,10 @@
-//! The nodes of a run, before their first round.
+//! The peers before their first round, and the settings of the node between them.
 
-use crate::station::Station;
+use super::station::Station;
 use serve_settings::ServeSettings;
 use settings::Settings;
 use std::alloc::{AllocError, Global};
 use std::io;
-
-/// Links between two nodes that face each other.
-const LINKS: u16 = 3;
 
 /// The point that submits messages.
 pub(crate) const SENDER: u8 = 1;
@@ -18,55 +15,31 @@ pub(crate) const RECEIVER: u8 = 2;
 /// The point of a node between these two.
 const BETWEEN: u8 = 3;
 
-/// A node of a run: its point, the points that its links lead to, and where these are reached.
+/// A node of a run: its point, the points that its links lead to, one each, and where these are reached.
 #[derive(Clone, Copy)]
 pub(crate) struct Place {
     own: u8,
     adjacents: [Option<u8>; 2],
-    links: u16,
     listens: bool,
     port: u16,
 }
 
 impl Place {
-    /// The node that submits, with three links to the other.
-    pub(crate) fn sender(port: u16) -> Place {
-        Place::facing(SENDER, RECEIVER, true, port)
-    }
-
-    /// The node that counts, with three links to the other.
-    pub(crate) fn receiver(port: u16) -> Place {
-        Place::facing(RECEIVER, SENDER, false, port)
-    }
-
-    /// A node with three links to another.
-    fn facing(own: u8, adjacent: u8, listens: bool, port: u16) -> Place {
-        Place {
-            own,
-            adjacents: [Some(adjacent), None],
-            links: LINKS,
-            listens,
-            port,
-        }
-    }
-
-    /// A node with a link to each of the others.
+    /// A node with a link to each of the peers.
     pub(crate) fn between(port: u16) -> Place {
         Place {
             own: BETWEEN,
             adjacents: [Some(SENDER), Some(RECEIVER)],
-            links: 1,
             listens: true,
             port,
         }
     }
 
-    /// A node with one link, to the node between it and the other.
+    /// A peer, with a link to the node between it and the other.
     pub(crate) fn beside(own: u8, port: u16) -> Place {
         Place {
             own,
             adjacents: [Some(BETWEEN), None],
-            links: 1,
             listens: false,
             port,
         }
@@ -118,13 +91,13 @@ timers = {{ l1=10, l2=10, l3=10, l4=3, l6=20, l7=50, t1=4, t2=6, t3=4, t4=4, t6=
     Ok(text)
 }
 
-/// Adds the set to an adjacent point, with its links from this port on, and the destinations that it leads to.
+/// Adds the set to an adjacent point, with its link at this port, and the destinations that it leads to.
 fn add_set(
     alloc: Global,
     text: &mut String,
     adjacent: u8,
     place: Place,
-    first: u32,
+    port: u32,
 ) -> Result<(), AllocError> {
     let verb = if place.listens { "listen" } else { "connect" };
     let set = format!(in alloc;
@@ -132,22 +105,14 @@ fn add_set(
 [[set]]
 name = \"to-{adjacent}\"
 adjacent = {adjacent}
+[[link]]
+name = \"e{adjacent}-0\"
+set = \"to-{adjacent}\"
+slc = 0
+{verb} = \"127.0.0.1:{port}\"
 "
     )?;
     text.push_str(set.as_str())?;
-    for code in 0..place.links {
-        let port = first.saturating_add(u32::from(code));
-        let link = format!(in alloc;
-            "\
-[[link]]
-name = \"e{adjacent}-{code}\"
-set = \"to-{adjacent}\"
-slc = {code}
-{verb} = \"127.0.0.1:{port}\"
-"
-        )?;
-        text.push_str(link.as_str())?;
-    }
     add_destinations(alloc, text, adjacent, place)
 }
 

@@ -2,12 +2,12 @@
 
 ghost use Rattle.std.specs.Prelude.{◌≤◌};
 
-use crate::arguments::Arguments;
-use crate::incoming::Incoming;
-use crate::peer::Peer;
-use crate::side::Side;
-use crate::total::Total;
-use crate::traffic::forwarded;
+use super::arguments::Arguments;
+use super::incoming::Incoming;
+use super::peer::Peer;
+use super::side::Side;
+use super::total::Total;
+use super::traffic::forwarded;
 use settings::Limits;
 use std::alloc::Global;
 

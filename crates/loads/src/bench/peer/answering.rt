@@ -1,7 +1,7 @@
 //! What the peer answers: the declarations that the return of a link brings.
 
 use super::Peer;
-use crate::incoming::{EMPTY_OCTETS, Incoming, LENGTH_AT};
+use crate::bench::incoming::{EMPTY_OCTETS, Incoming, LENGTH_AT};
 use mtp3_codec::Management;
 use settings::LinkId;
 

@@ -1,10 +1,6 @@
-//! `bench KIND OCTETS DESTINATIONS LINKS COUNT`: what a message costs. A sixth argument, `wide` or `largest`, makes the
-//! settings larger.
-//!
-//! Carries COUNT messages, whose signalling information fields have OCTETS octets, through an exchange with this many
-//! destinations and links, and prints how many frames went out with a checksum of their octets. Count the instructions
-//! of two runs: their difference divided by that of their COUNTs is what a message costs.
-#![tactic(auto)]
+//! What a message costs an exchange: COUNT messages, whose signalling information fields have OCTETS octets, through one
+//! with this many destinations and links. Count the instructions of two runs: their difference divided by that of their
+//! COUNTs is what a message costs.
 
 ghost use Rattle.std.specs.Prelude.{◌≤◌};
 
@@ -25,29 +21,24 @@ mod total;
 mod traffic;
 mod unitdata;
 
+use crate::refuse;
 use arguments::{Arguments, Kind};
 use making::make;
 use over_sctp::over_sctp;
 use peer::Peer;
 use settings::Limits;
 use std::alloc::Global;
+use std::io;
 use std::process::ExitCode;
-use std::{env, io};
 use total::Total;
 use traffic::carry;
 
-fn main(rt: HostRuntime) -> io::Result<ExitCode> {
-    let words = words(&rt)?;
-    match Arguments::read(words.as_slice()) {
-        Some(arguments) => report(&rt, total_of(rt.alloc(), &arguments)),
-        None => refuse(&rt),
+/// Carries the messages that the words ask for, and prints how many frames went out with a checksum of their octets.
+pub(crate) fn perform(rt: &HostRuntime, words: &[String]) -> io::Result<ExitCode> {
+    match Arguments::read(words) {
+        Some(arguments) => report(rt, total_of(rt.alloc(), &arguments)),
+        None => refuse(rt),
     }
-}
-
-/// The program's arguments.
-fn words(rt: &HostRuntime) -> io::Result<Vec<String>> {
-    let words = env::args(rt)?.skip(1).collect(rt.alloc())?;
-    Ok(words)
 }
 
 /// Makes the nodes, or carries the messages. None if memory ran out.
@@ -87,14 +78,4 @@ fn report(rt: &HostRuntime, total: Option<Total>) -> io::Result<ExitCode> {
             Ok(ExitCode::from(2))
         }
     }
-}
-
-/// Says which words are asked for.
-fn refuse(rt: &HostRuntime) -> io::Result<ExitCode> {
-    println!(rt;
-        "usage: bench KIND OCTETS DESTINATIONS LINKS COUNT [wide|largest]; a KIND is forward, burst, sctp, sctp-full, \
-submit, local, acknowledgement, relay, relay-full, udts, udts-full, queue, failure, changeover, return, tick, status, \
-entry, expiry, draft, check or boot"
-    )?;
-    Ok(ExitCode::from(1))
 }

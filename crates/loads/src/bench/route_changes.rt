@@ -2,10 +2,10 @@
 
 ghost use Rattle.std.specs.Prelude.{◌≤◌};
 
-use crate::draft::OWN;
-use crate::end::first;
-use crate::incoming::Incoming;
-use crate::peer::Peer;
+use super::draft::OWN;
+use super::end::first;
+use super::incoming::Incoming;
+use super::peer::Peer;
 use mtp3_codec::Management;
 use settings::{Limits, PointCode};
 

@@ -4,12 +4,12 @@ ghost use Rattle.std.specs.Prelude.{◌≤◌};
 
 mod answering;
 
-use crate::draft::Shape;
-use crate::end::{End, place};
-use crate::incoming::Incoming;
-use crate::making::booted;
-use crate::side::Side;
-use crate::total::Total;
+use super::draft::Shape;
+use super::end::{End, place};
+use super::incoming::Incoming;
+use super::making::booted;
+use super::side::Side;
+use super::total::Total;
 use exchange::{BUFFER_OCTETS, Event, Exchange};
 use m2pa_codec::{Frame, LinkStatus, encode};
 use settings::{Limits, LinkId, MsuRef, Sls};

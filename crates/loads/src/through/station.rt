@@ -1,8 +1,8 @@
-//! One node: what came to it, and what it submits to the other point.
+//! A peer: what came to it, and what it submits to the other.
 
-use crate::FRONT_OCTETS;
-use crate::arrivals::Arrivals;
-use crate::opening::{RECEIVER, SENDER};
+use super::FRONT_OCTETS;
+use super::arrivals::Arrivals;
+use super::opening::{RECEIVER, SENDER};
 use exchange::{Event, Label, LinkStanding};
 use script::{Sink, WriteFailed};
 use serve_settings::ServeSettings;
@@ -142,19 +142,6 @@ impl Station {
     /// How many links its node has.
     fn links(&self) -> u8 {
         u8::try_from(self.server.exchange().settings().link_count()).unwrap_or(u8::MAX)
-    }
-
-    /// Whether no link is in service.
-    pub(crate) fn is_cut_off(&self) -> bool {
-        let mut are_cut_off = true;
-        for link in 0..self.links() {
-            are_cut_off = are_cut_off
-                && match self.server.exchange().link(LinkId::new(link)) {
-                    Some(view) => view.standing != LinkStanding::InService,
-                    None => true,
-                };
-        }
-        are_cut_off
     }
 }
 

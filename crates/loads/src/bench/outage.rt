@@ -1,9 +1,9 @@
 //! A link that fails and returns, again and again, while the others of its set carry its flows.
 
-use crate::end::first;
-use crate::failure::answer_about;
-use crate::incoming::Incoming;
-use crate::peer::Peer;
+use super::end::first;
+use super::failure::answer_about;
+use super::incoming::Incoming;
+use super::peer::Peer;
 use settings::{Limits, LinkId};
 
 /// The last link of the first set fails and returns this many times, and the others of its set carry its flows

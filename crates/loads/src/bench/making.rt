@@ -2,8 +2,8 @@
 
 ghost use Rattle.std.specs.Prelude.{◌≤◌};
 
-use crate::draft::{Shape, draft_with};
-use crate::total::Total;
+use super::draft::{Shape, draft_with};
+use super::total::Total;
 use exchange::Exchange;
 use settings::{Limits, Settings};
 use std::alloc::Global;

@@ -1,6 +1,6 @@
 //! An end of an SCTP association, which hears what the other end puts out.
 
-use crate::told::Told;
+use super::told::Told;
 use sctp_endpoint::endpoint::KEY_OCTETS;
 use sctp_endpoint::{Address, Endpoint, Event, Settings, Watch};
 use sctp_sending::{Bounds, Message};

@@ -2,12 +2,12 @@
 
 ghost use Rattle.std.specs.Prelude.{◌≡◌, ◌≤◌, IfSome};
 
-use crate::draft::{Routes, Sets, Shape, WINDOW};
-use crate::failure::Stage;
-use crate::making::Making;
-use crate::over_sctp::Datagrams;
-use crate::titles::Table;
-use crate::unitdata::bare_octets;
+use super::draft::{Routes, Sets, Shape, WINDOW};
+use super::failure::Stage;
+use super::making::Making;
+use super::over_sctp::Datagrams;
+use super::titles::Table;
+use super::unitdata::bare_octets;
 use settings::Limits;
 
 /// Octets of a routing label, which each message has (Q.704 §2.2).

@@ -1,8 +1,8 @@
 //! The changeover of a link with many messages on it.
 
-use crate::end::first;
-use crate::incoming::Incoming;
-use crate::peer::Peer;
+use super::end::first;
+use super::incoming::Incoming;
+use super::peer::Peer;
 use mtp3_codec::Management;
 use settings::{LinkId, Sls};
 use signalling_types::Number24;

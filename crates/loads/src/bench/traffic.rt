@@ -2,14 +2,14 @@
 
 ghost use Rattle.std.specs.Prelude.{◌^◌, ◌<◌, ◌≤◌, length};
 
-use crate::arguments::{Arguments, Kind, LABEL_OCTETS, Size};
-use crate::draft::{ADJACENT, INTERNATIONAL, ISUP, OWN, PAIR};
-use crate::failure::change_over;
-use crate::incoming::Incoming;
-use crate::outage::{come_and_go, join_set};
-use crate::peer::Peer;
-use crate::route_changes::{change_status, enter, prohibit_each, test_routes, tick};
-use crate::unitdata::{title_from, unitdata};
+use super::arguments::{Arguments, Kind, LABEL_OCTETS, Size};
+use super::draft::{ADJACENT, INTERNATIONAL, ISUP, OWN, PAIR};
+use super::failure::change_over;
+use super::incoming::Incoming;
+use super::outage::{come_and_go, join_set};
+use super::peer::Peer;
+use super::route_changes::{change_status, enter, prohibit_each, test_routes, tick};
+use super::unitdata::{title_from, unitdata};
 use mtp3_codec::Label;
 use settings::{Limits, MsuRef, PointCode, Sls};
 
