@@ -1,7 +1,0 @@
--- No two of no rows are of one place.
-use Rattle.std.specs.List.{IsDistinct}
-use Rattle.codec_rows.proofs.print_file.Goals as goal
-
-pub of_rows-requires-clause-differ : goal.of_rows-requires-clause-differ
-unfolding IsDistinct
-of_rows-requires-clause-differ g c = tt
