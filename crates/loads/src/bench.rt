@@ -1,6 +1,6 @@
-//! What a message costs an exchange: COUNT messages, whose signalling information fields have OCTETS octets, through one
-//! with this many destinations and links. Count the instructions of two runs: their difference divided by that of their
-//! COUNTs is what a message costs.
+//! What a message costs an exchange: COUNT messages, whose signalling information fields have OCTETS octets, through
+//! one with this many destinations and links. Count the instructions of two runs: their difference divided by that of
+//! their COUNTs is what a message costs.
 
 ghost use Rattle.std.specs.Prelude.{◌≤◌};
 

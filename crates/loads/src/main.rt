@@ -1,7 +1,7 @@
 //! What messages cost, and how many go through.
 //!
-//! `loads bench KIND OCTETS DESTINATIONS LINKS COUNT` carries messages through an exchange in memory, and prints how many
-//! frames went out with a checksum of their octets. A sixth word, `wide` or `largest`, makes the settings larger.
+//! `loads bench KIND OCTETS DESTINATIONS LINKS COUNT` carries messages through an exchange in memory, and prints how
+//! many frames went out with a checksum of their octets. A sixth word, `wide` or `largest`, makes the settings larger.
 //!
 //! `loads settings PORT` prints the settings of a node between two peers, whose links listen at PORT and the port after
 //! it. `loads through PORT COUNT OCTETS` is both peers: one submits messages to the other, which come by that node.
@@ -34,9 +34,9 @@ fn perform(rt: &HostRuntime, words: &[String]) -> io::Result<ExitCode> {
 /// Says which words are asked for.
 fn refuse(rt: &HostRuntime) -> io::Result<ExitCode> {
     println!(rt;
-        "usage: loads bench KIND OCTETS DESTINATIONS LINKS COUNT [wide|largest]; a KIND is forward, burst, sctp, sctp-full, \
-submit, local, acknowledgement, relay, relay-full, udts, udts-full, queue, failure, changeover, return, tick, status, \
-entry, expiry, draft, check or boot\n       loads settings PORT\n       loads through PORT COUNT OCTETS"
+        "usage: loads bench KIND OCTETS DESTINATIONS LINKS COUNT [wide|largest], loads settings PORT, or loads through \
+PORT COUNT OCTETS; a KIND is forward, burst, sctp, sctp-full, submit, local, acknowledgement, relay, relay-full, udts, \
+udts-full, queue, failure, changeover, return, tick, status, entry, expiry, draft, check or boot"
     )?;
     Ok(ExitCode::from(1))
 }

@@ -4,8 +4,8 @@
 //! It is given the names of files in `data/`. A line that begins with `#` names the standard of the next rows, or what
 //! they are about. Octets are hexadecimal: `-` is none, `00*272` the same 272 times, and commas part pieces.
 //!
-//! Rows of what octets say (`codecs`). Below each is what they say, or their first fault by number and name, and whether
-//! they are the same when written again:
+//! Rows of what octets say (`codecs`). Below each is what they say, or their first fault by number and name, and
+//! whether they are the same when written again:
 //!
 //! - `frames.rows`: `frame WAY POINTS OCTETS` on link e0 (POINTS: how point 4237 is written); `pieces`, a stream that a
 //!   framer is fed; `point POINTS TEXT`; `capture WAY ROOM TIMES SECONDS LINK OCTETS`, the same frame this many times,

@@ -1,13 +1,13 @@
 //! Whole nodes: calls that no script makes, settings that no file has, and streams that fail.
 //!
-//! - `nodes.rows`: `calls`, calls in a row about link 0, and their answers; `absent LINK`, what a node with one link and
-//!   one destination does and shows about a link, and a row, that it doesn't have; `without set|link|destination` and
-//!   `titles COUNT`, the fault of settings without such a row, or with this many translation rows; `plays`, lines and
-//!   scripts on a node whose links e0 and e1 lead to point 2, in order: what isn't done, and at each `doubts` whether
-//!   messages may be lost, and whether they may be late.
-//! - `streams.rows`: `prints`, `pieces`, `reads`, `writes`, `rooms` and `endless`, each of a script, done on a node or in
-//!   a lab over streams that give little, fail, or never end (`streams`); `joins` and `replays`, a script in a lab whose
-//!   links fail (`labs`).
+//! - `nodes.rows`: `calls`, calls in a row about link 0, and their answers; `absent LINK`, what a node with one link
+//!   and one destination does and shows about a link, and a row, that it doesn't have; `without set|link|destination`
+//!   and `titles COUNT`, the fault of settings without such a row, or with this many translation rows; `plays`, lines
+//!   and scripts on a node whose links e0 and e1 lead to point 2, in order: what isn't done, and at each `doubts`
+//!   whether messages may be lost, and whether they may be late.
+//! - `streams.rows`: `prints`, `pieces`, `reads`, `writes`, `rooms` and `endless`, each of a script, done on a node or
+//!   in a lab over streams that give little, fail, or never end (`streams`); `joins` and `replays`, a script in a lab
+//!   whose links fail (`labs`).
 //!
 //! In both `script NAME LINE; LINE ..` is a script of this name.
 

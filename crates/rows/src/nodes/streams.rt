@@ -1,13 +1,14 @@
 //! Scripts over streams that give little, fail, or never end. All else that scripts do is in the transcripts.
 //!
-//! `prints SCRIPT PLACE`: what a script prints on a node or in a lab, and how it ends. The others do it again and again,
-//! and say each time that its end changes what failed, how it ended, and how many octets were written:
+//! `prints SCRIPT PLACE`: what a script prints on a node or in a lab, and how it ends. The others do it again and
+//! again, and say each time that its end changes what failed, how it ended, and how many octets were written:
 //!
 //! - `pieces`: 0, 1 .. octets a read, and at least one, up to the length of the script;
-//! - `reads`: the read after 0, 1 .. others fails, of one octet each; one more than the script has octets finds its end;
+//! - `reads`: the read after 0, 1 .. others fails, of one octet each; one more than the script has octets finds its
+//!   end;
 //! - `writes`: the write after 0, 1 .. others fails;
-//! - `rooms`: the writer has room for 0, 1 .. octets, and takes three a call while it has; how many it takes no longer
-//!   are those that it lacks room for, so what is said is how much room is left;
+//! - `rooms`: the writer has room for 0, 1 .. octets, takes three a call while it has, and then none; in place of the
+//!   octets written it is said how much room is left;
 //! - `endless`: empty lines for ever, one octet a read: how many reads were made.
 
 use super::node::Node;

@@ -1,15 +1,15 @@
 //! Stores of messages, and the numbers of a link's messages over one.
 //!
-//! A store has two lists. Digits are messages; even digits are management. `put LIST DIGITS` and `fill LIST DIGIT TIMES`
-//! say for what cause a message is refused, if it is; `lists`: the messages of both; `count LIST`; `managements`;
-//! `drop LIST COUNT`; `append`, `splice_front`, `move_where` and `splice_where FROM TO`; `turn LIST`: its first message
-//! goes to its end.
+//! A store has two lists. Digits are messages; even digits are management. `put LIST DIGITS` and `fill LIST DIGIT
+//! TIMES` say for what cause a message is refused, if it is; `lists`: the messages of both; `count LIST`;
+//! `managements`; `drop LIST COUNT`; `append`, `splice_front`, `move_where` and `splice_where FROM TO`; `turn LIST`:
+//! its first message goes to its end.
 //!
-//! The messages of a link are in the first list, and those that it holds in the second. `start NUMBER`: a new link, whose
-//! last number is this one; `send COUNT WINDOW`; `goes WINDOW`: whether the window lets a message go; `numbers`: the last
-//! sent, the last accepted, and how many aren't confirmed; `retrieve NUMBER`: how many messages the number confirms;
-//! `complete NUMBER`: how many messages a changeover with the number leaves in doubt, and how many aren't confirmed
-//! then; `empty`.
+//! The messages of a link are in the first list, and those that it holds in the second. `start NUMBER`: a new link,
+//! whose last number is this one; `send COUNT WINDOW`; `goes WINDOW`: whether the window lets a message go; `numbers`:
+//! the last sent, the last accepted, and how many aren't confirmed; `retrieve NUMBER`: how many messages the number
+//! confirms; `complete NUMBER`: how many messages a changeover with the number leaves in doubt, and how many aren't
+//! confirmed then; `empty`.
 
 ghost use Rattle.std.specs.Prelude.{◌≤◌};
 ghost use Rattle.signalling_types.specs.declared.limits.TheConstants.Limits;
