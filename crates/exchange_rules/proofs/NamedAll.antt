@@ -1,35 +1,49 @@
 -- Each loss of an event is among its notices, and counted.
 use Rattle.exchange_rules.proofs.Basics.{Bool, Err, List, None, Ok, Option, Result, Some, [], append-nil, arith, false, length, map, not, refl, true, ℕ, ◌&&◌, ◌*◌, ◌+◌, ◌++◌, ◌∙◌, ◌≡◌, ◌≤◌, if◌then◌else◌, subst, ap}
-use Rattle.exchange_rules.proofs.Definitions.{AreAccounted, takes_flag_nothing, Acknowledges, Outgoing, SendsMessage, SendsNothing, SendsStatus, after_sending, goes_out, events_account_for_losses, losses_of, others_of, rules_run, naming, LostUnconfirmed, changeover_of, Configuration, TitleEntry, Message, Cause, FrameFault, Outcome, Handled, Held, Ignored, Local, Queued, Refused, Gone, gone, gone_by, gone_by_message, gone_by_new, gone_by_release, nothing_gone, is_link, whither_goes, deliver_to, note_outcome, WholeQueues, whole, release, tell_owed, owed, facts, Node, Done, answer, refuse, with_parts, acts_on, Action, UserData, count_confirmed, SeqFault, EmptyFrame, FrameValue, MessageFrame, StatusFrame, read_frame, accept_data, accept_frame, accept_text, new_at, new_by, new_in, new_of, Carrying, accept, act_by_data, advance, carry, empty_data, handle_by, message_data, numbers, owing, timed_parts, read, receive_data, Happening, Activated, CameUp, Deactivated, FrameCame, Submitted, Ticked, TitleAdded, TitleRemoved, WentDown, apply, handle_event, may_open, may_restart, open_link, add_title_unless, title_refusal, has_row, place_of, without_row, down, link_at, Abstract, send, no_room, link_of, flow_of, queue_on, with_rows}
+use Rattle.exchange_rules.proofs.Definitions.{AreAccounted, FailureReason, fail, takes_flag_nothing, Acknowledges, Outgoing, SendsMessage, SendsNothing, SendsStatus, after_sending, goes_out, events_account_for_losses, others_of, rules_run, naming, changeover_of, Configuration, TitleEntry, Message, Cause, FrameFault, Outcome, Handled, Held, Ignored, Local, Queued, Refused, Gone, gone_by, gone_by_message, gone_by_new, gone_by_release, nothing_gone, is_link, whither_goes, deliver_to, note_outcome, WholeQueues, whole, release, tell_owed, owed, facts, Node, Done, answer, refuse, with_parts, acts_on, Action, UserData, count_confirmed, SeqFault, EmptyFrame, FrameValue, MessageFrame, StatusFrame, read_frame, accept_data, accept_frame, accept_text, new_at, new_by, new_in, new_of, Carrying, accept, act_by_data, advance, carry, empty_data, handle_by, message_data, numbers, owing, timed_parts, read, receive_data, Happening, Activated, CameUp, Deactivated, FrameCame, Submitted, Ticked, TitleAdded, TitleRemoved, WentDown, apply, handle_event, may_open, may_restart, open_link, add_title_unless, title_refusal, has_row, place_of, without_row, down, link_at, Abstract, send, no_room, link_of, flow_of, queue_on, with_rows}
 use Rattle.exchange_rules.specs.Conserving.{confirmed}
-use Rattle.exchange_rules.specs.LawsOfLosses.{IsGivenUp, IsPlaced, lateness_of, management_is_named}
+use Rattle.exchange_rules.specs.LawsOfLosses.{IsGivenUp, IsPlaced, Reasons, lateness_of, management_is_named, reasons_of}
+use Rattle.exchange_rules.specs.GivingUp.{unsent_by_message, unsent_by_new, unsent_failing}
+use Rattle.exchange_rules.specs.GivingUpEvents.{expired_of, unsent_by_data, unsent_by_frame, unsent_by_numbers, unsent_by_rule, unsent_telling}
 use Rattle.link.specs.declared.action.Action.TheVariants as act
 use Rattle.signalling_types.specs.declared.cause.Cause.TheVariants as causes
 use Rattle.signalling_types.specs.declared.notice.Notice.{Notice}
 use Rattle.signalling_types.specs.declared.notice.Notice.TheVariants as notices
 use Rattle.signalling_types.specs.declared.notice.FailureReason.TheVariants as reasons
-use Rattle.exchange_rules.proofs.Naming.{Quiet, accounted-as, any-quiet, both-accounted, either_done-quiet, more-quiet, one-quiet, same-quiet}
-use Rattle.exchange_rules.proofs.QuietMessages.{submit-quiet, tell_owed-quiet}
-use Rattle.exchange_rules.proofs.QuietLinks.{activate-quiet, advance-quiet, association_down-quiet, deactivate-quiet, fail-quiet, leave_aside-quiet, on_link_status-quiet}
-use Rattle.exchange_rules.proofs.NamedLosses.{Names, NamesLate, accepted-names, deliver_to-names, first-names, go_each-accounted, more-names, quiet-names, then-names, tick-names}
+use Rattle.exchange_rules.proofs.Naming.{Quiet, Sends, accounted-as, any-quiet, both, both-accounted, either_done-quiet, more-does, none, one-does, same-quiet, sending}
+use Rattle.exchange_rules.proofs.QuietMessages.{submit-quiet, tell_owed-sends}
+use Rattle.exchange_rules.proofs.QuietLinks.{activate-quiet, advance-quiet, association_down-sends, deactivate-sends, fail-sends, leave_aside-sends, on_link_status-sends}
+use Rattle.exchange_rules.proofs.NamedLosses.{Names, accepted-names, deliver_to-names, first-names, go_each-accounted, losing, more-names, reasons_by, sends-names, tick-names}
 
 module _ (c : Configuration) where
   -- ---- a frame
 
   refusal-quiet : (link : ℕ) (o : Outcome) (n : Node WholeQueues) → Quiet 1 n (with_parts n (note_outcome link o n.parts))
-  refusal-quiet link (Refused cause) n = one-quiet (notices.Refused cause link) n _ refl refl refl refl refl
+  refusal-quiet link (Refused cause) n = one-does none (notices.Refused cause link) n _ refl refl refl refl refl refl refl
   refusal-quiet link (Queued other) n = any-quiet 1 n
   refusal-quiet link Held n = any-quiet 1 n
   refusal-quiet link Local n = any-quiet 1 n
   refusal-quiet link Handled n = any-quiet 1 n
   refusal-quiet link Ignored n = any-quiet 1 n
 
-  carry-names : (link : ℕ) (m : Option Message) (n : Node WholeQueues) → Names (gone_by_new m c n) 3 n (carry whole c link m n).left
-  carry-names link None n = quiet-names 3 n n (any-quiet 3 n)
+  -- a link that fails by a frame
+  failing-names : (link : ℕ) (why : FailureReason) (n : Node WholeQueues) → Names nothing_gone (unsent_failing c link why n) [] [] 3 n (fail whole c link why n)
+  failing-names link why n =
+      let us : List Notice = unsent_failing c link why n in
+      sends-names us 3 n _ (more-does (sending us) 2 3 n _ (omega arith) (fail-sends c link why n))
+
+  carry-names : (link : ℕ) (m : Option Message) (n : Node WholeQueues) → Names (gone_by_new m c n) (unsent_by_new c link m n) [] [] 3 n (carry whole c link m n).left
+  carry-names link None n = sends-names [] 3 n n (any-quiet 3 n)
   carry-names link (Some m) n =
       let d : Done WholeQueues = deliver_to whole c (whither_goes c m) link m n in
-      more-names (gone_by_message (whither_goes c m) c m n) (2 + 1) 3 n _ (omega arith)
-      (then-names (gone_by_message (whither_goes c m) c m n) 2 1 n d.left _ (deliver_to-names c (whither_goes c m) link m n) (refusal-quiet link d.outcome d.left))
+      let g : Gone = gone_by_message (whither_goes c m) c m n in
+      let us : List Notice = unsent_by_message c (whither_goes c m) link m n in
+      let last : Node WholeQueues = (carry whole c link (Some m) n).left in
+      record {
+        is = accounted-as (both (reasons_by g us [] []) none) (reasons_by g us [] []) (length g.queued_anew + 2 + 1) (length g.queued_anew + 3) n.parts last.parts
+            (append-nil (reasons_by g us [] []).lost) (append-nil us) refl refl (omega arith) (omega arith)
+            (both-accounted (reasons_by g us [] []) none (length g.queued_anew + 2) 1 n.parts d.left.parts last.parts (deliver_to-names c (whither_goes c m) link m n).is (refusal-quiet link d.outcome d.left).is);
+      }
 
   owing-quiet : (link : ℕ) (d : Carrying) (count : ℕ) (n : Node WholeQueues) → Quiet 0 n (accept whole c link d count n)
   owing-quiet link d count n = by d.message
@@ -42,24 +56,27 @@ module _ (c : Configuration) where
       by (Some m) = same-quiet n _ refl refl refl
 
   handle-names : (r : Result ℕ SeqFault) (link : ℕ) (d : Carrying) (n : Node WholeQueues)
-      → Names (gone_by_new (new_by r d) c (accept whole c link d (count_confirmed r) n)) 3 n (handle_by whole c r link d n).left
+      → Names (gone_by_new (new_by r d) c (accept whole c link d (count_confirmed r) n)) (unsent_by_numbers c r link d n) [] [] 3 n (handle_by whole c r link d n).left
   handle-names (Ok count) link d n =
       let took : Node WholeQueues = accept whole c link d count n in
-      more-names (gone_by_new d.message c took) (0 + 3) 3 n _ (omega arith) (first-names (gone_by_new d.message c took) 0 3 n took _ (owing-quiet link d count n) (carry-names link d.message took))
-  handle-names (Err fault) link d n = quiet-names 3 n _ (more-quiet 2 3 n _ (omega arith) (fail-quiet c link reasons.Sequence n))
+      let g : Gone = gone_by_new d.message c took in
+      let us : List Notice = unsent_by_new c link d.message took in
+      more-names g us [] [] (0 + 3) 3 n _ (omega arith) (first-names g us [] [] [] 0 3 n took _ (owing-quiet link d count n) (carry-names link d.message took))
+  handle-names (Err fault) link d n = failing-names link reasons.Sequence n
 
   act-names : (a : Action) (link : ℕ) (d : Carrying) (n : Node WholeQueues)
-      → Names (gone_by_new (new_at a link d c n) c (accept_data a link d c n)) 3 n (act_by_data whole c a link d n).left
-  act-names act.Ignored link d n = quiet-names 3 n n (any-quiet 3 n)
-  act-names act.Fail link d n = quiet-names 3 n _ (more-quiet 2 3 n _ (omega arith) (fail-quiet c link reasons.Sequence n))
+      → Names (gone_by_new (new_at a link d c n) c (accept_data a link d c n)) (unsent_by_data c a link d n) [] [] 3 n (act_by_data whole c a link d n).left
+  act-names act.Ignored link d n = sends-names [] 3 n n (any-quiet 3 n)
+  act-names act.Fail link d n = failing-names link reasons.Sequence n
   act-names (act.Go step) link d n =
       let next : Node WholeQueues = advance whole c link step n in
       let r : Result ℕ SeqFault = numbers whole c link d next in
       let g : Gone = gone_by_new (new_by r d) c (accept whole c link d (count_confirmed r) next) in
-      more-names g (0 + 3) 3 n _ (omega arith) (first-names g 0 3 n next _ (advance-quiet c link step n) (handle-names r link d next))
+      let us : List Notice = unsent_by_numbers c r link d next in
+      more-names g us [] [] (0 + 3) 3 n _ (omega arith) (first-names g us [] [] [] 0 3 n next _ (advance-quiet c link step n) (handle-names r link d next))
 
   data-names : (link : ℕ) (d : Carrying) (n : Node WholeQueues)
-      → Names (gone_by_new (new_in (Some d) link c n) c (accept_frame (Some d) link c n)) 3 n (receive_data whole c link d n).left
+      → Names (gone_by_new (new_in (Some d) link c n) c (accept_frame (Some d) link c n)) (unsent_by_data c (acts_on (link_at n.parts link) UserData) link d n) [] [] 3 n (receive_data whole c link d n).left
   data-names link d n = act-names (acts_on (link_at n.parts link) UserData) link d n
 
 -- ---- events
@@ -71,17 +88,21 @@ module _ (a : Abstract) where
   abbrev set : Configuration
   set = a.settings
 
-  frame-names : (link : ℕ) (r : Result FrameValue FrameFault) → Names (gone_by_new (new_of r link set was) set (accept_text link r a)) 3 was (read whole set link r was).left
+  some : (us : List Notice) (k : ℕ) (m : Node WholeQueues) → k ≤ 3 → Sends us k was m → Names nothing_gone us [] [] 3 was m
+  some us k m l q = sends-names us 3 was m (more-does (sending us) k 3 was m (omega (arith, l)) q)
+
+  frame-names : (link : ℕ) (r : Result FrameValue FrameFault)
+      → Names (gone_by_new (new_of r link set was) set (accept_text link r a)) (unsent_by_frame set link r was) [] [] 3 was (read whole set link r was).left
   frame-names link (Ok (EmptyFrame bsn fsn)) = data-names set link (empty_data bsn fsn) was
   frame-names link (Ok (MessageFrame bsn fsn sio sif)) = data-names set link (message_data bsn fsn sio sif) was
-  frame-names link (Ok (StatusFrame bsn fsn status)) = quiet-names 3 was _ (more-quiet 2 3 was _ (omega arith) (on_link_status-quiet set link status was))
-  frame-names link (Err fault) = quiet-names 3 was _ (more-quiet 2 3 was _ (omega arith) (leave_aside-quiet set link fault was))
+  frame-names link (Ok (StatusFrame bsn fsn status)) = some _ 2 _ (omega arith) (on_link_status-sends set link status was)
+  frame-names link (Err fault) = some _ 2 _ (omega arith) (leave_aside-sends set link fault was)
 
   receive-names : (is_there is_down : Bool) (link : ℕ) (r : Result FrameValue FrameFault)
-      → Names (gone_by_new (if is_there && not is_down then new_of r link set was else None) set (accept_text link r a)) 3 was
+      → Names (gone_by_new (if is_there && not is_down then new_of r link set was else None) set (accept_text link r a)) (if is_there && not is_down then unsent_by_frame set link r was else []) [] [] 3 was
       (if is_there then (if is_down then answer Ignored was else read whole set link r was) else refuse causes.NoSuchName was).left
-  receive-names false is_down link r = quiet-names 3 was was (any-quiet 3 was)
-  receive-names true true link r = quiet-names 3 was was (any-quiet 3 was)
+  receive-names false is_down link r = some [] 0 was (omega arith) (any-quiet 0 was)
+  receive-names true true link r = some [] 0 was (omega arith) (any-quiet 0 was)
   receive-names true false link r = frame-names link r
 
   up-quiet : (is_there opens restarts : Bool) (link : ℕ)
@@ -96,26 +117,28 @@ module _ (a : Abstract) where
   titled-quiet (Some cause) row = any-quiet 0 was
   titled-quiet None row = same-quiet was _ refl refl refl
 
-  some : (k : ℕ) (m : Node WholeQueues) → k ≤ 3 → Quiet k was m → Names nothing_gone (3 * 1) was m
-  some k m l q = quiet-names (3 * 1) was m (more-quiet k (3 * 1) was m (omega (arith, l)) q)
+  -- a rule that runs once
+  once : (g : Gone) (us : List Notice) (m : Node WholeQueues) → Names g us [] [] 3 was m → Names g us [] [] (3 * 1) was m
+  once g us m n = more-names g us [] [] 3 (3 * 1) was m (omega arith) n
 
-  rule-names : (what : Happening) → NamesLate (gone_by what a) (lateness_of what a) (3 * rules_run what was.parts) was (handle_event whole set what was).left
+  rule-names : (what : Happening)
+      → Names (gone_by what a) (unsent_by_rule what a) (expired_of what a) (lateness_of what a) (3 * rules_run what was.parts) was (handle_event whole set what was).left
   unfolding apply
-  rule-names (CameUp link) = some 0 _ (omega arith) (up-quiet (is_link was.parts link) (may_open (link_at was.parts link)) (may_restart (changeover_of was.parts link)) link)
-  rule-names (WentDown link) = some 2 _ (omega arith) (association_down-quiet set link was)
+  rule-names (CameUp link) = once _ _ _ (some [] 0 _ (omega arith) (up-quiet (is_link was.parts link) (may_open (link_at was.parts link)) (may_restart (changeover_of was.parts link)) link))
+  rule-names (WentDown link) = once _ _ _ (some _ 2 _ (omega arith) (association_down-sends set link was))
   rule-names (FrameCame link text) =
-      accepted-names (confirmed link text a) _ (3 * 1) was _ (more-names _ 3 (3 * 1) was _ (omega arith) (receive-names (is_link was.parts link) (down was.parts link) link (read_frame text)))
+      accepted-names _ _ [] [] (confirmed link text a) (3 * 1) was _ (once _ _ _ (receive-names (is_link was.parts link) (down was.parts link) link (read_frame text)))
   rule-names Ticked = tick-names set was
-  rule-names (Submitted m) = some 2 _ (omega arith) (submit-quiet set m was)
-  rule-names (Activated link emergency) = some 0 _ (omega arith) (activate-quiet set emergency link was)
-  rule-names (Deactivated link) = some 2 _ (omega arith) (deactivate-quiet set link was)
-  rule-names (TitleAdded row refused) = some 0 _ (omega arith) (titled-quiet (title_refusal was.parts.titles.rows row refused) row)
+  rule-names (Submitted m) = once _ _ _ (some [] 2 _ (omega arith) (submit-quiet set m was))
+  rule-names (Activated link emergency) = once _ _ _ (some [] 0 _ (omega arith) (activate-quiet set emergency link was))
+  rule-names (Deactivated link) = once _ _ _ (some _ 2 _ (omega arith) (deactivate-sends set link was))
+  rule-names (TitleAdded row refused) = once _ _ _ (some [] 0 _ (omega arith) (titled-quiet (title_refusal was.parts.titles.rows row refused) row))
   rule-names (TitleRemoved key digits) =
-      some 0 _ (omega arith)
+      once _ _ _ (some [] 0 _ (omega arith)
       (either_done-quiet 0 (has_row was.parts.titles.rows (place_of key digits)) was (answer Handled (with_parts was (with_rows (without_row (place_of key digits) was.parts.titles.rows) was.parts)))
-      (refuse causes.NoSuchName was) (same-quiet was _ refl refl refl) (any-quiet 0 was))
+      (refuse causes.NoSuchName was) (same-quiet was _ refl refl refl) (any-quiet 0 was)))
 
-  event-accounts : (what : Happening) → AreAccounted (losses_of what a) (lateness_of what a) (gone what a).doubts (others_of what a) was.parts (apply whole set what was).left.parts
+  event-accounts : (what : Happening) → AreAccounted (reasons_of what a) (others_of what a) was.parts (apply whole set what was).left.parts
   unfolding apply
   event-accounts what =
       let ruled : Node WholeQueues = (handle_event whole set what was).left in
@@ -123,17 +146,18 @@ module _ (a : Abstract) where
       let r : Gone = gone_by_release set ruled in
       let freed : Node WholeQueues = release whole set ruled in
       let told : Node WholeQueues = tell_owed whole set freed in
-      let lost : List Notice = map (naming LostUnconfirmed) g.lost in
-      let late : List Notice = lateness_of what a in
-      let stranded : List Notice = map (naming causes.NoRoute) r.lost in
+      let stranded : Reasons = losing (map (naming causes.NoRoute) r.lost) in
+      let telling : List Notice = unsent_telling set (owed (facts set freed.parts) freed.parts.told) freed in
+      let rule : Reasons = reasons_by g (unsent_by_rule what a) (expired_of what a) (lateness_of what a) in
       let most : ℕ = length g.queued_anew + 3 * rules_run what was.parts in
       let owes : ℕ = length (owed (facts set freed.parts) freed.parts.told) in
-      accounted-as (lost ++ stranded ++ []) (late ++ [] ++ []) (g.doubts + 0 + 0) (lost ++ stranded) late (g.doubts + 0) (most + 0 + owes) (most + owes) was.parts told.parts
-      (append-nil (lost ++ stranded)) (append-nil (late ++ []) ∙ append-nil late) (omega arith) (omega arith)
-      (both-accounted (lost ++ stranded) [] (late ++ []) [] (g.doubts + 0) 0 (most + 0) owes was.parts freed.parts told.parts
-      (both-accounted lost stranded late [] g.doubts 0 most 0 was.parts ruled.parts freed.parts (rule-names what).is
+      accounted-as (both (both rule stranded) (sending telling)) (reasons_of what a) (most + 0 + owes) (most + owes) was.parts told.parts
+      (append-nil (rule.lost ++ stranded.lost)) (ap (λ (ns : List Notice). ns ++ telling) (append-nil rule.unsent)) (append-nil (rule.expired ++ []) ∙ append-nil rule.expired)
+      (append-nil (rule.late ++ []) ∙ append-nil rule.late) (omega arith) (omega arith)
+      (both-accounted (both rule stranded) (sending telling) (most + 0) owes was.parts freed.parts told.parts
+      (both-accounted rule stranded most 0 was.parts ruled.parts freed.parts (rule-names what).is
       (go_each-accounted set ruled.queues.held (record ruled { queues = whole.without_held ruled.queues })))
-      (tell_owed-quiet set freed).is)
+      (tell_owed-sends set freed).is)
 
 pub events-account : events_account_for_losses
 events-account what a = event-accounts a what

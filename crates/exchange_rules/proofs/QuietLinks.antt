@@ -1,6 +1,6 @@
--- Links that fail and return lose nothing by this: how many notices each rule makes.
-use Rattle.exchange_rules.proofs.Basics.{Bool, None, Option, Some, arith, false, not, refl, true, ℕ, ◌&&◌, if◌then◌else◌}
-use Rattle.exchange_rules.proofs.Definitions.{enters_traffic, acts_on, Action, Expiry, Status, LinkTimer, Transition, LinkStatus, Configuration, FailureReason, FrameFault, Handled, Ignored, changeover_order, fail_link, suspended, without_tests, fail_by_order, begin, begin_by_peer, change_over, changing, fail, fail_by_peer, has_other, make_unavailable, leave_aside, down, in_service, is_link, link_at, activate, association_down, deactivate, end_association, fail_if_up, set_active, set_of, WholeQueues, whole, facts, Done, Node, Parts, answer, refuse, with_parts, act_by_status, act_by_timer, advance, begun_anew_if, enters, moved_on, step_on, on_link_status, run_out, serve_status, tells_outage, tells_recovery, begin_outage, hear_outage, end_outage, become_busy, end_busy, let_back, take_step, test_if, queue_if, send_test, begin_test, repeat_test, test_unanswered, with_test_failed, awaiting_test, link_test, tests_links, no_room, Cause}
+-- Links that fail and return: what each rule sends in vain, and how many notices it makes.
+use Rattle.exchange_rules.proofs.Basics.{List, [], ◌||◌, Bool, None, Option, Some, arith, false, not, refl, true, ℕ, ◌&&◌, if◌then◌else◌}
+use Rattle.exchange_rules.proofs.Definitions.{enters_traffic, acts_on, Action, Expiry, Status, LinkTimer, Transition, LinkStatus, Configuration, FailureReason, FrameFault, Handled, Ignored, changeover_order, fail_link, suspended, without_tests, fail_by_order, begin, begin_by_peer, change_over, changing, fail, fail_by_peer, has_other, make_unavailable, leave_aside, down, in_service, is_link, link_at, activate, association_down, deactivate, end_association, fail_if_up, set_active, set_of, WholeQueues, whole, facts, Node, Parts, answer, refuse, with_parts, act_by_status, act_by_timer, advance, begun_anew_if, enters, moved_on, step_on, on_link_status, run_out, serve_status, tells_outage, tells_recovery, begin_outage, hear_outage, end_outage, become_busy, end_busy, let_back, take_step, test_if, queue_if, send_test, begin_test, repeat_test, test_unanswered, with_test_failed, awaiting_test, link_test, tests_links, no_room, Cause, Notice}
 use Rattle.link.specs.declared.action.Action.TheVariants as act
 use Rattle.signalling_types.specs.declared.cause.Cause.TheVariants as causes
 use Rattle.signalling_types.specs.declared.notice.FrameFault.TheVariants as faults
@@ -8,42 +8,44 @@ use Rattle.signalling_types.specs.declared.notice.Notice.TheVariants as notices
 use Rattle.signalling_types.specs.declared.notice.FailureReason.TheVariants as reasons
 use Rattle.m2pa_codec.specs.declared.status.LinkStatus.TheVariants as says
 use Rattle.exchange_rules.proofs.Steps.{with_busy, without_busy}
-use Rattle.exchange_rules.proofs.Naming.{Quiet, any-quiet, both-quiet, either-quiet, either_done-quiet, more-quiet, one-quiet, same-quiet, then-quiet}
+use Rattle.exchange_rules.proofs.Naming.{Quiet, Sends, any-quiet, both-quiet, either-quiet, either-sends, either_done-quiet, either_done-sends, more-quiet, none, one-does, quiet-first, quiet-then, same-quiet}
+use Rattle.exchange_rules.specs.GivingUp.{unsent_beginning, unsent_failing, unsent_falling, unsent_order}
+use Rattle.exchange_rules.specs.GivingUpEvents.{unsent_acting, unsent_by_fault, unsent_by_own_timer, unsent_by_status, unsent_untested}
 use Rattle.exchange_rules.proofs.QuietReturns.{return-quiet}
-use Rattle.exchange_rules.proofs.QuietMessages.{routed-quiet}
+use Rattle.exchange_rules.proofs.QuietMessages.{changed-sends, routed-sends}
 
 module _ (c : Configuration) where
   -- ---- links fail
 
   gone-quiet : (served : Bool) (link : ℕ) (why : FailureReason) (n : Node WholeQueues) → Quiet 1 n (make_unavailable whole c served link why n)
-  gone-quiet false link why n = one-quiet (notices.Failed link why) n _ refl refl refl refl refl
+  gone-quiet false link why n = one-does none (notices.Failed link why) n _ refl refl refl refl refl refl refl
   gone-quiet true link why n = by (has_other c link failed)
     where
       failed : Parts
       failed = fail_link link why (suspended c link (whole.unconfirmed n.queues link) n.parts)
 
       by : (others : Bool) → Quiet 1 n (with_parts n (if others then failed else without_tests (set_of c link) failed))
-      by true = one-quiet (notices.Failed link why) n _ refl refl refl refl refl
-      by false = one-quiet (notices.Failed link why) n _ refl refl refl refl refl
+      by true = one-does none (notices.Failed link why) n _ refl refl refl refl refl refl refl
+      by false = one-does none (notices.Failed link why) n _ refl refl refl refl refl refl refl
 
-  begun-quiet : (ordered : Bool) (link : ℕ) (n : Node WholeQueues) → Quiet 1 n (begin whole c ordered link n)
-  begun-quiet true link n =
-      let next : Node WholeQueues = with_parts n (changing c true link n.parts) in
-      then-quiet 1 n next _ refl refl refl (routed-quiet c (changeover_order c link (whole.last_accepted n.queues link)) next)
-  begun-quiet false link n = more-quiet 0 1 n _ (omega arith) (same-quiet n _ refl refl refl)
+  order-sends : (ordered : Bool) (link : ℕ) (n : Node WholeQueues) → Sends (unsent_order c ordered link n) 1 n (begin whole c ordered link n)
+  order-sends true link n =
+      changed-sends c _ (changing c true link n.parts) n _ refl refl refl
+      (routed-sends c (changeover_order c link (whole.last_accepted n.queues link)) (with_parts n (changing c true link n.parts)))
+  order-sends false link n = more-quiet 0 1 n _ (omega arith) (same-quiet n _ refl refl refl)
 
-  changed-quiet : (served : Bool) (link : ℕ) (n : Node WholeQueues) → Quiet 1 n (change_over whole c served link n)
-  changed-quiet true link n = begun-quiet (has_other c link n.parts) link n
-  changed-quiet false link n = any-quiet 1 n
+  beginning-sends : (served : Bool) (link : ℕ) (n : Node WholeQueues) → Sends (unsent_beginning c served link n) 1 n (change_over whole c served link n)
+  beginning-sends true link n = order-sends (has_other c link n.parts) link n
+  beginning-sends false link n = any-quiet 1 n
 
-  pub fail-quiet : (link : ℕ) (why : FailureReason) (n : Node WholeQueues) → Quiet 2 n (fail whole c link why n)
-  fail-quiet link why n =
+  pub fail-sends : (link : ℕ) (why : FailureReason) (n : Node WholeQueues) → Sends (unsent_failing c link why n) 2 n (fail whole c link why n)
+  fail-sends link why n =
       let serves : Bool = in_service n.parts link in
       let gone : Node WholeQueues = make_unavailable whole c serves link why n in
-      both-quiet 1 1 n gone _ (gone-quiet serves link why n) (changed-quiet serves link gone)
+      quiet-first (unsent_failing c link why n) 1 1 n gone _ (gone-quiet serves link why n) (beginning-sends serves link gone)
 
-  fail_if_up-quiet : (link : ℕ) (why : FailureReason) (n : Node WholeQueues) → Quiet 2 n (fail_if_up whole c link why n)
-  fail_if_up-quiet link why n = either-quiet 2 (down n.parts link) n n (fail whole c link why n) (any-quiet 2 n) (fail-quiet link why n)
+  pub fall-sends : (link : ℕ) (why : FailureReason) (n : Node WholeQueues) → Sends (unsent_falling c link why n) 2 n (fail_if_up whole c link why n)
+  fall-sends link why n = either-sends [] (unsent_failing c link why n) 2 (down n.parts link) n n (fail whole c link why n) (any-quiet 2 n) (fail-sends link why n)
 
   begun_by_peer-quiet : (served : Bool) (link : ℕ) (n : Node WholeQueues) → Quiet 0 n (begin_by_peer whole c served link n)
   begun_by_peer-quiet true link n = same-quiet n _ refl refl refl
@@ -58,23 +60,33 @@ module _ (c : Configuration) where
   pub fail_by_order-quiet : (link : ℕ) (n : Node WholeQueues) → Quiet 1 n (fail_by_order whole c link n)
   fail_by_order-quiet link n = either-quiet 1 (down n.parts link) n n (fail_by_peer whole c link n) (any-quiet 1 n) (by_peer-quiet link n)
 
-  pub association_down-quiet : (link : ℕ) (n : Node WholeQueues) → Quiet 2 n (association_down whole c link n).left
-  association_down-quiet link n =
-      let failed : Node WholeQueues = fail_if_up whole c link reasons.Association n in
-      let ended : Done WholeQueues = answer Handled (end_association whole c link failed) in
-      either_done-quiet 2 (is_link n.parts link) n (if (link_at n.parts link).association then ended else answer Ignored n) (refuse causes.NoSuchName n)
-      (either_done-quiet 2 (link_at n.parts link).association n ended (answer Ignored n)
-      (both-quiet 2 0 n failed _ (fail_if_up-quiet link reasons.Association n) (same-quiet failed _ refl refl refl)) (any-quiet 2 n)) (any-quiet 2 n)
+  pub association_down-sends : (link : ℕ) (n : Node WholeQueues)
+      → Sends (if is_link n.parts link && (link_at n.parts link).association then unsent_falling c link reasons.Association n else []) 2 n (association_down whole c link n).left
+  association_down-sends link n = by (is_link n.parts link) (link_at n.parts link).association
+    where
+      us : List Notice
+      us = unsent_falling c link reasons.Association n
+
+      failed : Node WholeQueues
+      failed = fail_if_up whole c link reasons.Association n
+
+      by : (there associated : Bool) → Sends (if there && associated then us else []) 2 n
+          (if there then (if associated then answer Handled (end_association whole c link failed) else answer Ignored n) else refuse causes.NoSuchName n).left
+      by false associated = any-quiet 2 n
+      by true false = any-quiet 2 n
+      by true true = quiet-then us 2 0 n failed _ (fall-sends link reasons.Association n) (same-quiet failed _ refl refl refl)
 
   pub activate-quiet : (emergency : Bool) (link : ℕ) (n : Node WholeQueues) → Quiet 0 n (activate whole c emergency link n).left
   activate-quiet emergency link n =
       either_done-quiet 0 (is_link n.parts link) n (answer Handled (set_active whole c true emergency link n)) (refuse causes.NoSuchName n) (same-quiet n _ refl refl refl) (any-quiet 0 n)
 
-  pub deactivate-quiet : (link : ℕ) (n : Node WholeQueues) → Quiet 2 n (deactivate whole c link n).left
-  deactivate-quiet link n =
+  pub deactivate-sends : (link : ℕ) (n : Node WholeQueues)
+      → Sends (if is_link n.parts link then unsent_falling c link reasons.Operator n else []) 2 n (deactivate whole c link n).left
+  deactivate-sends link n =
+      let us : List Notice = unsent_falling c link reasons.Operator n in
       let failed : Node WholeQueues = fail_if_up whole c link reasons.Operator n in
-      either_done-quiet 2 (is_link n.parts link) n (answer Handled (set_active whole c false false link failed)) (refuse causes.NoSuchName n)
-      (both-quiet 2 0 n failed _ (fail_if_up-quiet link reasons.Operator n) (same-quiet failed _ refl refl refl)) (any-quiet 2 n)
+      either_done-sends us [] 2 (is_link n.parts link) n (answer Handled (set_active whole c false false link failed)) (refuse causes.NoSuchName n)
+      (quiet-then us 2 0 n failed _ (fall-sends link reasons.Operator n) (same-quiet failed _ refl refl refl)) (any-quiet 2 n)
 
   -- ---- links enter service
 
@@ -97,16 +109,18 @@ module _ (c : Configuration) where
   begin_test-quiet link n =
       either-quiet 0 (tests_links c && in_service n.parts link) n (send_test whole c link n) n (send_test-quiet link n) (any-quiet 0 n)
 
-  repeat_test-quiet : (again : Bool) (link : ℕ) (n : Node WholeQueues) → Quiet 2 n (repeat_test whole c again link n)
-  repeat_test-quiet true link n = fail-quiet link reasons.Test n
-  repeat_test-quiet false link n =
+  again-quiet : (link : ℕ) (n : Node WholeQueues) → Quiet 2 n (repeat_test whole c false link n)
+  again-quiet link n =
       let failed : Node WholeQueues = with_parts n (with_test_failed true link n.parts) in
       more-quiet 0 2 n _ (omega arith) (both-quiet 0 0 n failed _ (same-quiet n failed refl refl refl) (begin_test-quiet link failed))
 
-  pub test_unanswered-quiet : (link : ℕ) (n : Node WholeQueues) → Quiet 2 n (test_unanswered whole c link n)
-  test_unanswered-quiet link n =
-      let again : Bool = (link_at n.parts link).test_failed in
-      either-quiet 2 (in_service n.parts link) n (repeat_test whole c again link n) n (repeat_test-quiet again link n) (any-quiet 2 n)
+  pub test_unanswered-sends : (link : ℕ) (n : Node WholeQueues) → Sends (unsent_untested c link n) 2 n (test_unanswered whole c link n)
+  test_unanswered-sends link n = by (in_service n.parts link) (link_at n.parts link).test_failed
+    where
+      by : (serves again : Bool) → Sends (if serves && again then unsent_failing c link reasons.Test n else []) 2 n (if serves then repeat_test whole c again link n else n)
+      by false again = any-quiet 2 n
+      by true false = again-quiet link n
+      by true true = fail-sends link reasons.Test n
 
   test_if-quiet : (entered : Bool) (link : ℕ) (n : Node WholeQueues) → Quiet 0 n (test_if whole c entered link n)
   test_if-quiet true link n = begin_test-quiet link n
@@ -152,10 +166,10 @@ module _ (c : Configuration) where
   serve_status-quiet link says.ProcessorRecovered n = any-quiet 0 n
   serve_status-quiet link says.OutOfService n = any-quiet 0 n
 
-  act_by_status-quiet : (a : Action) (link : ℕ) (status : LinkStatus) (n : Node WholeQueues) → Quiet 2 n (act_by_status whole c a link status n).left
-  act_by_status-quiet act.Ignored link status n = any-quiet 2 n
-  act_by_status-quiet act.Fail link status n = fail-quiet link reasons.Status n
-  act_by_status-quiet (act.Go step) link status n =
+  act_by_status-sends : (a : Action) (link : ℕ) (status : LinkStatus) (n : Node WholeQueues) → Sends (unsent_acting c a reasons.Status link n) 2 n (act_by_status whole c a link status n).left
+  act_by_status-sends act.Ignored link status n = any-quiet 2 n
+  act_by_status-sends act.Fail link status n = fail-sends link reasons.Status n
+  act_by_status-sends (act.Go step) link status n =
       let moved : Node WholeQueues = advance whole c link step n in
       more-quiet 0 2 n _ (omega arith)
       (both-quiet 0 0 n moved _ (advance-quiet link step n)
@@ -172,25 +186,28 @@ module _ (c : Configuration) where
       let back : Node WholeQueues = with_parts n (let_back link n.parts) in
       both-quiet 0 0 n back _ (same-quiet n back refl refl refl) (ended-busy link back)
 
-  pub on_link_status-quiet : (link : ℕ) (status : LinkStatus) (n : Node WholeQueues) → Quiet 2 n (on_link_status whole c link status n).left
-  on_link_status-quiet link status n =
-      let back : Done WholeQueues = answer Handled (end_outage whole c link n) in
-      let acted : Done WholeQueues = act_by_status whole c (acts_on (link_at n.parts link) (Status status)) link status n in
-      either_done-quiet 2 (tells_outage c link status n.parts) n (answer Handled (hear_outage whole c link n)) (if tells_recovery link status n.parts then back else acted)
-      (either-quiet 2 (link_at n.parts link).peer_outage n n (begin_outage whole c link n) (any-quiet 2 n) (more-quiet 0 2 n _ (omega arith) (begin_outage-quiet link n)))
-      (either_done-quiet 2 (tells_recovery link status n.parts) n back acted (more-quiet 0 2 n _ (omega arith) (end_outage-quiet link n))
-      (act_by_status-quiet (acts_on (link_at n.parts link) (Status status)) link status n))
+  pub on_link_status-sends : (link : ℕ) (status : LinkStatus) (n : Node WholeQueues) → Sends (unsent_by_status c link status n) 2 n (on_link_status whole c link status n).left
+  on_link_status-sends link status n = by (tells_outage c link status n.parts) (tells_recovery link status n.parts)
+    where
+      a : Action
+      a = acts_on (link_at n.parts link) (Status status)
 
-  act_by_timer-quiet : (a : Action) (link : ℕ) (n : Node WholeQueues) → Quiet 2 n (act_by_timer whole c a link n)
-  act_by_timer-quiet act.Ignored link n = any-quiet 2 n
-  act_by_timer-quiet act.Fail link n = fail-quiet link reasons.Timer n
-  act_by_timer-quiet (act.Go step) link n = more-quiet 0 2 n _ (omega arith) (advance-quiet link step n)
+      by : (outage recovery : Bool) → Sends (if outage || recovery then [] else unsent_acting c a reasons.Status link n) 2 n
+          (if outage then answer Handled (hear_outage whole c link n) else (if recovery then answer Handled (end_outage whole c link n) else act_by_status whole c a link status n)).left
+      by true recovery = either-quiet 2 (link_at n.parts link).peer_outage n n (begin_outage whole c link n) (any-quiet 2 n) (more-quiet 0 2 n _ (omega arith) (begin_outage-quiet link n))
+      by false true = more-quiet 0 2 n _ (omega arith) (end_outage-quiet link n)
+      by false false = act_by_status-sends a link status n
 
-  pub run_out-quiet : (link : ℕ) (its : LinkTimer) (n : Node WholeQueues) → Quiet 2 n (run_out whole c link its n)
-  run_out-quiet link its n = act_by_timer-quiet (acts_on (link_at n.parts link) (Expiry its)) link n
+  act_by_timer-sends : (a : Action) (link : ℕ) (n : Node WholeQueues) → Sends (unsent_acting c a reasons.Timer link n) 2 n (act_by_timer whole c a link n)
+  act_by_timer-sends act.Ignored link n = any-quiet 2 n
+  act_by_timer-sends act.Fail link n = fail-sends link reasons.Timer n
+  act_by_timer-sends (act.Go step) link n = more-quiet 0 2 n _ (omega arith) (advance-quiet link step n)
 
-  pub leave_aside-quiet : (link : ℕ) (fault : FrameFault) (n : Node WholeQueues) → Quiet 2 n (leave_aside whole c link fault n).left
-  leave_aside-quiet link faults.Length n = fail-quiet link reasons.Length n
-  leave_aside-quiet link faults.Short n = more-quiet 1 2 n _ (omega arith) (one-quiet (notices.Frame faults.Short link) n _ refl refl refl refl refl)
-  leave_aside-quiet link faults.Version n = more-quiet 1 2 n _ (omega arith) (one-quiet (notices.Frame faults.Version link) n _ refl refl refl refl refl)
-  leave_aside-quiet link faults.Unknown n = more-quiet 1 2 n _ (omega arith) (one-quiet (notices.Frame faults.Unknown link) n _ refl refl refl refl refl)
+  pub run_out-sends : (its : LinkTimer) (link : ℕ) (n : Node WholeQueues) → Sends (unsent_by_own_timer c its link n) 2 n (run_out whole c link its n)
+  run_out-sends its link n = act_by_timer-sends (acts_on (link_at n.parts link) (Expiry its)) link n
+
+  pub leave_aside-sends : (link : ℕ) (fault : FrameFault) (n : Node WholeQueues) → Sends (unsent_by_fault c link fault n) 2 n (leave_aside whole c link fault n).left
+  leave_aside-sends link faults.Length n = fail-sends link reasons.Length n
+  leave_aside-sends link faults.Short n = more-quiet 1 2 n _ (omega arith) (one-does none (notices.Frame faults.Short link) n _ refl refl refl refl refl refl refl)
+  leave_aside-sends link faults.Version n = more-quiet 1 2 n _ (omega arith) (one-does none (notices.Frame faults.Version link) n _ refl refl refl refl refl refl refl)
+  leave_aside-sends link faults.Unknown n = more-quiet 1 2 n _ (omega arith) (one-does none (notices.Frame faults.Unknown link) n _ refl refl refl refl refl refl refl)

@@ -6,6 +6,7 @@ use Rattle.signalling_types.specs.declared.cause.Cause.TheVariants.{LostUnconfir
 use Rattle.signalling_types.specs.declared.notice.Notice.{Notice}
 use Rattle.signalling_types.specs.declared.notice.Notice.TheVariants as notices
 use Rattle.signalling_types.specs.declared.notice.LateTimer.TheVariants as late_timer
+use Rattle.signalling_types.specs.declared.notice.ChangeoverTimer.TheVariants as changeover_timer
 use Rattle.settings_rows.specs.Configuration.{Configuration}
 use Rattle.timers.specs.declared.name.TimerName.{TimerName}
 use Rattle.timers.specs.declared.name.TimerName.TheVariants.{T3, T4}
@@ -17,8 +18,9 @@ use Rattle.exchange_rules.specs.Routing.{facts, link_of, no_room}
 use Rattle.exchange_rules.specs.Exchange.{after, handle_event, release, run_next, taken, with_timers}
 use Rattle.exchange_rules.specs.Queues.{WholeQueues, whole}
 use Rattle.exchange_rules.specs.First.{Abstract}
-use Rattle.exchange_rules.specs.Lasting.{tells_of_lateness, tells_of_loss}
+use Rattle.exchange_rules.specs.Lasting.{tells_of_lateness}
 use Rattle.exchange_rules.specs.Conserving.{gone, gone_by, gone_by_release}
+use Rattle.exchange_rules.specs.GivingUpEvents.{expired_of, unsent_of}
 
 -- the notice that names a message as lost
 abbrev pub naming : Cause → Message → Notice
@@ -42,17 +44,55 @@ abbrev pub counted : ℕ → (times : ℕ) → ℕ
 counted zero times = times
 counted (suc more) times = counted more (once_more times)
 
--- Some notices were made. Those that name a message as lost are `lost`, in order, those of lateness are `late`, and at
--- most `others` name no message. Each possible loss that one of them tells of was counted, and `doubts` more; so was
--- each possible lateness.
-pub record AreAccounted (lost late : List Notice) (doubts others : ℕ) (old new : Parts) : Type 0 where
+-- whether a notice says that management was sent in vain
+abbrev pub tells_unsent : Notice → Bool
+tells_unsent (notices.Unsent cause point) = true
+tells_unsent (notices.Lost cause point sls) = false
+tells_unsent (notices.Expired timer link) = false
+tells_unsent (notices.Refused cause link) = false
+tells_unsent (notices.Frame fault link) = false
+tells_unsent (notices.Failed link why) = false
+tells_unsent (notices.Late timer number) = false
+
+-- or that T2 ran out
+abbrev pub tells_of_t2 : Notice → Bool
+tells_of_t2 (notices.Expired changeover_timer.T2 link) = true
+tells_of_t2 (notices.Expired changeover_timer.T1 link) = false
+tells_of_t2 (notices.Unsent cause point) = false
+tells_of_t2 (notices.Lost cause point sls) = false
+tells_of_t2 (notices.Refused cause link) = false
+tells_of_t2 (notices.Frame fault link) = false
+tells_of_t2 (notices.Failed link why) = false
+tells_of_t2 (notices.Late timer number) = false
+
+-- the reasons for which flags rise: the notices of each kind, in order, and how many completions were in doubt
+pub record Reasons : Type 0 where
+  pub lost : List Notice
+  pub unsent : List Notice
+  pub expired : List Notice
+  pub late : List Notice
+  pub doubts : ℕ
+
+-- how often `lost_any` rises for them, and `late_any`
+abbrev pub losses : Reasons → ℕ
+losses r = length r.lost + length r.unsent + length r.expired + r.doubts
+
+abbrev pub latenesses : Reasons → ℕ
+latenesses r = length r.late
+
+-- Some notices were made. Those that name a message as lost, that tell of management sent in vain, of T2, and of
+-- lateness are those of the reasons, in order; and at most `others` name no message. Each possible loss was counted,
+-- and each possible lateness, and no other.
+pub record AreAccounted (r : Reasons) (others : ℕ) (old new : Parts) : Type 0 where
   pub made : List Notice
   pub noted : new.notices ≡ noted_all made old.notices
-  pub names : filter names_a_message made ≡ lost
-  pub lates : filter tells_of_lateness made ≡ late
+  pub names : filter names_a_message made ≡ r.lost
+  pub unsent : filter tells_unsent made ≡ r.unsent
+  pub expired : filter tells_of_t2 made ≡ r.expired
+  pub lates : filter tells_of_lateness made ≡ r.late
   pub few : count_by names_none made ≤ others
-  pub times_lost : new.times_lost ≡ counted (count_by tells_of_loss made + doubts) old.times_lost
-  pub times_late : new.times_late ≡ counted (count_by tells_of_lateness made) old.times_late
+  pub times_lost : new.times_lost ≡ counted (losses r) old.times_lost
+  pub times_late : new.times_late ≡ counted (latenesses r) old.times_late
 
 -- the node that an event leaves before it is told what adjacent points are owed
 abbrev pub released : Happening → Abstract → Node WholeQueues
@@ -97,14 +137,23 @@ others_of what a =
     length (gone_by what a).queued_anew + 3 * rules_run what a.node.parts
     + length (owed (facts a.settings (released what a).parts) (released what a).parts.told)
 
--- The notices of an event that name a message as lost are those of what it loses, and those of lateness those of T3 and
--- T4 that run out. It counts as many losses as its notices tell of, and one more for each completion without a
--- reasonable number.
+-- the reasons of an event
+abbrev pub reasons_of : Happening → Abstract → Reasons
+reasons_of what a = record {
+  lost = losses_of what a;
+  unsent = unsent_of what a;
+  expired = expired_of what a;
+  late = lateness_of what a;
+  doubts = (gone what a).doubts;
+}
+
+-- The notices of an event that name a message as lost are those of what it loses; those of management sent in vain are
+-- of what it sends so; those of T2 and of lateness are of T2, T3 and T4 that run out. It counts a possible loss for each
+-- of the first three, and for each completion without a reasonable number; and a possible lateness for each of the last.
 abbrev pub events_account_for_losses : Type 0
 events_account_for_losses =
     (what : Happening) (a : Abstract) →
-    AreAccounted (losses_of what a) (lateness_of what a) (gone what a).doubts (others_of what a) a.node.parts
-    (after whole what a).node.parts
+    AreAccounted (reasons_of what a) (others_of what a) a.node.parts (after whole what a).node.parts
 
 -- a take counts neither
 abbrev pub takes_flag_nothing : Type 0

@@ -39,6 +39,8 @@ pub mod Conserving
 pub mod LawsOfMessages
 pub mod LawsOfUserParts
 pub mod LawsOfOutage
+pub mod GivingUp
+pub mod GivingUpEvents
 pub mod LawsOfLosses
 pub mod LawsOfCauses
 pub mod LawsOfCountdowns

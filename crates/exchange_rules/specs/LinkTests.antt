@@ -1,6 +1,6 @@
 -- SLTC, signalling link test control (Q.707 §2.2, §5.5): the tests that a node makes of its links, where the settings
 -- say how often.
-use Rattle.std.specs.Prelude.{ℕ, Bool, true, false, not, ◌&&◌, nat_eq, List, [], ◌∷◌, Option, Some, None, is_some, if◌then◌else◌}
+use Rattle.std.specs.Prelude.{ℕ, Bool, true, false, ◌&&◌, nat_eq, List, [], ◌∷◌, Option, Some, None, is_some, if◌then◌else◌}
 use Rattle.std.specs.Option.{option_map_or}
 use Rattle.signalling_types.specs.Message.{Message}
 use Rattle.signalling_types.specs.declared.cause.Cause.{Cause}
@@ -11,7 +11,7 @@ use Rattle.mtp3_codec.specs.declared.link_test.TestKind.TheVariants.{Test}
 use Rattle.mtp3_codec.specs.Management.{LinkTestValue, spelled}
 use Rattle.timers.specs.declared.name.TimerName.TheVariants.{Slt1, Slt2}
 use Rattle.timers.specs.Timers.{set_timer, clear_timer, is_running}
-use Rattle.exchange_rules.specs.State.{unless◌then◌else◌, ◌▷◌, QueueKind, Parts, Node, Done, with_parts, answer, link_at, links_with, with_link, in_service}
+use Rattle.exchange_rules.specs.State.{unless◌then◌else◌, ◌▷◌, QueueKind, Parts, Node, Done, with_parts, answer, link_at, with_link, in_service}
 use Rattle.exchange_rules.specs.Routing.{entry_of, peer_of, no_room, queue_on}
 use Rattle.exchange_rules.specs.Telling.{own_sio}
 use Rattle.exchange_rules.specs.ChangingOver.{fail}

@@ -275,17 +275,24 @@ pub fn user_messages_are_conserved()
     ensures always { all_that_came_adds_up }
 {}
 
-/// What is lost or late is named, and flags rise only for a reason. Of every event the notices that name a user message
-/// as lost are those of what it loses, in order, and no others: what its completions leave in doubt, then what its
-/// release finds without a route. Each T3 and each T4 that runs out, and so ends holds, makes a notice of lateness
-/// (Late), and nothing else does. It counts a possible loss for each of its notices that tells of one (Lost, Unsent,
-/// Expired of T2) and for each completion without a reasonable number, and no other; and a possible lateness for each
-/// notice of one. How many notices of other kinds it makes has a bound. A take counts neither.
+/// Flags rise only for their reasons, and each reason is named. Of every event:
+///
+/// - the notices that name a user message as lost (Lost) are those of what it loses, in order: what its completions
+///   leave in doubt, then what its release finds without a route;
+/// - those of management sent in vain (Unsent) are those of what it sends so, in order: orders to change over and their
+///   answers, what a completion queues again, acknowledgements of changeback declarations, answers to route set tests
+///   and link tests, route set tests, UPU, TFP about a message without a route, and what adjacent points are owed;
+/// - those of T2 (Expired) are of each T2 that runs out;
+/// - those of lateness (Late) are of each T3 and each T4 that runs out, and so ends holds.
+///
+/// It counts a possible loss for each notice of the first three kinds and for each completion without a reasonable
+/// number, and a possible lateness for each of the last, and no other. How many notices of other kinds it makes has a
+/// bound. A take counts neither.
 ///
 /// Management is sent in three ways: on the link of its flow, on a given link, and, queued anew, on the link of its
 /// flow without a look at room. In each it goes to the end of that link's queue; or it finds no room or no link, and is
-/// named with why (Unsent), and counts. This is said of each way, not of whole events. A changeback declaration is sent
-/// in none of them: where it finds no room it isn't made (`flows_return_by_the_procedures_of_their_links`).
+/// given up, with why. A changeback declaration and a link test of this node's own are sent in none of them: where
+/// one finds no room it isn't made (`flows_return_by_the_procedures_of_their_links`).
 pub fn what_is_lost_is_named()
     ensures event { events_account_for_losses }
     ensures management { management_is_named }

@@ -1,12 +1,12 @@
 -- An event that counts no loss loses nothing, and no changeover ends in it without a reasonable number. What was
 -- counted isn't taken back.
-use Rattle.exchange_rules.proofs.Basics.{◌≡◌, ◌<◌, ◌≤◌, ◌+◌, ◌-◌, ◌^◌, ℕ, zero, suc, List, [], ◌∷◌, ◌++◌, map, filter, refl, sym, subst, ◌∙◌, arith, cond, count_by, sum_by-cons}
-use Rattle.exchange_rules.proofs.Definitions.{counted, names_a_message, losses_of, tells_of_loss, Notice, Message, whole, Abstract, Happening, handle_event, gone, gone_by, gone_by_release}
+use Rattle.exchange_rules.proofs.Basics.{◌≡◌, ◌<◌, ◌≤◌, ◌+◌, ◌-◌, ◌^◌, ℕ, zero, suc, List, [], ◌∷◌, ◌++◌, length, map, refl, sym, subst, ◌∙◌, arith}
+use Rattle.exchange_rules.proofs.Definitions.{counted, losses_of, Notice, Message, whole, Abstract, Happening, handle_event, gone_by, gone_by_release}
+use Rattle.exchange_rules.specs.LawsOfLosses.{Reasons, losses, reasons_of}
 use Rattle.exchange_rules.specs.State.{Asking, AsksWants, Happens, Takes, once_more}
 use Rattle.exchange_rules.specs.Exchange.{after, taken}
 use Rattle.exchange_rules.specs.Lasting.{after_each}
 use Rattle.exchange_rules.proofs.NamedAll.{events-account, takes-flag}
-use Rattle.signalling_types.specs.declared.notice.Notice.TheVariants as notices
 
 -- ---- counts
 
@@ -31,7 +31,7 @@ counted-none (suc more) times few same =
 event-counts : (what : Happening) (a : Abstract) (k : ℕ) → k ≤ 2 ^ 64 - 1 → k ≤ a.node.parts.times_lost → k ≤ (after whole what a).node.parts.times_lost
 event-counts what a k few below =
     subst (λ (n : ℕ). k ≤ n) (sym (events-account what a).times_lost)
-    (counted-grows (count_by tells_of_loss (events-account what a).made + (gone what a).doubts) k a.node.parts.times_lost few below)
+    (counted-grows (losses (reasons_of what a)) k a.node.parts.times_lost few below)
 
 pub asked-counts : (asked : List Asking) (a : Abstract) (k : ℕ) → k ≤ 2 ^ 64 - 1 → k ≤ a.node.parts.times_lost → k ≤ (after_each asked a).node.parts.times_lost
 asked-counts [] a k few below = below
@@ -49,29 +49,16 @@ pub record LosesNone (what : Happening) (a : Abstract) : Type 0 where
 first-none : (k l : ℕ) → k + l ≡ 0 → k ≡ 0
 first-none k l e = omega (arith, e)
 
-later-none : (k l : ℕ) → k + l ≡ 0 → l ≡ 0
-later-none k l e = omega (arith, e)
+-- nothing is lost for any of the reasons
+lost-none : (lost unsent expired doubts : ℕ) → lost + unsent + expired + doubts ≡ 0 → lost ≡ 0
+lost-none lost unsent expired doubts e = omega (arith, e)
 
-one-not : (k : ℕ) → 1 + k ≡ 0 → ⊥
-one-not k e = omega (arith, e)
+doubts-none : (lost unsent expired doubts : ℕ) → lost + unsent + expired + doubts ≡ 0 → doubts ≡ 0
+doubts-none lost unsent expired doubts e = omega (arith, e)
 
--- where no notice tells of a loss, none names a message
-none-named : (made : List Notice) → count_by tells_of_loss made ≡ 0 → filter names_a_message made ≡ []
-none-named [] e = refl
-none-named (notice ∷ made) e = by notice (sym (sum_by-cons (λ (n : Notice). cond (tells_of_loss n) 1 0) notice made) ∙ e) (none-named made)
-  where
-    rest : (notice : Notice) → cond (tells_of_loss notice) 1 0 + count_by tells_of_loss made ≡ 0 → (count_by tells_of_loss made ≡ 0 → filter names_a_message made ≡ []) → filter names_a_message made ≡ []
-    rest notice f none = none (later-none (cond (tells_of_loss notice) 1 0) (count_by tells_of_loss made) f)
-
-    by : (notice : Notice) → cond (tells_of_loss notice) 1 0 + count_by tells_of_loss made ≡ 0 → (count_by tells_of_loss made ≡ 0 → filter names_a_message made ≡ [])
-        → filter names_a_message (notice ∷ made) ≡ []
-    by (notices.Lost cause point sls) f none = absurd (one-not (count_by tells_of_loss made) f)
-    by (notices.Unsent cause point) f none = rest (notices.Unsent cause point) f none
-    by (notices.Expired timer link) f none = rest (notices.Expired timer link) f none
-    by (notices.Refused cause link) f none = rest (notices.Refused cause link) f none
-    by (notices.Frame fault link) f none = rest (notices.Frame fault link) f none
-    by (notices.Failed link why) f none = rest (notices.Failed link why) f none
-    by (notices.Late timer number) f none = rest (notices.Late timer number) f none
+no-length : (ns : List Notice) → length ns ≡ 0 → ns ≡ []
+no-length [] e = refl
+no-length (n ∷ ns) e = absurd cc
 
 first-empty : (f g : Message → Notice) (ms ks : List Message) → map f ms ++ map g ks ≡ [] → ms ≡ []
 first-empty f g [] ks e = refl
@@ -84,12 +71,11 @@ later-empty f g (m ∷ ms) ks e = absurd cc
 
 pub loses-none : (what : Happening) (a : Abstract) → a.node.parts.times_lost < 2 ^ 64 - 1 → (after whole what a).node.parts.times_lost ≡ a.node.parts.times_lost → LosesNone what a
 loses-none what a few same =
-    let its = events-account what a in
-    let none : count_by tells_of_loss its.made + (gone what a).doubts ≡ 0 =
-    counted-none (count_by tells_of_loss its.made + (gone what a).doubts) a.node.parts.times_lost few (sym its.times_lost ∙ same) in
-    let unnamed : losses_of what a ≡ [] = sym its.names ∙ none-named its.made (first-none (count_by tells_of_loss its.made) (gone what a).doubts none) in
+    let r : Reasons = reasons_of what a in
+    let none : losses r ≡ 0 = counted-none (losses r) a.node.parts.times_lost few (sym (events-account what a).times_lost ∙ same) in
+    let unnamed : losses_of what a ≡ [] = no-length r.lost (lost-none (length r.lost) (length r.unsent) (length r.expired) r.doubts none) in
     record {
       by_rule = first-empty _ _ (gone_by what a).lost _ unnamed;
       by_release = later-empty _ _ (gone_by what a).lost _ unnamed;
-      sure = first-none (gone_by what a).doubts _ (later-none (count_by tells_of_loss its.made) (gone what a).doubts none);
+      sure = first-none (gone_by what a).doubts _ (doubts-none (length r.lost) (length r.unsent) (length r.expired) r.doubts none);
     }
