@@ -4,9 +4,10 @@ import os
 import re
 import unittest
 from concurrent.futures import ThreadPoolExecutor
+from functools import partial
 
-from harness import ROOT, TIMERS, NodeTest
-from transcripts import EXAMPLES, MUST_DIFFER, names, outcome, play_all, play_built, runs_of
+from harness import ROOT, STP, TIMERS, NodeTest
+from transcripts import EXAMPLES, MUST_DIFFER, names, outcome, play_all, play_by, runs_of
 from worked_run import Differs, Run
 
 # Where the transcripts differ that must.
@@ -45,7 +46,7 @@ def prints_the_same(*words: str) -> bool:
     def does(run: Run) -> bool:
         run.words, run.told = words, None
         try:
-            run.check(play_built)
+            run.check(partial(play_by, STP))
         except Differs:
             return False
         return True
@@ -68,7 +69,7 @@ class Transcripts(NodeTest):
                 self.assertTrue(it.is_good(), str(it))
 
     def test_where_they_differ_that_must(self) -> None:
-        found = {name: outcome(name, play_built).difference for name in names() if name.endswith(MUST_DIFFER)}
+        found = {name: outcome(name).difference for name in names() if name.endswith(MUST_DIFFER)}
         self.assertEqual(found, {name + MUST_DIFFER: why for name, why in DIFFERENCES.items()})
 
 

@@ -12,8 +12,9 @@ import sys
 import tempfile
 from concurrent.futures import ThreadPoolExecutor
 from dataclasses import dataclass
+from functools import partial
 from pathlib import Path
-from typing import Callable, Iterable, Iterator
+from typing import Iterable, Iterator
 
 from harness import PATIENCE, ROOT, STP
 from worked_run import Differs, Ended, Play, Run, read_runs
@@ -60,42 +61,41 @@ def runs_of(name: str) -> list[Run]:
     return read_runs((EXAMPLES / name).read_bytes(), EXAMPLES)
 
 
-def outcome(name: str, play: Callable[[Play], Ended]) -> Outcome:
-    """What becomes of a transcript if the program is started so."""
+def outcome(name: str, program: str | Path = STP) -> Outcome:
+    """What becomes of a transcript over a program."""
     count = 0
     try:
         for run in runs_of(name):
             count += 1
-            run.check(play)
+            run.check(partial(play_by, program))
     except (Differs, OSError, subprocess.TimeoutExpired) as error:
         return Outcome(name, count, str(error))
     return Outcome(name, count)
 
 
-def lay_out(play: Play, folder: Path) -> list[str]:
-    """Puts the files that the words name into the folder, the last one as it is changed. Returns those words."""
-    named = [word for word in play.words[1:] if (EXAMPLES / word).is_file()]
-    for word in named:
-        (folder / word).parent.mkdir(parents=True, exist_ok=True)
-        (folder / word).write_bytes((EXAMPLES / word).read_bytes())
+def lay_out(play: Play, folder: Path) -> None:
+    """Puts the files that the words name into the folder, the last one as it is changed."""
+    for word in play.words[1:]:
+        if (EXAMPLES / word).is_file():
+            (folder / word).parent.mkdir(exist_ok=True)
+            (folder / word).write_bytes((EXAMPLES / word).read_bytes())
     if play.changed is not None:
         (folder / play.words[-1]).write_bytes(play.changed)
-    return named
 
 
-def play_built(play: Play) -> Ended:
-    """Starts the built program."""
+def play_by(program: str | Path, play: Play) -> Ended:
+    """Starts the program of this path."""
     with tempfile.TemporaryDirectory(prefix="stp-play-") as folder:
         lay_out(play, Path(folder))
-        ended = subprocess.run([STP, *play.words], cwd=folder, input=play.script, capture_output=True,
+        ended = subprocess.run([program, *play.words], cwd=folder, input=play.script, capture_output=True,
                                timeout=PATIENCE, check=False)
     return Ended(ended.returncode, ended.stdout, ended.stderr)
 
 
-def play_all(chosen: Iterable[str]) -> Iterator[Outcome]:
-    """What becomes of these transcripts over the built program, in this order: one at a time on each processor."""
+def play_all(chosen: Iterable[str], program: str | Path = STP) -> Iterator[Outcome]:
+    """What becomes of these transcripts over a program, in this order: one at a time on each processor."""
     with ThreadPoolExecutor(os.cpu_count()) as pool:
-        yield from pool.map(lambda name: outcome(name, play_built), chosen)
+        yield from pool.map(lambda name: outcome(name, program), chosen)
 
 
 def tell(outcomes: Iterable[Outcome]) -> bool:
