@@ -1,0 +1,48 @@
+//! `exchange_trials [SECTION [N]]`: exchanges that are tried from outside. What comes of them is judged by marks in their
+//! messages and by the outcomes of their steps, and by no contract.
+//!
+//! Without a SECTION it runs all of them. N is how many runs of each shape the section `networks` makes.
+#![tactic(auto)]
+
+mod dice;
+mod harness;
+mod networks;
+mod node;
+mod pairs;
+mod settings_text;
+
+use std::{env, io};
+
+/// So many runs of each shape of networks there are where no N says it.
+const RUNS: u64 = 50;
+
+fn main(rt: HostRuntime) -> io::Result<()> {
+    let words: Vec<String> = env::args(&rt)?.skip(1).collect(rt.alloc())?;
+    match words.first() {
+        Some(section) => run_section(&rt, section.as_str(), count_of(words.get(1))),
+        None => run_all(&rt),
+    }
+}
+
+/// How many runs a word asks for.
+fn count_of(word: Option<&String>) -> u64 {
+    match word {
+        Some(word) => word.as_str().parse::<u64>().unwrap_or(0),
+        None => RUNS,
+    }
+}
+
+/// Runs each section.
+fn run_all(rt: &HostRuntime) -> io::Result<()> {
+    pairs::run(rt)?;
+    networks::run(rt, RUNS)
+}
+
+/// Runs one section.
+fn run_section(rt: &HostRuntime, section: &str, runs: u64) -> io::Result<()> {
+    match section {
+        "pairs" => pairs::run(rt),
+        "networks" => networks::run(rt, runs),
+        _ => println!(rt; "no section {section}"),
+    }
+}

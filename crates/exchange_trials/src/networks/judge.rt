@@ -1,0 +1,165 @@
+//! What was accepted, compared with what came and with what was refused on its way, by the marks alone.
+
+use super::book::{Entry, is_marked};
+use super::shape::Shape;
+use super::total::{Total, count};
+use super::world::World;
+use exchange::{Limits, Msu};
+use std::marker::Model;
+
+/// Points of nodes are below this.
+const POINTS: usize = 8;
+
+/// So many flows there are from a point to another.
+const FLOWS: usize = Limits::SELECTIONS as usize;
+
+/// What is promised of a run since the books began.
+#[derive(Clone, Copy)]
+pub(super) struct Promise {
+    /// Whether no node counted since that a message may be lost.
+    pub whole: bool,
+    /// Whether besides no node counted that one may be late, and no first set of a destination changed.
+    pub steady: bool,
+}
+
+impl Promise {
+    /// What is promised of a network.
+    pub(super) fn of(world: &World) -> Promise {
+        let mut whole = true;
+        let mut steady = world.tally.reroutings == 0;
+        for seen in world.seen.as_slice() {
+            whole &= !seen.lost_any();
+            steady &= !seen.late_any();
+        }
+        Promise {
+            whole,
+            steady: steady && whole,
+        }
+    }
+
+    /// Whether the message of this number that came to its destination is promised to be in order: where its points are
+    /// adjacent, and so joined by one set alone, if the first node hadn't counted that one may be late; in the line, if
+    /// the run is steady.
+    fn is_in_order(self, world: &World, entry: Entry, number: usize) -> bool {
+        self.whole
+            && world.shape.are_adjacent(entry.from, entry.to)
+            && world.is_in_time(entry.from, entry.to, number)
+            || self.steady && world.shape == Shape::Line
+    }
+}
+
+/// What became of a message.
+#[derive(Clone, Copy, Default)]
+struct Fate {
+    /// So often it came to its destination.
+    came: u8,
+    /// So often another node refused it on its way.
+    refused: u8,
+}
+
+/// What became of each message of a run, and of each flow the last that came.
+#[derive(Drop)]
+struct Fates {
+    fates: Vec<Fate>,
+    last: Vec<usize>,
+}
+
+impl Model for Fates {
+    ghost Value = { Unit {0} };
+
+    ghost view = { λ _. tt };
+}
+
+/// Adds what became of the messages of a run. Says whether there was memory for it.
+pub(super) fn judge(world: &World, promise: Promise, total: &mut Total) -> bool {
+    let entries = world.book.entries();
+    let Some(mut fates) = Fates::new(world, entries.len()) else {
+        return false;
+    };
+    for point in world.shape.points() {
+        fates.read_arrived(world, promise, *point, total);
+        fates.read_refused(world, *point);
+    }
+    for (entry, fate) in entries.iter().zip(fates.fates.as_slice()) {
+        add(total, *entry, *fate, promise.whole);
+    }
+    true
+}
+
+/// Adds what became of a message, in a run in which none may be lost, or some may.
+fn add(total: &mut Total, entry: Entry, Fate { came, refused }: Fate, whole: bool) {
+    let judged = entry.accepted && whole;
+    let lost = came == 0 && refused == 0 || came == 1 && refused != 0;
+    count(&mut total.submitted, 1);
+    count(&mut total.accepted, entry.accepted as u64);
+    count(&mut total.received, (came != 0) as u64);
+    count(&mut total.refused, (refused != 0) as u64);
+    count(&mut total.judged, judged as u64);
+    count(&mut total.lost, (judged && lost) as u64);
+    count(&mut total.doubled, (came > 1 || refused > 1) as u64);
+}
+
+impl Fates {
+    /// Before the books of the nodes are read. None where memory ran out.
+    fn new(world: &World, messages: usize) -> Option<Fates> {
+        let fates = vec![in world.alloc; Fate::default(); messages].ok()?;
+        let last = vec![in world.alloc; 0; POINTS * POINTS * FLOWS].ok()?;
+        Some(Fates { fates, last })
+    }
+
+    /// Reads what came to a node.
+    fn read_arrived(&mut self, world: &World, promise: Promise, point: u16, total: &mut Total) {
+        for (number, arrival) in world.arrived(point).iter().enumerate() {
+            match world.book.find(arrival.message()) {
+                Some((place, entry)) if entry.to == point => {
+                    self.come(place);
+                    count(&mut total.made_up, !entry.accepted as u64);
+                    if promise.is_in_order(world, entry, number) {
+                        count(&mut total.in_order, 1);
+                        count(&mut total.out_of_order, self.is_turned(place, entry) as u64);
+                    }
+                }
+                Some(_) => (),
+                None => count(&mut total.made_up, is_marked(arrival.message()) as u64),
+            }
+        }
+    }
+
+    /// The message at a place in the book came to its destination.
+    fn come(&mut self, place: usize) {
+        if let Some(fate) = self.fates.get_mut(place) {
+            fate.came = fate.came.saturating_add(1);
+        }
+    }
+
+    /// Whether one of its flow had come that was submitted later.
+    fn is_turned(&mut self, place: usize, entry: Entry) -> bool {
+        let Some(last) = self.last.get_mut(place_of_flow(entry)) else {
+            return false;
+        };
+        let turned = place < *last;
+        *last = place.max(*last);
+        turned
+    }
+
+    /// Reads what a node refused on its way.
+    fn read_refused(&mut self, world: &World, point: u16) {
+        for message in world.refused(point) {
+            if let Some(fate) = self.fate_of(world, message) {
+                fate.refused = fate.refused.saturating_add(1);
+            }
+        }
+    }
+
+    /// What became of a message, where it is in the book.
+    fn fate_of(&mut self, world: &World, message: &Msu) -> Option<&mut Fate> {
+        let (place, _) = world.book.find(message)?;
+        self.fates.get_mut(place)
+    }
+}
+
+/// The place of a flow among those from any point to any other.
+fn place_of_flow(entry: Entry) -> usize {
+    let pair = entry.from as usize % POINTS * POINTS + entry.to as usize % POINTS;
+    pair * FLOWS + entry.flow as usize % FLOWS
+}

@@ -1,0 +1,126 @@
+//! What became of some runs, and what is printed of it.
+
+use super::judge::{Promise, judge};
+use super::world::{Tally, World};
+use std::io;
+
+/// What became of some runs, in the words of a line (`networks`).
+#[derive(Clone, Copy, Default)]
+pub(super) struct Total {
+    pub runs: u64,
+    pub tally: Tally,
+    pub submitted: u64,
+    pub accepted: u64,
+    pub received: u64,
+    pub refused: u64,
+    pub judged: u64,
+    pub lost: u64,
+    pub doubled: u64,
+    pub made_up: u64,
+    pub in_order: u64,
+    pub out_of_order: u64,
+    pub lost_any: u64,
+    pub steady: u64,
+    pub unended: u64,
+    /// Whether memory ran out: then not all was done.
+    pub starved: bool,
+}
+
+impl Total {
+    /// Adds what became of one more run since its books began.
+    pub(super) fn add(&mut self, world: &World, ended: bool) {
+        let promise = Promise::of(world);
+        let Tally {
+            steps,
+            failures,
+            reroutings,
+        } = world.tally;
+        count(&mut self.runs, 1);
+        count(&mut self.tally.steps, steps);
+        count(&mut self.tally.failures, failures);
+        count(&mut self.tally.reroutings, reroutings);
+        count(&mut self.lost_any, !promise.whole as u64);
+        count(&mut self.steady, promise.steady as u64);
+        count(&mut self.unended, !ended as u64);
+        self.starved |= world.starved || !judge(world, promise, self);
+    }
+
+    /// Prints it.
+    fn print(&self, rt: &HostRuntime) -> io::Result<()> {
+        self.print_counts(rt)?;
+        self.print_verdict(rt)?;
+        print!(rt;
+            "; lost_any {}, steady {}; unended {}",
+            self.lost_any, self.steady, self.unended
+        )
+    }
+
+    /// Prints how many runs, steps and messages there were, and what failed.
+    fn print_counts(&self, rt: &HostRuntime) -> io::Result<()> {
+        print!(rt;
+            "{} runs, {} steps, {} failures, {} reroutings; ",
+            self.runs, self.tally.steps, self.tally.failures, self.tally.reroutings
+        )?;
+        print!(rt;
+            "{} submitted, {} accepted, {} received, {} refused in transit; ",
+            self.submitted, self.accepted, self.received, self.refused
+        )
+    }
+
+    /// Prints how many were judged, whether each came once or was refused, and whether those came in order that were
+    /// promised to.
+    fn print_verdict(&self, rt: &HostRuntime) -> io::Result<()> {
+        let hundred = self.judged.wrapping_mul(100);
+        print!(rt; "{}% judged, ", hundred / self.accepted.max(1))?;
+        match (self.lost, self.doubled, self.made_up) {
+            (0, 0, 0) => print!(rt; "all once or refused, ")?,
+            (lost, doubled, made_up) => {
+                print!(rt; "{lost} lost, {doubled} doubled, {made_up} made up, ")?
+            }
+        }
+        match self.out_of_order {
+            0 => print!(rt; "in order ({})", self.in_order),
+            turned => print!(rt; "{turned} out of order ({})", self.in_order),
+        }
+    }
+}
+
+/// So many more.
+pub(super) fn count(counted: &mut u64, more: u64) {
+    *counted = counted.wrapping_add(more);
+}
+
+/// What became of the runs of a shape.
+#[derive(Clone, Copy, Default)]
+pub(super) struct Totals {
+    /// Of all of them, until they ended first.
+    pub first: Total,
+    /// Of those in which nodes started again, since their books began anew.
+    pub anew: Total,
+    restarts: u64,
+    restless: u64,
+}
+
+impl Totals {
+    /// So many nodes started again, and all books begin anew if the network is quiet. Says whether they do.
+    pub(super) fn begin_anew(&mut self, world: &mut World, restarts: u64, rests: bool) -> bool {
+        count(&mut self.restarts, restarts);
+        count(&mut self.restless, !rests as u64);
+        if rests {
+            world.begin_anew();
+        }
+        rests
+    }
+
+    /// Prints what became of them, in two lines: until they ended first, and since their books began anew.
+    pub(super) fn print(&self, rt: &HostRuntime, name: &str) -> io::Result<()> {
+        if self.first.starved || self.anew.starved {
+            return println!(rt; "{name}: memory ran out");
+        }
+        print!(rt; "{name}: ")?;
+        self.first.print(rt)?;
+        print!(rt; "\n{name}, anew: ")?;
+        self.anew.print(rt)?;
+        println!(rt; "; restarts {}, restless {}", self.restarts, self.restless)
+    }
+}

@@ -1,0 +1,106 @@
+//! A link that stops at some place of a busy exchange.
+
+use super::end::End;
+use super::group::Choices;
+use super::rounds::{Clock, bring_up, settle, step_of_round, steps_over, submit_all};
+use super::world::World;
+use exchange::LinkId;
+
+/// How many rounds pass in which a link may stop.
+pub(crate) const ROUNDS: u8 = 8;
+
+/// How many ways there are in which a link stops: at either end, or at both.
+const WAYS: u8 = 3;
+
+/// At which end a link stops.
+#[derive(Clone, Copy)]
+pub(crate) enum Stopped {
+    /// At one.
+    At(End),
+    /// At both.
+    AtBoth,
+}
+
+/// A link that stops at a place: before a step of a round, or behind the last one.
+#[derive(Clone, Copy)]
+pub(crate) struct Stop {
+    /// The place, by the steps of all rounds.
+    pub place: u8,
+    /// The link.
+    pub link: LinkId,
+    /// Where it stops.
+    pub ends: Stopped,
+}
+
+/// At how many places of this many rounds a link may stop: before, between and behind their steps.
+pub(crate) fn places(rounds: u8, links: u8) -> u8 {
+    steps_over(links).saturating_mul(rounds).saturating_add(1)
+}
+
+/// How many stops there are over this many links.
+pub(crate) fn stops(links: u8) -> u16 {
+    let ways = links as u16 * WAYS as u16;
+    ways.saturating_mul(places(ROUNDS, links) as u16)
+}
+
+impl Stop {
+    /// One of them, by its number.
+    pub(crate) fn numbered(number: u16, links: u8) -> Stop {
+        let mut choices = Choices::of(number);
+        let ends = match choices.below(WAYS) {
+            0 => Stopped::At(End::One),
+            1 => Stopped::At(End::Two),
+            _ => Stopped::AtBoth,
+        };
+        Stop {
+            ends,
+            link: LinkId::new(choices.below(links)),
+            place: choices.below(places(ROUNDS, links)),
+        }
+    }
+
+    /// The link stops, if it is to stop at this place.
+    pub(crate) fn strike_at(&self, world: &mut World, place: u8) {
+        if self.place != place {
+            return;
+        }
+        match self.ends {
+            Stopped::At(end) => {
+                world.lose(end, self.link);
+            }
+            Stopped::AtBoth => world.lose_both(self.link),
+        }
+    }
+
+    /// The link stops, if it is to stop behind the last of this many rounds.
+    pub(crate) fn strike_behind(&self, world: &mut World, rounds: u8) {
+        self.strike_at(world, steps_over(world.links()).saturating_mul(rounds));
+    }
+}
+
+/// A round passes, in which the link may stop.
+pub(crate) fn round_with(world: &mut World, stop: &Stop, round: u8) {
+    let steps = steps_over(world.links());
+    let before = steps.saturating_mul(round);
+    for step in 0..steps {
+        stop.strike_at(world, before.saturating_add(step));
+        step_of_round(world, step);
+    }
+}
+
+/// All links come up, and the link stops. Says whether all went well: if another link is left, what was submitted came.
+pub(crate) fn stop_and_settle(world: &mut World, stop: &Stop, clock: Clock) -> bool {
+    let up = bring_up(world);
+    submit_all(world);
+    for round in 0..ROUNDS {
+        round_with(world, stop, round);
+        clock.pass(world);
+    }
+    stop.strike_behind(world, ROUNDS);
+    up && settle(world, clock) && brought_all_it_can(world)
+}
+
+/// Whether all came that could: over a single link nothing does while it is down.
+fn brought_all_it_can(world: &World) -> bool {
+    world.links() == 1 || world.has_brought_all()
+}
