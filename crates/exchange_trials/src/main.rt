@@ -8,6 +8,7 @@ mod dice;
 mod harness;
 mod networks;
 mod node;
+mod octets;
 mod pairs;
 mod settings_text;
 
@@ -35,7 +36,8 @@ fn count_of(word: Option<&String>) -> u64 {
 /// Runs each section.
 fn run_all(rt: &HostRuntime) -> io::Result<()> {
     pairs::run(rt)?;
-    networks::run(rt, RUNS)
+    networks::run(rt, RUNS)?;
+    octets::run(rt)
 }
 
 /// Runs one section.
@@ -43,6 +45,7 @@ fn run_section(rt: &HostRuntime, section: &str, runs: u64) -> io::Result<()> {
     match section {
         "pairs" => pairs::run(rt),
         "networks" => networks::run(rt, runs),
+        "octets" => octets::run(rt),
         _ => println!(rt; "no section {section}"),
     }
 }

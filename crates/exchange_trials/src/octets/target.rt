@@ -1,13 +1,14 @@
-//! The node, its links, and what is handed in.
+//! The node that octets are handed in to, and its links.
 
-use crate::good::{FarEnd, add_data, add_empty, add_status};
-use crate::octets::Octets;
-use crate::shown::{LINKS, Shown};
+use crate::node::Node;
+use crate::octets::buffer::Octets;
+use crate::octets::found::Found;
+use crate::octets::good::{FarEnd, add_data, add_empty, add_status};
+use crate::octets::shown::{LINKS, Shown};
 use exchange::{BUFFER_OCTETS, Event, Frame, LinkId, LinkStanding, Outcome, Wants, decode};
 use signalling_types::Number24;
 use std::alloc::Global;
 use std::marker::Model;
-use test_nodes::Node;
 
 /// The node's own point.
 pub(crate) const OWN: u32 = 1;
@@ -37,33 +38,22 @@ const MESSAGE_AT: usize = 17;
 
 /// A node, the frame that was taken last, and what became of the frames that were handed in.
 #[derive(Drop)]
-pub(crate) struct World {
+pub(crate) struct Target {
     node: Node,
     taken: [u8; BUFFER_OCTETS],
     found: Found,
 }
 
-/// What became of frames.
-#[derive(Clone, Copy, Default)]
-pub(crate) struct Found {
-    /// How many frames were tried and returned.
-    pub returned: u64,
-    /// A bit for each kind of outcome that they had.
-    pub kinds: u8,
-    /// How many frames, including good ones, changed what they may not.
-    pub changed: u64,
-}
-
-impl Model for World {
+impl Model for Target {
     ghost Value = { Unit {0} };
 
     ghost view = { λ _. tt };
 }
 
-impl World {
+impl Target {
     /// A node before its first event. None if memory ran out.
-    pub(crate) fn new(alloc: Global) -> Option<World> {
-        Some(World {
+    pub(crate) fn new(alloc: Global) -> Option<Target> {
+        Some(Target {
             node: Node::new(alloc, SETTINGS).ok()?,
             taken: [0; BUFFER_OCTETS],
             found: Found::default(),
@@ -77,7 +67,7 @@ impl World {
 
     /// Where a link stands.
     pub(crate) fn standing(&self, link: LinkId) -> LinkStanding {
-        match self.node.shown().link(link) {
+        match self.node.link(link) {
             Some(view) => view.standing,
             None => LinkStanding::Down,
         }
@@ -86,7 +76,7 @@ impl World {
     /// The far end of a link, which has received all that was taken.
     pub(crate) fn far_end(&self, link: LinkId) -> FarEnd {
         let none = Number24::zero().previous();
-        let (heard, sent) = match self.node.shown().link(link) {
+        let (heard, sent) = match self.node.link(link) {
             Some(view) => (view.last_sent, view.last_accepted),
             None => (none, none),
         };
@@ -97,8 +87,7 @@ impl World {
     /// Tries a frame on a link.
     pub(crate) fn try_frame(&mut self, link: LinkId, octets: &[u8]) {
         let outcome = self.hand_in(link, octets);
-        self.found.returned = self.found.returned.wrapping_add(1);
-        self.found.kinds |= bit_of(outcome);
+        self.found.note(outcome);
     }
 
     /// Hands in a frame on a link, and looks at what the node shows. What is refused or ignored changes nothing. Only a
@@ -111,7 +100,7 @@ impl World {
         let outcome = self.node.step(&Event::Frame(link, octets));
         let changed = before != Shown::of(self.node.shown(), !message);
         if changed && !enters && matches!(outcome, Outcome::Ignored | Outcome::Refused(_)) {
-            self.found.changed = self.found.changed.wrapping_add(1);
+            self.found.note_change();
         }
         outcome
     }
@@ -122,19 +111,7 @@ fn is_message(octets: &[u8]) -> bool {
     matches!(decode(octets), Ok(Frame::Message { .. }))
 }
 
-/// The bit of an outcome's kind.
-fn bit_of(outcome: Outcome) -> u8 {
-    match outcome {
-        Outcome::Queued(_) => 1,
-        Outcome::Held => 2,
-        Outcome::Local => 4,
-        Outcome::Handled => 8,
-        Outcome::Ignored => 16,
-        Outcome::Refused(_) => 32,
-    }
-}
-
-impl World {
+impl Target {
     /// The association of a link is lost.
     pub(crate) fn lose(&mut self, link: LinkId) {
         self.node.step(&Event::AssociationDown(link));
@@ -205,7 +182,7 @@ impl World {
     }
 }
 
-impl World {
+impl Target {
     /// Brings a link into service.
     pub(crate) fn restore(&mut self, link: LinkId) {
         // A changeover may have to end first.

@@ -1,10 +1,10 @@
 //! How good frames are harmed.
 
-use crate::good::{FarEnd, LINK_STATUS, USER_DATA, add_good, add_headers};
-use crate::octets::Octets;
+use crate::dice::Dice;
+use crate::octets::buffer::Octets;
+use crate::octets::good::{FarEnd, LINK_STATUS, USER_DATA, add_good, add_headers};
 use exchange::Limits;
 use signalling_types::number::next;
-use test_nodes::Dice;
 
 /// Harms the frame that begins at an offset and goes to the end, or leaves it as it is.
 pub(crate) fn harm(dice: &mut Dice, far: &FarEnd, start: usize, out: &mut Octets) {
@@ -72,23 +72,37 @@ fn add_some(dice: &mut Dice, out: &mut Octets) {
 /// Where fields begin, and how many octets each has: version, spare octet, class, type, length, unused octet, BSN,
 /// unused octet, FSN, then the state of a Link Status, or the priority octet, the SIO, the label, what comes first
 /// after it, and the same of unitdata.
-const FIELDS_AT: [u8; 16] = [0, 1, 2, 3, 4, 8, 9, 12, 13, 16, 16, 17, 18, 22, 23, 24];
-
-const FIELD_OCTETS: [u8; 16] = [1, 1, 1, 1, 4, 1, 3, 1, 3, 4, 1, 1, 4, 1, 2, 3];
+const FIELDS: [(usize, usize); 16] = [
+    (0, 1),
+    (1, 1),
+    (2, 1),
+    (3, 1),
+    (4, 4),
+    (8, 1),
+    (9, 3),
+    (12, 1),
+    (13, 3),
+    (16, 4),
+    (16, 1),
+    (17, 1),
+    (18, 4),
+    (22, 1),
+    (23, 2),
+    (24, 3),
+];
 
 /// Sets a field to its least or its greatest value, or next to these.
 fn go_to_extremes(dice: &mut Dice, start: usize, out: &mut Octets) {
-    let field = dice.below(FIELDS_AT.len());
-    let place = FIELDS_AT.get(field).copied().unwrap_or(0);
-    let octets = FIELD_OCTETS.get(field).copied().unwrap_or(1);
-    let at = start.saturating_add(usize::from(place));
+    let field = dice.below(FIELDS.len());
+    let (offset, octets) = FIELDS.get(field).copied().unwrap_or((0, 1));
+    let at = start.saturating_add(offset);
     let (filling, last) = match dice.octet() % 4 {
         0 => (0, 0),
         1 => (0, 1),
         2 => (0xff, 0xff),
         _ => (0xff, 0xfe),
     };
-    let end = at.saturating_add(usize::from(octets)).saturating_sub(1);
+    let end = at.saturating_add(octets).saturating_sub(1);
     for place in at..end {
         out.set(place, filling);
     }

@@ -1,9 +1,9 @@
 //! A stream that is cut into frames.
 
+use crate::dice::Dice;
 use arrayvec::ArrayVec;
 use exchange::{Framer, Limits, Next};
 use std::marker::Model;
-use test_nodes::Dice;
 
 /// The most frames of a stream: of 8,192 octets, 8 each.
 const MOST_FRAMES: usize = 1024;

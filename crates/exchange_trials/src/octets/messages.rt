@@ -1,9 +1,9 @@
 //! Good messages: of user parts, of management, link tests, and unitdata with global titles.
 
-use crate::good::FarEnd;
-use crate::octets::Octets;
-use crate::world::OWN;
-use test_nodes::Dice;
+use crate::dice::Dice;
+use crate::octets::buffer::Octets;
+use crate::octets::good::FarEnd;
+use crate::octets::target::OWN;
 
 /// Points: the node's own, its destinations, and one that it doesn't know.
 const POINTS: [u32; 8] = [OWN, OWN, 2, 3, 300, 300, 400, 999];

@@ -1,10 +1,10 @@
 //! Good frames: Link Status, and User Data with and without a message.
 
-use crate::messages::add_message;
-use crate::octets::Octets;
+use crate::dice::Dice;
+use crate::octets::buffer::Octets;
+use crate::octets::messages::add_message;
 use signalling_types::Number24;
 use signalling_types::number::next;
-use test_nodes::Dice;
 
 /// The message types of User Data and Link Status (RFC 4165 §2.1.4).
 pub(crate) const USER_DATA: u8 = 1;

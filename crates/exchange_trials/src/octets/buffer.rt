@@ -1,8 +1,8 @@
 //! The octets of a frame, or of a stream of frames.
 
+use crate::dice::Dice;
 use arrayvec::ArrayVec;
 use std::marker::Model;
-use test_nodes::Dice;
 
 /// How many octets there are at most.
 const MOST_OCTETS: usize = 8192;

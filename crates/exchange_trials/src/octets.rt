@@ -1,4 +1,4 @@
-//! Frames and streams of frames that are harmed or made up at random.
+//! Hostile octets: frames and streams of frames that are harmed or made up at random.
 //!
 //! They are handed in to point 1, with two links each to points 2 and 3, point 300 behind both (by `west`, then
 //! `east`), point 400 behind point 2, and three translation rows. Its window is three messages and its pool four, and
@@ -25,21 +25,22 @@
 //! other pieces a stream comes to the same frames, each the next octets of it, and to the same end. At the end of each
 //! group all links lose their associations and come into service again, and a good message of each selection comes on
 //! each: all 64 go out octet for octet.
-#![tactic(auto)]
 
+mod buffer;
 mod cutting;
+mod found;
 mod good;
 mod groups;
 mod harm;
 mod messages;
-mod octets;
 mod shown;
-mod world;
+mod target;
 
-use groups::{try_frames, try_streams};
+use crate::dice::Dice;
+use found::KINDS;
+use groups::{Links, try_frames, try_streams};
 use std::io;
-use test_nodes::Dice;
-use world::World;
+use target::Target;
 
 /// How many frames are tried on links in service, and on links that align.
 const FRAMES: u64 = 12_000;
@@ -54,68 +55,74 @@ enum Kind {
     Streams,
 }
 
-fn main(rt: HostRuntime) -> io::Result<()> {
-    for (seed, kind, serving) in [
-        (1, Kind::Frames, true),
-        (2, Kind::Frames, false),
-        (3, Kind::Streams, true),
-        (4, Kind::Streams, false),
+/// Tries each group of frames and streams, and prints what became of it.
+pub(crate) fn run(rt: &HostRuntime) -> io::Result<()> {
+    for (seed, kind, links) in [
+        (1, Kind::Frames, Links::InService),
+        (2, Kind::Frames, Links::Aligning),
+        (3, Kind::Streams, Links::InService),
+        (4, Kind::Streams, Links::Aligning),
     ] {
-        try_group(&rt, kind, serving, seed)?;
+        try_group(rt, kind, links, seed)?;
     }
     Ok(())
 }
 
 /// Tries a group of frames or streams on a node of its own. Nodes are dropped only here: the states of a body that does
 /// it are many.
-fn try_group(rt: &HostRuntime, kind: Kind, serving: bool, seed: u64) -> io::Result<()> {
-    match World::new(rt.alloc()) {
-        Some(mut world) => tell_group(rt, &mut world, kind, serving, seed),
+fn try_group(rt: &HostRuntime, kind: Kind, links: Links, seed: u64) -> io::Result<()> {
+    match Target::new(rt.alloc()) {
+        Some(mut target) => report_group(rt, &mut target, kind, links, seed),
         None => println!(rt; "memory ran out"),
     }
 }
 
-/// Tries a group, and prints what became of it.
-fn tell_group(
+/// Tries a group, and prints what became of it, what its frames changed that they may not, and how many good messages
+/// go through at its end.
+fn report_group(
     rt: &HostRuntime,
-    world: &mut World,
+    target: &mut Target,
     kind: Kind,
-    serving: bool,
+    links: Links,
     seed: u64,
 ) -> io::Result<()> {
     let mut dice = Dice::new(seed);
     match kind {
-        Kind::Frames => frames(rt, world, &mut dice, serving)?,
-        Kind::Streams => streams(rt, world, &mut dice, serving)?,
+        Kind::Frames => report_frames(rt, target, &mut dice, links)?,
+        Kind::Streams => report_streams(rt, target, &mut dice, links)?,
     }
-    report(rt, world)
+    let through = target.count_through();
+    let changed = target.found().changed;
+    println!(rt; "; {changed} changed what they may not; {through} of 64 messages through")
 }
 
-/// Tries frames, and prints what became of them.
-fn frames(rt: &HostRuntime, world: &mut World, dice: &mut Dice, serving: bool) -> io::Result<()> {
-    try_frames(world, dice, serving, FRAMES);
-    let (links, returned) = (links_of(serving), world.found().returned);
-    let kinds = world.found().kinds.count_ones();
+/// Tries frames, and prints how many returned, and with how many kinds of outcome.
+fn report_frames(
+    rt: &HostRuntime,
+    target: &mut Target,
+    dice: &mut Dice,
+    links: Links,
+) -> io::Result<()> {
+    try_frames(target, dice, links, FRAMES);
+    let found = target.found();
     print!(rt;
-        "frames on links {links}: {returned} of {FRAMES} returned, {kinds} kinds of outcome of 6"
+        "frames on links {}: {} of {FRAMES} returned, {} kinds of outcome of {KINDS}",
+        links.name(),
+        found.returned,
+        found.kinds()
     )
 }
 
-/// Tries streams, and prints what became of them.
-fn streams(rt: &HostRuntime, world: &mut World, dice: &mut Dice, serving: bool) -> io::Result<()> {
-    let alike = try_streams(world, dice, serving, STREAMS);
-    let links = links_of(serving);
-    print!(rt; "streams on links {links}: {alike} of {STREAMS} the same in other pieces")
-}
-
-/// Which links frames come on.
-fn links_of(serving: bool) -> &'static str {
-    if serving { "in service" } else { "that align" }
-}
-
-/// Prints what the frames of a group changed that they may not, and how many good messages go through at its end.
-fn report(rt: &HostRuntime, world: &mut World) -> io::Result<()> {
-    let through = world.count_through();
-    let changed = world.found().changed;
-    println!(rt; "; {changed} changed what they may not; {through} of 64 messages through")
+/// Tries streams, and prints how many are the same in other pieces.
+fn report_streams(
+    rt: &HostRuntime,
+    target: &mut Target,
+    dice: &mut Dice,
+    links: Links,
+) -> io::Result<()> {
+    let alike = try_streams(target, dice, links, STREAMS);
+    print!(rt;
+        "streams on links {}: {alike} of {STREAMS} the same in other pieces",
+        links.name()
+    )
 }
