@@ -1,7 +1,7 @@
 //! Calling a console.
 
 use crate::answers::{Answers, Told, has_answer};
-use crate::call::{CONNECTION, Call, is_input_told};
+use crate::conversation::{CONNECTION, Conversation, is_input_told};
 use crate::fault::CallFault;
 use crate::outgoing::Outgoing;
 use mio::net::{TcpStream, UnixStream};
@@ -35,9 +35,9 @@ pub fn call<R: Source, W: Sink>(
         Ok(stream) => stream,
         Err(error) => return Err(CallFault::Connect(error.kind())),
     };
-    let mut call = begun(rt, stream, outgoing)?;
-    let is_whole = call.run(reader, writer)?;
-    call.answers.verdict(is_whole, is_answered)
+    let mut conversation = begun(rt, stream, outgoing)?;
+    let is_whole = conversation.run(reader, writer)?;
+    conversation.answers.verdict(is_whole, is_answered)
 }
 
 /// A connection to a console. Its reads and writes wait for nobody.
@@ -56,12 +56,12 @@ fn connected(rt: &HostRuntime, place: ConsolePlace<'_>) -> io::Result<ConsoleStr
     }
 }
 
-/// A call over this connection, of which nothing was written yet.
+/// A conversation over this connection, in which nothing was written yet.
 fn begun(
     rt: &HostRuntime,
     mut stream: ConsoleStream,
     outgoing: Outgoing,
-) -> Result<Call, CallFault> {
+) -> Result<Conversation, CallFault> {
     let events = Events::with_capacity(rt.alloc(), EVENTS)?;
     let Ok(poll) = Poll::new(rt) else {
         return Err(CallFault::Poll);
@@ -70,7 +70,7 @@ fn begun(
         return Err(CallFault::Poll);
     }
     let is_input_polled = outgoing.wants_more() && is_input_told(poll.registry());
-    Ok(Call {
+    Ok(Conversation {
         stream,
         poll,
         events,

@@ -2,8 +2,8 @@
 #![tactic(auto)]
 
 pub mod answers;
-mod call;
 mod calling;
+mod conversation;
 pub mod fault;
 mod outgoing;
 

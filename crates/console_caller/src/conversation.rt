@@ -1,4 +1,4 @@
-//! A call: the connection, what is written to it, and what was answered.
+//! A conversation with a console: the connection, what is written to it, and what was answered.
 
 use crate::answers::Answers;
 use crate::fault::CallFault;
@@ -21,9 +21,9 @@ pub(crate) const CONNECTION: Token = Token(0);
 /// Standard input, in the poll.
 const INPUT: Token = Token(1);
 
-/// A call of a console.
+/// A conversation with a console.
 #[derive(Drop)]
-pub(crate) struct Call {
+pub(crate) struct Conversation {
     pub(crate) stream: ConsoleStream,
     pub(crate) poll: Poll,
     pub(crate) events: Events,
@@ -37,7 +37,7 @@ pub(crate) struct Call {
     pub(crate) has_ended_writing: bool,
 }
 
-impl Call {
+impl Conversation {
     /// Writes and reads until the connection ends. False if it broke.
     pub(crate) fn run<R: Source, W: Sink>(
         &mut self,
