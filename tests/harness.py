@@ -210,6 +210,9 @@ class Node:
 
     def _is_there(self) -> bool:
         assert self.process is not None and self.process.poll() is None, f"the node ended: {self.log()[-3:]}"
+        # (a node closes what connects to its socket before that has its mode; then it logs the path)
+        if isinstance(self.console, str) and not self.logged("console "):
+            return False
         with contextlib.suppress(ConnectionRefusedError, FileNotFoundError):
             self.operator = self.call()
             return True

@@ -69,6 +69,7 @@ COMMANDS = (
     "lab FILE FILE ..",
     "lab-udp NEAR FAR",
     "serve FILE",
+    "tell FILE ..",
     "help",
     "version",
 )

@@ -17,7 +17,7 @@ from pathlib import Path
 from typing import Iterable, Iterator
 
 from harness import PATIENCE, ROOT, STP
-from worked_run import Differs, Ended, Play, Run, read_runs
+from worked_run import Differs, Ended, Play, Run, named_last, read_runs
 
 EXAMPLES = ROOT / "examples"
 
@@ -80,7 +80,7 @@ def lay_out(play: Play, folder: Path) -> None:
             (folder / word).parent.mkdir(exist_ok=True)
             (folder / word).write_bytes((EXAMPLES / word).read_bytes())
     if play.changed is not None:
-        (folder / play.words[-1]).write_bytes(play.changed)
+        (folder / named_last(play.words, EXAMPLES)).write_bytes(play.changed)
 
 
 def play_by(program: str | Path, play: Play) -> Ended:

@@ -83,6 +83,11 @@ class SettingsFile:
         return b"\n".join(self.lines)
 
 
+def named_last(words: tuple[str, ...], folder: Path) -> str:
+    """The last file of a folder that words name."""
+    return next(word for word in reversed(words) if (folder / word).is_file())
+
+
 class Run:
     """A run of the program, which begins at the line of this number. Its files are in the folder."""
 
@@ -107,7 +112,7 @@ class Run:
     def change(self, line: bytes, number: int) -> None:
         """Takes a line out of the settings file, or puts one in."""
         if self.changed is None:
-            self.changed = SettingsFile(self.folder / self.words[-1])
+            self.changed = SettingsFile(self.folder / named_last(self.words, self.folder))
         if line.startswith(b"+ "):
             self.changed.put_in(line[2:])
             return
