@@ -13,7 +13,7 @@ use Rattle.settings_file.proofs.Readings.{none-parsed}
 use Rattle.script.specs.Streams.{Input, Output}
 use Rattle.program.specs.Explaining.{IsToldOf, IsFaultExplained}
 use Rattle.program.specs.Folders.{FileRead, IsFault}
-use Rattle.program.specs.Program.{Streams, streams, EndsWith, HasNoMemory, RunsScript, RunsFile, ChecksServer, ChecksFile, HasSettings, EndsAtFile, ServesFile}
+use Rattle.program.specs.Program.{Streams, streams, HasNoMemory, RunsScript, RunsFile, ChecksServer, ChecksFile, HasSettings, EndsAtFile, ServesFile}
 use Rattle.program.specs.declared.folder.FileFault.TheVariants.{Unread, NoMemory}
 use Rattle.program.specs.declared.program.Status.{Status}
 

@@ -1,5 +1,5 @@
 -- What is printed and told of nodes that aren't a network.
-use Rattle.std.specs.Prelude.{ℕ, List, [], ◌++◌, codes, decimal, Option, option_map, slice_get}
+use Rattle.std.specs.Prelude.{ℕ, List, [], ◌++◌, codes, decimal, option_map, slice_get}
 use Rattle.std.specs.Option.{unwrap_or}
 use Rattle.settings_rows.specs.Configuration.{Configuration}
 use Rattle.console.specs.Names.{name_in}

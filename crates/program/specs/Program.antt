@@ -1,6 +1,5 @@
 -- What the program does with files and scripts, and its exit statuses.
-use Rattle.std.specs.Prelude.{◌≡◌, ◌≢◌, ◌⊎◌, ℕ, List, [], ◌∷◌, ◌++◌, codes, None, Some, Result, Ok, Err, OnOk, String, true}
-use Rattle.std.specs.Global.{Global}
+use Rattle.std.specs.Prelude.{◌≡◌, ◌≢◌, ◌⊎◌, ℕ, List, [], ◌∷◌, ◌++◌, codes, None, Some, Result, Ok, Err, OnOk}
 use Rattle.std.specs.Io.KnownBytes.{Appends, IsAtEnd}
 use Rattle.settings_rows.specs.Configuration.{Configuration}
 use Rattle.settings_file.specs.Faults.{fault_line, no_memory}
@@ -9,9 +8,8 @@ use Rattle.settings.specs.Facing.{IsFacing}
 use Rattle.settings.specs.Naming.{link_names}
 use Rattle.exchange_rules.specs.First.{Abstract, first_state}
 use Rattle.exchange_rules.specs.Queues.{whole}
-use Rattle.script.specs.BuiltIn.{built_in_settings}
 use Rattle.settings_file.specs.Sentences.{Explains}
-use Rattle.program.specs.Explaining.{IsTold, IsToldOf, usage_text, unread_sentence, IsWarned, IsEndExplained, strangers_sentence, IsLabEndExplained}
+use Rattle.program.specs.Explaining.{IsToldOf, unread_sentence, IsWarned, IsEndExplained, strangers_sentence, IsLabEndExplained}
 use Rattle.script.specs.Faults.{Counts}
 use Rattle.lab.specs.Network.{network_fault}
 use Rattle.lab.specs.declared.network.NetworkFault.{NetworkFault}
