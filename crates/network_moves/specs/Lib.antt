@@ -1,0 +1,11 @@
+pub mod Sayings
+pub mod Networks
+pub mod Passing
+pub mod Carrying
+pub mod Failing
+pub mod Returning
+pub mod Moves
+pub mod Flowing
+pub mod Laws
+pub mod Quiet
+pub mod Theorems

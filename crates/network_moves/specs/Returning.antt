@@ -1,0 +1,133 @@
+-- Moves of a link that opens and enters service (Q.704 §6), and those after which nothing is promised.
+use Rattle.std.specs.Prelude.{◌≡◌, ◌≢◌, ℕ, true, false, ◌<◌, [], ◌++◌, ◌∷◌, List, None}
+use Rattle.signalling_types.specs.Message.{Message}
+use Rattle.link.specs.Queue.{first_queue, emptied, named_count, last_accepted}
+use Rattle.network_moves.specs.Sayings.{Near, Far, Saying, Order, Answer, opposite}
+use Rattle.network_moves.specs.Networks.{Live, Gone, LinkEnd, Line, Node, Network, Shape, Place, turned}
+use Rattle.network_moves.specs.Networks.{line_at, node_at, point_at, given_up, LinesBecome, Becomes, IsTakenFrom}
+use Rattle.network_moves.specs.Failing.{with_wait, with_completion, without_unconfirmed}
+
+-- an end in a new epoch; what came from it before stays, and what was given up here has gone for good
+abbrev pub opened_end : (came gone : List Message) → LinkEnd
+opened_end came gone = record {
+  queue = first_queue;
+  phase = Live;
+  up = true;
+  serving = false;
+  incomplete = false;
+  awaited = false;
+  heard = false;
+  came = came;
+  gone = gone;
+}
+
+-- a line whose near end opens first: nothing is in flight, and the far end may follow. That one keeps the number of the
+-- last message accepted there
+abbrev pub opened_first : Line → Line
+opened_first z = record {
+  near = opened_end z.near.came (given_up z ++ z.near.gone);
+  far = record z.far {
+    queue = emptied z.far.queue;
+    phase = Live;
+    gone = given_up (turned z) ++ z.far.gone;
+  };
+  to_far = [];
+  to_near = [];
+  told_far = 0;
+  told_near = 0;
+  near_may_follow = false;
+  far_may_follow = true;
+}
+
+-- a line whose near end follows the far one
+abbrev pub opened_second : Line → Line
+opened_second z = record z { near = opened_end z.near.came z.near.gone; near_may_follow = false }
+
+-- an end may open again: it is down, its changeover is complete, and no answer is awaited for it
+pub record MayOpen (x : LinkEnd) : Type 0 where
+  pub down : x.up ≡ false
+  pub complete : x.incomplete ≡ false
+  pub unawaited : x.awaited ≡ false
+
+-- a line whose near end serves
+abbrev pub with_service : Line → Line
+with_service z = record z { near = record z.near { serving = true } }
+
+module _ (shape : Shape) (p q : Network) where
+  -- a link opens at one end, if it may open at the other one too, which may then follow
+  pub record OpensFirst : Type 0 where
+    pub place : Place
+    pub near_may : MayOpen (line_at p place).near
+    pub far_may : MayOpen (line_at p place).far
+    pub after : Becomes shape p q place (opened_first (line_at p place)) (node_at shape p place)
+
+  -- an end follows the other one, which may be down again by then
+  pub record OpensSecond : Type 0 where
+    pub place : Place
+    pub follows : (line_at p place).near_may_follow ≡ true
+    pub near_may : MayOpen (line_at p place).near
+    pub after : Becomes shape p q place (opened_second (line_at p place)) (node_at shape p place)
+
+  -- a link enters service at an end that heard the other
+  pub record Enters : Type 0 where
+    pub place : Place
+    pub up : (line_at p place).near.up ≡ true
+    pub heard : (line_at p place).near.heard ≡ true
+    pub after : Becomes shape p q place (with_service (line_at p place)) (node_at shape p place)
+
+-- ---- a node breaks: from then on nothing is promised
+
+-- one link becomes z, as seen from one end; the node there becomes n, and is broken
+pub record Breaks (shape : Shape) (p q : Network) (place : Place) (z : Line) (n : Node) : Type 0 where
+  pub inside : point_at shape place < shape.nodes
+  pub lines : LinesBecome shape p q place z
+  pub here : q.node (point_at shape place) ≡ n
+  pub others : (other : ℕ) → other ≢ point_at shape place → q.node other ≡ p.node other
+  pub broken : q.broken (point_at shape place) ≡ true
+  pub others_broken : (other : ℕ) → other ≢ point_at shape place → q.broken other ≡ p.broken other
+
+module _ (shape : Shape) (read : Message → Saying) (p q : Network) where
+  -- an end waits no longer for an answer that hasn't come: a timer far longer than T2 ran out, or an operator says so
+  pub record ReleasesBar : Type 0 where
+    pub place : Place
+    pub awaited : (line_at p place).near.awaited ≡ true
+    pub after : Breaks shape p q place (with_wait (line_at p place) false) (node_at shape p place)
+
+  -- an order has a number that no count has: its changeover is complete without one (Q.704 §5.6)
+  pub record HearsUnreasonableOrder : Type 0 where
+    pub place : Place
+    pub number : ℕ
+    pub order : Message
+    pub rest : List Message
+    pub taken : IsTakenFrom (node_at shape p place).bag order rest
+    pub says : read order ≡ Order place.link (opposite place.side) number
+    pub incomplete : (line_at p place).near.incomplete ≡ true
+    pub unreasonable : named_count (line_at p place).near.queue number ≡ None
+    pub answer : Message
+    pub answers : read answer ≡ Answer place.link place.side (last_accepted (line_at p place).near.queue)
+    pub after : Breaks shape p q place
+        (with_completion (line_at p place) Gone (line_at p place).near.awaited)
+        (without_unconfirmed (record (node_at shape p place) { bag = answer ∷ rest }) (line_at p place).near.queue)
+
+  -- an answer has such a number
+  pub record HearsUnreasonableAnswer : Type 0 where
+    pub place : Place
+    pub number : ℕ
+    pub answer : Message
+    pub rest : List Message
+    pub taken : IsTakenFrom (node_at shape p place).bag answer rest
+    pub says : read answer ≡ Answer place.link (opposite place.side) number
+    pub awaited : (line_at p place).near.awaited ≡ true
+    pub incomplete : (line_at p place).near.incomplete ≡ true
+    pub unreasonable : named_count (line_at p place).near.queue number ≡ None
+    pub after : Breaks shape p q place
+        (with_completion (line_at p place) Gone false)
+        (without_unconfirmed (record (node_at shape p place) { bag = rest }) (line_at p place).near.queue)
+
+  -- a node starts again: whatever it and the ends of its links become, nothing else changes
+  pub record StartsAgain : Type 0 where
+    pub point : ℕ
+    pub others : (other : ℕ) → other ≢ point → q.node other ≡ p.node other
+    pub lines : (link : ℕ) → shape.point link Near ≢ point → shape.point link Far ≢ point → q.line link ≡ p.line link
+    pub broken : q.broken point ≡ true
+    pub others_broken : (other : ℕ) → other ≢ point → q.broken other ≡ p.broken other

@@ -1,0 +1,68 @@
+//! What holds after every list of moves from every quiet network on, as the first is, while no node is broken. A
+//! network is quiet (`specs/Quiet.antt`) while all its links are closed at both ends, its nodes' books begin, and no
+//! node has a user message, an order or an answer. It may have any shape. The moves are those of `specs/Passing.antt`
+//! (Q.704 §2), `specs/Carrying.antt` (RFC 4165 §2), `specs/Failing.antt` (Q.704 §5) and `specs/Returning.antt` (Q.704
+//! §6).
+
+ghost use Rattle.network_moves.specs.Theorems.{Always, LinesFlow, FirstEndsAreAlone, EndsAreSound, MovedEndsAreAlone};
+ghost use Rattle.network_moves.specs.Theorems.{MessagesComeInOrder};
+ghost use Rattle.network_moves.specs.Theorems.{LinksOpenWithNoWordLeft, EndsFollowWithNoWordLeft};
+ghost use Rattle.network_moves.specs.Theorems.{NumbersNameWhatWasReceived};
+ghost use Rattle.network_moves.specs.Theorems.{OrdersMoveWhatIsLacked, AnswersMoveWhatIsLacked};
+ghost use Rattle.network_moves.specs.Theorems.{OrdersAreReasonable, AnswersAreReasonable};
+ghost use Rattle.network_moves.specs.Theorems.{EachMessageEndsOnce};
+ghost use Rattle.network_moves.specs.Laws.{WordsAreAwaited, WordsAreTrue};
+ghost use Rattle.network_moves.specs.Quiet.{first_networks_are_quiet};
+
+/// Law (i), of one link and one direction. While either end is up, and until the near end's changeover is complete,
+/// unless an end may follow the other, the far end accepted the first messages of the near end's queue, as many as it
+/// counts (RFC 4165 §2.2). While the far end is up, the User Data in flight carry those from there to the last that was
+/// sent, in order. While the near end is up, the backward numbers of the User Data that come to it name counts that the
+/// far end accepted, never falling. So a message that comes is the first that its end lacked. While an end may follow,
+/// the one that opened first has an empty queue and isn't in service; nothing is in flight to it, and no message to the
+/// other, which is down and may open. An end whose messages a word moved has another end that is down.
+pub fn frames_carry_what_was_not_received()
+    ensures carried { Always LinesFlow }
+    ensures opening { Always FirstEndsAreAlone }
+    ensures ends { Always EndsAreSound }
+    ensures moved { Always MovedEndsAreAlone }
+    ensures taken { Always MessagesComeInOrder }
+{}
+
+/// Law (ii). Of an end's changeover orders about its link and the other end's answers to them, no more than one is
+/// under way, at whatever node and on whatever link, and only while the end awaits that answer (Q.704 §5.4). None is
+/// when the link may open at both ends, nor when an end may follow the other.
+pub fn words_are_awaited()
+    ensures awaited { Always WordsAreAwaited }
+    ensures opening { Always LinksOpenWithNoWordLeft }
+    ensures following { Always EndsFollowWithNoWordLeft }
+{}
+
+/// Law (iii). An order or an answer about a link is under way, wherever it is, only while the link is down at the end
+/// that made it, and it has the number of the last message accepted there (Q.704 §5.4, with the numbers of Q.2210).
+pub fn words_carry_the_final_number()
+    ensures { Always WordsAreTrue }
+{}
+
+/// Law (iv) (Q.704 §5.4, §5.5). While law (i) holds, the number of the last message that the far end accepted names the
+/// count of all that it received. A completion, by an order or by an answer, moves the messages that the far end lacks,
+/// and no others. So no order or answer has a number that no count has.
+pub fn completions_move_what_the_other_end_lacks()
+    ensures named { Always NumbersNameWhatWasReceived }
+    ensures orders { Always OrdersMoveWhatIsLacked }
+    ensures answers { Always AnswersMoveWhatIsLacked }
+    ensures reasonable_orders { Always OrdersAreReasonable }
+    ensures reasonable_answers { Always AnswersAreReasonable }
+{}
+
+/// The node law. Of any kind of user messages, as many came in at a node, from its user parts and by its links, as
+/// ended there, received or refused by name; came to a neighbour by a link; wait, at the node or on a link of it; or
+/// are gone. And no more are gone than its notices of loss name.
+pub fn each_message_ends_once()
+    ensures { Always EachMessageEndsOnce }
+{}
+
+/// The first network is quiet, whatever its shape.
+pub fn a_new_network_is_quiet()
+    ensures { first_networks_are_quiet }
+{}
