@@ -16,3 +16,5 @@ pub mod Returned
 pub mod First
 pub mod Keeping
 pub mod Concluded
+pub mod Running
+pub mod Crossed

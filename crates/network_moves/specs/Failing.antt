@@ -6,6 +6,10 @@ use Rattle.network_moves.specs.Sayings.{Saying, Order, Answer, opposite}
 use Rattle.network_moves.specs.Networks.{Phase, Moved, Gone, Line, Node, Network, Shape, Place}
 use Rattle.network_moves.specs.Networks.{line_at, node_at, point_at, NodeBecomes, Becomes, IsTakenFrom}
 
+-- the number that an order or an answer of the near end has: that of the last message accepted there
+abbrev pub final_number : Line → ℕ
+final_number z = last_accepted z.near.queue
+
 -- a line after its near end failed; a changeover begins if it served
 abbrev pub with_failure : Line → Line
 with_failure z = record z {
@@ -50,7 +54,7 @@ module _ (shape : Shape) (read : Message → Saying) (p q : Network) where
     pub incomplete : (line_at p place).near.incomplete ≡ true
     pub unawaited : (line_at p place).near.awaited ≡ false
     pub order : Message
-    pub says : read order ≡ Order place.link place.side (last_accepted (line_at p place).near.queue)
+    pub says : read order ≡ Order place.link place.side (final_number (line_at p place))
     pub after : Becomes shape p q place
         (with_wait (line_at p place) true)
         (record (node_at shape p place) { bag = order ∷ (node_at shape p place).bag })
@@ -68,7 +72,7 @@ module _ (shape : Shape) (read : Message → Saying) (p q : Network) where
     pub count : ℕ
     pub named : named_count (line_at p place).near.queue number ≡ Some count
     pub answer : Message
-    pub answers : read answer ≡ Answer place.link place.side (last_accepted (line_at p place).near.queue)
+    pub answers : read answer ≡ Answer place.link place.side (final_number (line_at p place))
     pub after : Becomes shape p q place
         (with_completion (line_at p place) Moved (line_at p place).near.awaited)
         (record (node_at shape p place) { bag = answer ∷ (drop count (line_at p place).near.queue.all ++ rest) })
@@ -84,7 +88,7 @@ module _ (shape : Shape) (read : Message → Saying) (p q : Network) where
     pub down : (line_at p place).near.up ≡ false
     pub complete : (line_at p place).near.incomplete ≡ false
     pub answer : Message
-    pub answers : read answer ≡ Answer place.link place.side (last_accepted (line_at p place).near.queue)
+    pub answers : read answer ≡ Answer place.link place.side (final_number (line_at p place))
     pub after : NodeBecomes shape p q (point_at shape place) (record (node_at shape p place) { bag = answer ∷ rest })
 
   -- the answer about a link that failed completes its changeover

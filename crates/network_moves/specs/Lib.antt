@@ -9,3 +9,4 @@ pub mod Flowing
 pub mod Laws
 pub mod Quiet
 pub mod Theorems
+pub mod Crossing

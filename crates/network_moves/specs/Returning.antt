@@ -1,11 +1,11 @@
 -- Moves of a link that opens and enters service (Q.704 §6), and those after which nothing is promised.
 use Rattle.std.specs.Prelude.{◌≡◌, ◌≢◌, ℕ, true, false, ◌<◌, [], ◌++◌, ◌∷◌, List, None}
 use Rattle.signalling_types.specs.Message.{Message}
-use Rattle.link.specs.Queue.{first_queue, emptied, named_count, last_accepted}
+use Rattle.link.specs.Queue.{first_queue, emptied, named_count}
 use Rattle.network_moves.specs.Sayings.{Near, Far, Saying, Order, Answer, opposite}
 use Rattle.network_moves.specs.Networks.{Live, Gone, LinkEnd, Line, Node, Network, Shape, Place, turned}
 use Rattle.network_moves.specs.Networks.{line_at, node_at, point_at, given_up, LinesBecome, Becomes, IsTakenFrom}
-use Rattle.network_moves.specs.Failing.{with_wait, with_completion, without_unconfirmed}
+use Rattle.network_moves.specs.Failing.{final_number, with_wait, with_completion, without_unconfirmed}
 
 -- an end in a new epoch; what came from it before stays, and what was given up here has gone for good
 abbrev pub opened_end : (came gone : List Message) → LinkEnd
@@ -104,7 +104,7 @@ module _ (shape : Shape) (read : Message → Saying) (p q : Network) where
     pub incomplete : (line_at p place).near.incomplete ≡ true
     pub unreasonable : named_count (line_at p place).near.queue number ≡ None
     pub answer : Message
-    pub answers : read answer ≡ Answer place.link place.side (last_accepted (line_at p place).near.queue)
+    pub answers : read answer ≡ Answer place.link place.side (final_number (line_at p place))
     pub after : Breaks shape p q place
         (with_completion (line_at p place) Gone (line_at p place).near.awaited)
         (without_unconfirmed (record (node_at shape p place) { bag = answer ∷ rest }) (line_at p place).near.queue)

@@ -13,6 +13,7 @@ ghost use Rattle.network_moves.specs.Theorems.{OrdersAreReasonable, AnswersAreRe
 ghost use Rattle.network_moves.specs.Theorems.{EachMessageEndsOnce};
 ghost use Rattle.network_moves.specs.Laws.{WordsAreAwaited, WordsAreTrue};
 ghost use Rattle.network_moves.specs.Quiet.{first_networks_are_quiet};
+ghost use Rattle.network_moves.specs.Crossing.{Crosses};
 
 /// Law (i), of one link and one direction. While either end is up, and until the near end's changeover is complete,
 /// unless an end may follow the other, the far end accepted the first messages of the near end's queue, as many as it
@@ -65,4 +66,12 @@ pub fn each_message_ends_once()
 /// The first network is quiet, whatever its shape.
 pub fn a_new_network_is_quiet()
     ensures { first_networks_are_quiet }
+{}
+
+/// These laws aren't empty. In a run of 82 moves both links between two points fail, one with a message on it that came
+/// and wasn't confirmed, and one with a message that didn't come. Their changeover orders and the answers go by the
+/// mate of one of the two, and so does the second message. Each message ends once at the point that it was for; nothing
+/// is named as lost, and the links may open again.
+pub fn messages_cross_by_a_third_node()
+    ensures { Crosses }
 {}
