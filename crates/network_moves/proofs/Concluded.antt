@@ -1,8 +1,8 @@
 -- The laws, after every list of moves.
 use Rattle.network_moves.proofs.Basics.{◌≡◌, ℕ, Bool, true, false, ◌+◌, drop, count_by, nat_eq, Option, Some, None, refl, ap, sym, ◌∙◌, arith, if◌then◌else◌}
-use Rattle.network_moves.proofs.Definitions.{Message, named_count, turned, Saying, is_awaited_by, saying, user, Line, Network, Shape, Place, line_at, waiting, sum_at, WordsAreAwaited, WordsAreTrue, under_way, OpenedAlone}
-use Rattle.network_moves.specs.Theorems.{Always, LinesFlow, FirstEndsAreAlone, EndsAreSound, MovedEndsAreAlone, MessagesComeInOrder, NothingAbout, LinksOpenWithNoWordLeft, EndsFollowWithNoWordLeft, NumbersNameWhatWasReceived, OrdersMoveWhatIsLacked, AnswersMoveWhatIsLacked, OrdersAreReasonable, AnswersAreReasonable, EachMessageEndsOnce}
-use Rattle.network_moves.proofs.Counts.{ends-added}
+use Rattle.network_moves.proofs.Definitions.{EndsOnce, Far, IsAccountedFor, IsJoined, Line, Message, Near, Network, OpenedAlone, Place, Saying, Shape, WordsAreAwaited, WordsAreTrue, came_from, came_to, gone_at, is_awaited_by, line_at, named_count, saying, sum_at, sum_of_ends, sum_to, turned, under_way, user, waiting, waits_at}
+use Rattle.network_moves.specs.Theorems.{Always, LinesFlow, FirstEndsAreAlone, EndsAreSound, MovedEndsAreAlone, MessagesComeInOrder, NothingAbout, LinksOpenWithNoWordLeft, EndsFollowWithNoWordLeft, NumbersNameWhatWasReceived, OrdersMoveWhatIsLacked, AnswersMoveWhatIsLacked, OrdersAreReasonable, AnswersAreReasonable, EachMessageEntersOnce, EachMessageEndsOnce, EachMessageIsAccountedFor}
+use Rattle.network_moves.proofs.Counts.{ends-added, sum-added, sum-alike, sum-swap, sum-one}
 use Rattle.network_moves.proofs.Words.{one-flag}
 use Rattle.network_moves.proofs.Lines.{IsLine}
 use Rattle.network_moves.proofs.LinesTaken.{taken_message-is}
@@ -117,8 +117,65 @@ booked-split shape p x test =
       at-added shape p x (λ z. count_by test (waiting z) + lost test z) (λ z. count_by test (waiting z)) (lost test) (λ z. refl),
     )
 
-pub each_message_ends_once-always : Always EachMessageEndsOnce
-each_message_ends_once-always = always EachMessageEndsOnce (λ shape read p h point. record {
+ends-once : (shape : Shape) (read : Message → Saying) (p : Network) → Sound shape read p → (point : ℕ) → EndsOnce shape read p point
+ends-once shape read p h point = record {
   each = λ test. omega (arith, (h.books point).each test, booked-split shape p point (user read test));
   named = λ test. (h.books point).named test;
-})
+}
+
+pub each_message_ends_once-always : Always EachMessageEndsOnce
+each_message_ends_once-always = always EachMessageEndsOnce (λ shape read p h point. ends-once shape read p h point)
+
+pub each_message_enters_once-always : Always EachMessageEntersOnce
+each_message_enters_once-always = always EachMessageEntersOnce (λ shape read p h point. (h.books point).entered)
+
+-- ---- of the whole network
+
+module _ (shape : Shape) (joined : IsJoined shape) (p : Network) (f : Line → ℕ) where
+  -- the ends at all nodes are all ends
+  at-all : sum_to (λ x. sum_at shape x f p) shape.nodes ≡ sum_of_ends shape (λ link side z. f z) p
+  at-all =
+      sum-swap
+      (λ x k. (if nat_eq (shape.point k Near) x then f (p.line k) else 0) + (if nat_eq (shape.point k Far) x then f (turned (p.line k)) else 0))
+      shape.links shape.nodes
+      ∙ sum-alike
+      (λ k. f (p.line k) + f (turned (p.line k)))
+      (λ k. sum_to (λ x. (if nat_eq (shape.point k Near) x then f (p.line k) else 0) + (if nat_eq (shape.point k Far) x then f (turned (p.line k)) else 0)) shape.nodes)
+      shape.links
+      (λ k inside.
+      omega (
+        arith,
+        sum-added
+            (λ x. (if nat_eq (shape.point k Near) x then f (p.line k) else 0) + (if nat_eq (shape.point k Far) x then f (turned (p.line k)) else 0))
+            (λ x. if nat_eq (shape.point k Near) x then f (p.line k) else 0) (λ x. if nat_eq (shape.point k Far) x then f (turned (p.line k)) else 0) shape.nodes (λ x. refl),
+        sum-one (shape.point k Near) shape.nodes (f (p.line k)) (joined.inside k Near inside),
+        sum-one (shape.point k Far) shape.nodes (f (turned (p.line k))) (joined.inside k Far inside),
+      ))
+
+-- what came from all nodes came to all
+came-across : (shape : Shape) → IsJoined shape → (test : Message → Bool) (p : Network) →
+    sum_to (came_from shape test p) shape.nodes ≡ sum_to (came_to shape test p) shape.nodes
+came-across shape joined test p =
+    at-all shape joined p (λ z. count_by test z.near.came)
+    ∙ sum-alike (λ k. count_by test (p.line k).far.came + count_by test (p.line k).near.came) (λ k. count_by test (p.line k).near.came + count_by test (p.line k).far.came) shape.links (λ k l. omega arith)
+    ∙ sym (at-all shape joined p (λ z. count_by test z.far.came))
+
+accounted : (shape : Shape) (read : Message → Saying) (p : Network) → Sound shape read p → IsJoined shape → IsAccountedFor shape read p
+accounted shape read p h joined test =
+    let t : Message → Bool = user read test in
+    let n : ℕ = shape.nodes in
+    let ended : ℕ → ℕ = λ x. count_by t (p.node x).ended in
+    let from : ℕ → ℕ = came_from shape t p in
+    let waits : ℕ → ℕ = waits_at shape t p in
+    let gone : ℕ → ℕ = gone_at shape t p in
+    omega (
+      arith,
+      sum-added (λ x. count_by t (p.node x).accepted) (λ x. count_by t (p.node x).submitted) (came_to shape t p) n (λ x. (h.books x).entered test),
+      sum-added (λ x. count_by t (p.node x).accepted) (λ x. ended x + from x + waits x) gone n (λ x. (ends-once shape read p h x).each test),
+      sum-added (λ x. ended x + from x + waits x) (λ x. ended x + from x) waits n (λ x. refl),
+      sum-added (λ x. ended x + from x) ended from n (λ x. refl),
+      came-across shape joined t p,
+    )
+
+pub accounted-always : Always EachMessageIsAccountedFor
+accounted-always = always EachMessageIsAccountedFor (λ shape read p h joined. accounted shape read p h joined)

@@ -1,6 +1,7 @@
 -- Counts of messages in lists, over nodes and ends of links, and under way.
-use Rattle.network_moves.proofs.Basics.{◌≡◌, ◌≢◌, ℕ, zero, suc, Bool, ◌+◌, ◌≤◌, ◌<◌, List, [], ◌∷◌, ◌++◌, count_by, cond, refl, ap, sym, arith, subst, ⊎_elim, cases_eq}
+use Rattle.network_moves.proofs.Basics.{◌≡◌, ◌≢◌, ℕ, zero, suc, Bool, true, false, ◌+◌, ◌≤◌, ◌<◌, List, nat_eq, if◌then◌else◌, eq-eqb, ne_eqb, [], ◌∷◌, ◌++◌, count_by, cond, refl, ap, sym, arith, subst, ⊎_elim, cases_eq}
 use Rattle.network_moves.proofs.Definitions.{Message, Side, Near, Far, opposite, Line, Node, Network, Shape, turned, seen, Place, line_at, point_at, node_at, waiting, given_up, one_if, sum_to, sum_of_ends, NodeBecomes, LinesBecome, Becomes, on_its_way, under_way}
+use Rattle.network_moves.proofs.Lines.{false_is_true}
 use Rattle.std.proofs.lemmas.List.Sums.{sum_by-cons, sum_by-append}
 
 -- ---- in a list
@@ -52,6 +53,29 @@ sum-holds f (suc n) link l =
     (λ (e : n ≡ link). subst (λ (j : ℕ). f j ≤ sum_to f (suc n)) e (omega arith))
     (λ (d : n ≢ link). omega (arith, sum-holds f n link (omega (arith, l, d))))
     (cases_eq n link)
+
+pub if-true : (b : Bool) (n : ℕ) → b ≡ true → (if b then n else 0) ≡ n
+if-true true n e = refl
+if-true false n e = false_is_true e
+
+pub if-false : (b : Bool) (n : ℕ) → b ≡ false → (if b then n else 0) ≡ 0
+if-false true n e = false_is_true (sym e)
+if-false false n e = refl
+
+-- what is at one of them alone
+pub sum-one : (at n count : ℕ) → at < n → sum_to (λ x. if nat_eq at x then count else 0) n ≡ count
+sum-one at n count inside =
+    omega (
+      arith,
+      sum-but (λ x. 0) (λ x. if nat_eq at x then count else 0) n at inside (λ x d. if-false (nat_eq at x) count (ne_eqb at x (λ e. d (sym e)))),
+      sum-none (λ x. 0) n (λ x. refl),
+      if-true (nat_eq at at) count (eq-eqb at at refl),
+    )
+
+-- in either order
+pub sum-swap : (f : ℕ → ℕ → ℕ) (m n : ℕ) → sum_to (λ x. sum_to (f x) m) n ≡ sum_to (λ k. sum_to (λ x. f x k) n) m
+sum-swap f zero n = sum-none (λ x. 0) n (λ x. refl)
+sum-swap f (suc m) n = omega (arith, sum-added (λ x. sum_to (f x) (suc m)) (λ x. sum_to (f x) m) (λ x. f x m) n (λ x. refl), sum-swap f m n)
 
 -- ---- over ends of links
 

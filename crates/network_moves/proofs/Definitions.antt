@@ -12,4 +12,4 @@ pub use Rattle.network_moves.specs.Returning.{opened_end, opened_first, opened_s
 pub use Rattle.network_moves.specs.Moves.{Move, Moves, last_of}
 pub use Rattle.network_moves.specs.Flowing.{Carry, Name, Flows, is_in_use, IsFlowing, OpenedAlone, OpensAlone, IsEnd, MovesAlone, NamesReceived}
 pub use Rattle.network_moves.specs.Quiet.{IsClosed, IsAtRest, AreOthers, IsIdle, IsQuiet, closed_end, closed_line, first_node, first_network, first_networks_are_quiet}
-pub use Rattle.network_moves.specs.Laws.{on_its_way, under_way, WordsAreAwaited, WordsAreTrue, sum_at, came_from, waits_at, gone_at, EndsOnce}
+pub use Rattle.network_moves.specs.Laws.{on_its_way, under_way, WordsAreAwaited, WordsAreTrue, sum_at, came_from, came_to, waits_at, gone_at, EntersOnce, EndsOnce, IsJoined, IsAccountedFor}

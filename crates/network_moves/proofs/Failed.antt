@@ -115,6 +115,8 @@ module _ (shape : Shape) (read : Message → Saying) (p q : Network) where
         truth_elsewhere = λ j s d. omega (arith, made (is_untrue j s (end_at p j s).up (last_accepted (end_at p j s).queue)), true-there j s);
       })
       (record {
+        entered = λ test. omega arith;
+        far_entered = λ test. refl;
         each = λ test. omega (arith, count-cons (user read test) m.order (node_at shape p m.place).bag, one-management read m.order (Order link side last) m.says refl test);
         far_each = λ test. refl;
         named = λ test. omega arith;
@@ -157,6 +159,8 @@ module _ (shape : Shape) (read : Message → Saying) (p q : Network) where
         truth_elsewhere = λ j s d. omega (arith, made (is_untrue j s (end_at p j s).up (last_accepted (end_at p j s).queue)), true-there j s);
       })
       (record {
+        entered = λ test. omega arith;
+        far_entered = λ test. refl;
         each = λ test.
             omega (
               arith,
@@ -187,6 +191,7 @@ module _ (shape : Shape) (read : Message → Saying) (p q : Network) where
         way = λ test. omega (arith, count-cons test m.answer m.rest, m.taken.counted test, count-one test m.answer, count-one test m.order);
         awaited = λ j s. omega (arith, made (is_awaited_by j s), looked (is_awaited_by j s));
         truth = λ j s. omega (arith, made (is_untrue j s (end_at p j s).up (last_accepted (end_at p j s).queue)), told-anywhere shape read p h m.place m.down j s);
+        entered = λ test. omega arith;
         each = λ test.
             omega (
               arith,
@@ -226,6 +231,8 @@ module _ (shape : Shape) (read : Message → Saying) (p q : Network) where
         truth_elsewhere = λ j s d. refl;
       })
       (record {
+        entered = λ test. omega arith;
+        far_entered = λ test. refl;
         each = λ test.
             omega (
               arith,
@@ -260,6 +267,8 @@ module _ (shape : Shape) (read : Message → Saying) (p q : Network) where
         truth_elsewhere = λ j s d. refl;
       })
       (record {
+        entered = λ test. omega arith;
+        far_entered = λ test. refl;
         each = λ test. omega (arith, m.taken.counted (user read test), one-management read m.answer (Answer link (opposite side) m.number) m.says refl test);
         far_each = λ test. refl;
         named = λ test. omega arith;
@@ -291,6 +300,8 @@ module _ (shape : Shape) (read : Message → Saying) (p q : Network) where
         truth_elsewhere = λ j s d. refl;
       })
       (record {
+        entered = λ test. omega arith;
+        far_entered = λ test. refl;
         each = λ test.
             omega (
               arith,

@@ -35,6 +35,9 @@ line-quiet z h = record {
   moved_back = λ m. live-moved (sym h.far.live ∙ m);
 }
 
+rest-turned : (z : Line) → IsAtRest z → IsAtRest (turned z)
+rest-turned z h = record { near = h.far; far = h.near; near_alone = h.far_alone; far_alone = h.near_alone }
+
 -- ---- a quiet network
 
 -- messages of which no law speaks aren't counted
@@ -63,21 +66,21 @@ module _ (shape : Shape) (read : Message → Saying) (p : Network) (h : IsQuiet 
   none-says : (test : Saying → Bool) → one_if (test Other) ≡ 0 → under_way shape (saying read test) p ≡ 0
   none-says test none = none-under_way (saying read test) (λ m e. one-said read m Other e test ∙ none)
 
-  none-at : (f : Line → ℕ) → ((z : Line) → IsClosed z.near → f z ≡ 0) → (x : ℕ) → sum_at shape x f p ≡ 0
+  none-at : (f : Line → ℕ) → ((z : Line) → IsAtRest z → f z ≡ 0) → (x : ℕ) → sum_at shape x f p ≡ 0
   none-at f none x =
       sum-none (λ k. (if nat_eq (shape.point k Near) x then f (p.line k) else 0) + (if nat_eq (shape.point k Far) x then f (turned (p.line k)) else 0)) shape.links
       (λ k.
       omega (
         arith,
-        if-none (nat_eq (shape.point k Near) x) (f (p.line k)) (none (p.line k) (h.lines k).near),
-        if-none (nat_eq (shape.point k Far) x) (f (turned (p.line k))) (none (turned (p.line k)) (h.lines k).far),
+        if-none (nat_eq (shape.point k Near) x) (f (p.line k)) (none (p.line k) (h.lines k)),
+        if-none (nat_eq (shape.point k Far) x) (f (turned (p.line k))) (none (turned (p.line k)) (rest-turned (p.line k) (h.lines k))),
       ))
 
-  none-lost : (test : Message → Bool) (z : Line) → IsClosed z.near → lost test z ≡ 0
-  none-lost test z c = omega (arith, ap (count_by test) c.gone, ap (count_by test) (none-given z c))
+  none-lost : (test : Message → Bool) (z : Line) → IsAtRest z → lost test z ≡ 0
+  none-lost test z r = omega (arith, ap (count_by test) r.near.gone, ap (count_by test) (none-given z r.near))
 
-  none-booked : (test : Message → Bool) (z : Line) → IsClosed z.near → booked test z ≡ 0
-  none-booked test z c = omega (arith, none-lost test z c, ap (count_by test) c.came, ap (count_by test) (none-waiting z c))
+  none-booked : (test : Message → Bool) (z : Line) → IsAtRest z → booked test z ≡ 0
+  none-booked test z r = omega (arith, none-lost test z r, ap (count_by test) r.near.came, ap (count_by test) (none-waiting z r.near))
 
   pub sound-quiet : Sound shape read p
   sound-quiet = record {
@@ -85,6 +88,13 @@ module _ (shape : Shape) (read : Message → Saying) (p : Network) (h : IsQuiet 
     awaited = λ link side. omega (arith, none-says (is_awaited_by link side) refl);
     truth = λ link side. none-says (is_untrue link side (seen side (p.line link)).near.up (last_accepted (seen side (p.line link)).near.queue)) refl;
     books = λ x. record {
+      entered = λ test.
+          omega (
+            arith,
+            ap (count_by (user read test)) (h.nodes x).accepted,
+            ap (count_by (user read test)) (h.nodes x).submitted,
+            none-at (λ z. count_by (user read test) z.far.came) (λ z r. ap (count_by (user read test)) r.far.came) x,
+          );
       each = λ test.
           omega (
             arith,
@@ -121,5 +131,5 @@ closed-first = record {
 pub quiet-first : first_networks_are_quiet
 quiet-first read = record {
   lines = λ link. record { near = closed-first; far = closed-first; near_alone = refl; far_alone = refl };
-  nodes = λ point. record { bag = tt; accepted = refl; ended = refl; gone = refl; named = refl };
+  nodes = λ point. record { bag = tt; submitted = refl; accepted = refl; ended = refl; gone = refl; named = refl };
 }

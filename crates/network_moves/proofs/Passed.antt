@@ -20,6 +20,7 @@ module _ (shape : Shape) (read : Message → Saying) (p q : Network) where
         way = λ test. omega (arith, count-cons test m.message (p.node m.point).bag, count-one test m.message);
         awaited = λ l s. omega (arith, count-one (saying read (is_awaited_by l s)) m.message, one-said read m.message UserMessage is (is_awaited_by l s));
         truth = λ l s. omega (arith, count-one (untrue_of read l s (end_at p l s)) m.message, one-said read m.message UserMessage is (is_untrue l s (end_at p l s).up (last_accepted (end_at p l s).queue)));
+        entered = λ test. omega (arith, count-cons (user read test) m.message (p.node m.point).accepted, count-cons (user read test) m.message (p.node m.point).submitted);
         each = λ test. omega (arith, count-cons (user read test) m.message (p.node m.point).bag, count-cons (user read test) m.message (p.node m.point).accepted);
         named = λ test. omega arith;
       })
@@ -32,6 +33,7 @@ module _ (shape : Shape) (read : Message → Saying) (p q : Network) where
         way = λ test. omega (arith, count-cons test m.message (p.node m.point).bag, count-one test m.message);
         awaited = λ l s. omega (arith, count-one (saying read (is_awaited_by l s)) m.message, one-said read m.message Other m.other (is_awaited_by l s));
         truth = λ l s. omega (arith, count-one (untrue_of read l s (end_at p l s)) m.message, one-said read m.message Other m.other (is_untrue l s (end_at p l s).up (last_accepted (end_at p l s).queue)));
+        entered = λ test. omega arith;
         each = λ test. omega (arith, count-cons (user read test) m.message (p.node m.point).bag, one-management read m.message Other m.other refl test);
         named = λ test. omega arith;
       })
@@ -44,6 +46,7 @@ module _ (shape : Shape) (read : Message → Saying) (p q : Network) where
         way = λ test. omega (arith, m.taken.counted test, count-one test m.message);
         awaited = λ l s. omega arith;
         truth = λ l s. refl;
+        entered = λ test. omega arith;
         each = λ test. omega (arith, m.taken.counted (user read test), count-cons (user read test) m.message (p.node m.point).ended);
         named = λ test. omega arith;
       })
@@ -56,6 +59,7 @@ module _ (shape : Shape) (read : Message → Saying) (p q : Network) where
         way = λ test. omega (arith, m.taken.counted test, count-one test m.message);
         awaited = λ l s. omega arith;
         truth = λ l s. refl;
+        entered = λ test. omega arith;
         each = λ test. omega (arith, m.taken.counted (user read test), count-cons (user read test) m.message (p.node m.point).gone);
         named = λ test. omega (arith, count-cons (user read test) m.message (p.node m.point).gone, count-cons (user read test) m.message (p.node m.point).named);
       })
@@ -68,6 +72,7 @@ module _ (shape : Shape) (read : Message → Saying) (p q : Network) where
         way = λ test. omega (arith, m.taken.counted test, count-one test m.message);
         awaited = λ l s. omega arith;
         truth = λ l s. refl;
+        entered = λ test. omega arith;
         each = λ test. omega (arith, m.taken.counted (user read test), one-no_user read m.message m.management test);
         named = λ test. omega arith;
       })
@@ -112,6 +117,8 @@ module _ (shape : Shape) (read : Message → Saying) (p q : Network) where
         truth_elsewhere = λ l s d. refl;
       })
       (record {
+        entered = λ test. omega arith;
+        far_entered = λ test. refl;
         each = λ test. omega (arith, m.taken.counted (user read test), placed-waits z m.message (user read test) m.serving l, placed-given z m.message (user read test) m.serving l);
         far_each = λ test. refl;
         named = λ test. omega (arith, placed-given z m.message (user read test) m.serving l);
@@ -284,6 +291,8 @@ module _ (shape : Shape) (read : Message → Saying) (p q : Network) where
         truth_elsewhere = λ l s d. refl;
       })
       (record {
+        entered = λ test. omega (arith, count-cons (user read test) m.message (node_at shape p m.place).accepted, count-cons (user read test) m.message y.far.came);
+        far_entered = λ test. refl;
         each = λ test.
             omega (arith, near.each (user read test), count-cons (user read test) m.message (node_at shape p m.place).bag, count-cons (user read test) m.message (node_at shape p m.place).accepted);
         far_each = λ test. omega (arith, comes (user read test), count-cons (user read test) m.message y.far.came);

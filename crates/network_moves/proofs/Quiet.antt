@@ -31,6 +31,8 @@ module _ (shape : Shape) (read : Message → Saying) (p : Network) where
         truth_elsewhere = λ l s d. refl;
       })
       (record {
+        entered = λ test. omega (arith, c.far.came (user read test));
+        far_entered = λ test. c.near.came (user read test);
         each = λ test. omega (arith, c.near.each (user read test));
         far_each = λ test. c.far.each (user read test);
         named = λ test. omega (arith, c.near.lost (user read test));

@@ -50,6 +50,8 @@ module _ (shape : Shape) (read : Message → Saying) (p q : Network) where
         truth_elsewhere = λ j s d. refl;
       })
       (record {
+        entered = λ test. omega arith;
+        far_entered = λ test. refl;
         each = λ test. omega (arith, near (user read test), new (user read test), count-append (user read test) (given_up y) y.near.gone);
         far_each = λ test. omega (arith, far (user read test), count-append (user read test) (given_up (turned y)) y.far.gone);
         named = λ test. omega (arith, count-append (user read test) (given_up y) y.near.gone);

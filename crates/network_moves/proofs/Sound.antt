@@ -1,8 +1,8 @@
 -- What every move keeps, characterized by what it changes at one node and on one line.
 use Rattle.network_moves.proofs.Basics.{◌≡◌, ◌≢◌, ℕ, Bool, true, false, ◌+◌, ◌≤◌, List, count_by, nat_eq, refl, ap, sym, subst, arith, if◌then◌else◌, ⊎_elim, cases_eq, ne_eqb, eq-eqb}
-use Rattle.network_moves.proofs.Definitions.{Message, Side, Near, Far, opposite, Saying, is_awaited_by, saying, user, LinkEnd, Line, Node, Network, Shape, turned, seen, Place, line_at, point_at, node_at, waiting, given_up, one_if, NodeBecomes, LinesBecome, Becomes, on_its_way, under_way, WordsAreAwaited, WordsAreTrue, sum_at}
-use Rattle.network_moves.proofs.Lines.{IsLine, line-turned, true_is_false}
-use Rattle.network_moves.proofs.Counts.{ends-but, ends-alike, way-node, way-line}
+use Rattle.network_moves.proofs.Definitions.{Message, Side, Near, Far, opposite, Saying, is_awaited_by, saying, user, LinkEnd, Line, Node, Network, Shape, turned, seen, Place, line_at, point_at, node_at, waiting, given_up, one_if, NodeBecomes, LinesBecome, Becomes, on_its_way, under_way, WordsAreAwaited, WordsAreTrue, EntersOnce, sum_at}
+use Rattle.network_moves.proofs.Lines.{IsLine, line-turned}
+use Rattle.network_moves.proofs.Counts.{if-true, if-false, ends-but, ends-alike, way-node, way-line}
 use Rattle.network_moves.proofs.Words.{untrue_of}
 
 -- ---- what is kept
@@ -16,6 +16,7 @@ lost test z = count_by test z.near.gone + count_by test (given_up z)
 
 module _ (shape : Shape) (read : Message → Saying) where
   pub record Balances (p : Network) (point : ℕ) : Type 0 where
+    pub entered : EntersOnce shape read p point
     pub each : (test : Message → Bool) →
         count_by (user read test) (p.node point).accepted
         ≡ count_by (user read test) (p.node point).bag + count_by (user read test) (p.node point).ended + count_by (user read test) (p.node point).gone
@@ -68,14 +69,6 @@ each-line shape p q place z set before here link =
     (λ (d : link ≢ place.link). subst IsLine (sym (set.others link d)) (before link))
     (cases_eq link place.link)
 
-if-true : (b : Bool) (n : ℕ) → b ≡ true → (if b then n else 0) ≡ n
-if-true true n e = refl
-if-true false n e = true_is_false (sym e)
-
-if-false : (b : Bool) (n : ℕ) → b ≡ false → (if b then n else 0) ≡ 0
-if-false true n e = true_is_false e
-if-false false n e = refl
-
 if-within : (b : Bool) (m n : ℕ) → m ≤ n → (if b then m else 0) ≤ (if b then n else 0)
 if-within true m n l = l
 if-within false m n l = omega arith
@@ -118,6 +111,10 @@ module _ (shape : Shape) (read : Message → Saying) (p : Network) where
 
   -- what it does to the books of the two nodes at the ends
   pub record Accounts (place : Place) (z : Line) (n : Node) : Type 0 where
+    pub entered : (test : Message → Bool) →
+        count_by (user read test) n.accepted + (count_by (user read test) (node_at shape p place).submitted + count_by (user read test) (line_at p place).far.came)
+        ≡ count_by (user read test) (node_at shape p place).accepted + (count_by (user read test) n.submitted + count_by (user read test) z.far.came)
+    pub far_entered : (test : Message → Bool) → count_by (user read test) z.near.came ≡ count_by (user read test) (line_at p place).near.came
     pub each : (test : Message → Bool) →
         count_by (user read test) n.accepted
         + (count_by (user read test) (node_at shape p place).bag + count_by (user read test) (node_at shape p place).ended
@@ -147,6 +144,19 @@ module _ (shape : Shape) (read : Message → Saying) (p : Network) where
         let far : Bool = nat_eq (shape.point place.link (opposite place.side)) x in
         let same : nat_eq x x ≡ true = eq-eqb x x refl in
         record {
+          entered = λ test.
+              let t : Message → Bool = user read test in
+              let to : Line → ℕ = λ y. count_by t y.far.came in
+              subst (λ (y : Node). count_by t y.accepted ≡ count_by t y.submitted + sum_at shape x to q) (sym after.here)
+              (omega (
+                arith,
+                a.entered test,
+                b.entered test,
+                at-but to x,
+                if-true (nat_eq x x) (to z) same,
+                if-true (nat_eq x x) (to (line_at p place)) same,
+                ap (λ (k : ℕ). if far then k else 0) (a.far_entered test),
+              ));
           each = λ test.
               let t : Message → Bool = user read test in
               subst (λ (y : Node). count_by t y.accepted ≡ count_by t y.bag + count_by t y.ended + count_by t y.gone + sum_at shape x (booked t) q) (sym after.here)
@@ -178,6 +188,18 @@ module _ (shape : Shape) (read : Message → Saying) (p : Network) where
         let far : Bool = nat_eq (shape.point place.link (opposite place.side)) x in
         let other : nat_eq (point_at shape place) x ≡ false = ne_eqb (point_at shape place) x (λ e. d (sym e)) in
         record {
+          entered = λ test.
+              let t : Message → Bool = user read test in
+              let to : Line → ℕ = λ y. count_by t y.far.came in
+              subst (λ (y : Node). count_by t y.accepted ≡ count_by t y.submitted + sum_at shape x to q) (sym (after.others x d))
+              (omega (
+                arith,
+                b.entered test,
+                at-but to x,
+                if-false (nat_eq (point_at shape place) x) (to z) other,
+                if-false (nat_eq (point_at shape place) x) (to (line_at p place)) other,
+                ap (λ (k : ℕ). if far then k else 0) (a.far_entered test),
+              ));
           each = λ test.
               let t : Message → Bool = user read test in
               subst (λ (y : Node). count_by t y.accepted ≡ count_by t y.bag + count_by t y.ended + count_by t y.gone + sum_at shape x (booked t) q) (sym (after.others x d))
@@ -226,6 +248,9 @@ module _ (shape : Shape) (read : Message → Saying) (p : Network) where
   -- ---- one node changes
 
   pub record AgreesAt (point : ℕ) (n : Node) (made looked : List Message) : Type 0 where
+    pub entered : (test : Message → Bool) →
+        count_by (user read test) n.accepted + count_by (user read test) (p.node point).submitted
+        ≡ count_by (user read test) (p.node point).accepted + count_by (user read test) n.submitted
     pub way : (test : Message → Bool) → count_by test n.bag + count_by test looked ≤ count_by test (p.node point).bag + count_by test made
     pub awaited : (l : ℕ) (s : Side) → count_by (saying read (is_awaited_by l s)) made ≤ count_by (saying read (is_awaited_by l s)) looked
     pub truth : (l : ℕ) (s : Side) → count_by (untrue_of read l s (end_at p l s)) made ≡ 0
@@ -255,6 +280,10 @@ module _ (shape : Shape) (read : Message → Saying) (p : Network) where
           books = λ x.
               ⊎_elim
               (λ (e : x ≡ point). subst (Balances shape read q) (sym e) (record {
+                entered = λ test.
+                    let t : Message → Bool = user read test in
+                    subst (λ (y : Node). count_by t y.accepted ≡ count_by t y.submitted + sum_at shape point (λ z. count_by t z.far.came) q) (sym after.here)
+                    (omega (arith, a.entered test, (h.books point).entered test, at-alike (λ z. count_by t z.far.came) point));
                 each = λ test.
                     let t : Message → Bool = user read test in
                     subst (λ (y : Node). count_by t y.accepted ≡ count_by t y.bag + count_by t y.ended + count_by t y.gone + sum_at shape point (booked t) q) (sym after.here)
@@ -265,6 +294,10 @@ module _ (shape : Shape) (read : Message → Saying) (p : Network) where
                     (omega (arith, a.named test, (h.books point).named test, at-alike (lost t) point));
               }))
               (λ (d : x ≢ point). record {
+                entered = λ test.
+                    let t : Message → Bool = user read test in
+                    subst (λ (y : Node). count_by t y.accepted ≡ count_by t y.submitted + sum_at shape x (λ z. count_by t z.far.came) q) (sym (after.others x d))
+                    (omega (arith, (h.books x).entered test, at-alike (λ z. count_by t z.far.came) x));
                 each = λ test.
                     let t : Message → Bool = user read test in
                     subst (λ (y : Node). count_by t y.accepted ≡ count_by t y.bag + count_by t y.ended + count_by t y.gone + sum_at shape x (booked t) q) (sym (after.others x d))

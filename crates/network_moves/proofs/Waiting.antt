@@ -112,10 +112,12 @@ pub record IsSame (z y : Line) : Type 0 where
   pub way : (test : Message → Bool) → on_its_way test z ≤ on_its_way test y
   pub each : (test : Message → Bool) → booked test z ≡ booked test y
   pub lost : (test : Message → Bool) → lost test z ≤ lost test y
+  pub came : (test : Message → Bool) → count_by test z.near.came ≡ count_by test y.near.came
 
 pub same : (z y : Line) → waiting z ≡ waiting y → given_up z ≡ given_up y → z.near.came ≡ y.near.came → z.near.gone ≡ y.near.gone → IsSame z y
 same z y w g c n = record {
   way = λ test. omega (arith, ap (count_by test) w, ap (count_by test) g);
   each = λ test. omega (arith, ap (count_by test) w, ap (count_by test) g, ap (count_by test) c, ap (count_by test) n);
   lost = λ test. omega (arith, ap (count_by test) g, ap (count_by test) n);
+  came = λ test. ap (count_by test) c;
 }

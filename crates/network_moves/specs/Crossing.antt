@@ -125,6 +125,7 @@ after p (hears end) = with_both p end (with_heard (at p end)) (there p end)
 after p (enters end) = with_both p end (with_service (at p end)) (there p end)
 after p (submits point message) = with_node p point (record (p.node point) {
   bag = message ∷ (p.node point).bag;
+  submitted = message ∷ (p.node point).submitted;
   accepted = message ∷ (p.node point).accepted;
 })
 after p (ends point message) =

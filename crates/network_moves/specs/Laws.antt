@@ -1,5 +1,5 @@
 -- The laws of words and of messages, by counts of what is under way, and of what became of it.
-use Rattle.std.specs.Prelude.{◌≡◌, ℕ, Bool, ◌+◌, ◌≤◌, count_by, nat_eq, if◌then◌else◌}
+use Rattle.std.specs.Prelude.{◌≡◌, ℕ, Bool, ◌+◌, ◌≤◌, ◌<◌, count_by, nat_eq, if◌then◌else◌}
 use Rattle.signalling_types.specs.Message.{Message}
 use Rattle.link.specs.Queue.{last_accepted}
 use Rattle.network_moves.specs.Sayings.{Side, Saying, is_awaited_by, is_untrue, saying, user}
@@ -38,10 +38,13 @@ module _ (shape : Shape) (read : Message → Saying) where
 abbrev pub sum_at : Shape → ℕ → (Line → ℕ) → Network → ℕ
 sum_at shape point f p = sum_of_ends shape (λ link side z. if nat_eq (shape.point link side) point then f z else 0) p
 
--- of its messages, those that came to a neighbour by a link; those that wait, at the node or on its links; and those
--- that were given up, and didn't come
+-- of its messages, those that came to a neighbour by a link; those that came to it from one; those that wait, at the
+-- node or on its links; and those that were given up, and didn't come
 abbrev pub came_from : Shape → (Message → Bool) → Network → ℕ → ℕ
 came_from shape test p point = sum_at shape point (λ z. count_by test z.near.came) p
+
+abbrev pub came_to : Shape → (Message → Bool) → Network → ℕ → ℕ
+came_to shape test p point = sum_at shape point (λ z. count_by test z.far.came) p
 
 abbrev pub waits_at : Shape → (Message → Bool) → Network → ℕ → ℕ
 waits_at shape test p point =
@@ -53,6 +56,13 @@ gone_at shape test p point =
     + sum_at shape point (λ z. count_by test z.near.gone + count_by test (given_up z)) p
 
 module _ (shape : Shape) (read : Message → Saying) where
+  -- of every kind of user message that came in at a node, each was submitted there or came from a neighbour
+  abbrev pub EntersOnce : Network → ℕ → Type 0
+  EntersOnce p point =
+      (test : Message → Bool) →
+      count_by (user read test) (p.node point).accepted
+      ≡ count_by (user read test) (p.node point).submitted + came_to shape (user read test) p point
+
   -- of every kind of user message that came in at a node, each ended there, came to a neighbour once, waits, or is
   -- gone; and no more are gone than notices name
   pub record EndsOnce (p : Network) (point : ℕ) : Type 0 where
@@ -63,3 +73,16 @@ module _ (shape : Shape) (read : Message → Saying) where
         + gone_at shape (user read test) p point
     pub named : (test : Message → Bool) →
         gone_at shape (user read test) p point ≤ count_by (user read test) (p.node point).named
+
+-- each end of a link is at a node
+pub record IsJoined (shape : Shape) : Type 0 where
+  pub inside : (link : ℕ) (side : Side) → link < shape.links → shape.point link side < shape.nodes
+
+-- of every kind of user message, as many were submitted anywhere as ended somewhere, wait somewhere, or are gone
+abbrev pub IsAccountedFor : Shape → (Message → Saying) → Network → Type 0
+IsAccountedFor shape read p =
+    (test : Message → Bool) →
+    sum_to (λ point. count_by (user read test) (p.node point).submitted) shape.nodes
+    ≡ sum_to (λ point. count_by (user read test) (p.node point).ended) shape.nodes
+    + sum_to (waits_at shape (user read test) p) shape.nodes
+    + sum_to (gone_at shape (user read test) p) shape.nodes

@@ -54,7 +54,9 @@ pub record Node : Type 0 where
   -- what is at the node and on no link: in Held, or just taken in, made or taken out of a list. Only how many there are
   -- of each matters
   pub bag : List Message
-  -- all messages that came in, from a user part or by a link, and those that ended here: received, or refused by name
+  -- all messages that its user parts handed over; all that came in, from these or by a link; and all that ended here:
+  -- received, or refused by name
+  pub submitted : List Message
   pub accepted : List Message
   pub ended : List Message
   -- the user messages that were given up for want of a way; and all that notices of loss name

@@ -18,6 +18,7 @@ module _ (shape : Shape) (read : Message → Saying) (p q : Network) where
     pub user : is_user_message (read message) ≡ true
     pub after : NodeBecomes shape p q point (record (p.node point) {
       bag = message ∷ (p.node point).bag;
+      submitted = message ∷ (p.node point).submitted;
       accepted = message ∷ (p.node point).accepted;
     })
 

@@ -31,6 +31,7 @@ AreOthers read (m ∷ ms) = (read m ≡ Other) × AreOthers read ms
 -- a node whose books begin, and that has no user message, order or answer
 pub record IsIdle (read : Message → Saying) (n : Node) : Type 0 where
   pub bag : AreOthers read n.bag
+  pub submitted : n.submitted ≡ []
   pub accepted : n.accepted ≡ []
   pub ended : n.ended ≡ []
   pub gone : n.gone ≡ []
@@ -68,7 +69,7 @@ closed_line = record {
 }
 
 abbrev pub first_node : Node
-first_node = record { bag = []; accepted = []; ended = []; gone = []; named = [] }
+first_node = record { bag = []; submitted = []; accepted = []; ended = []; gone = []; named = [] }
 
 abbrev pub first_network : Network
 first_network = record { node = λ point. first_node; line = λ link. closed_line; broken = λ point. false }

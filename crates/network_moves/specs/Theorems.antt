@@ -9,7 +9,7 @@ use Rattle.network_moves.specs.Returning.{MayOpen, HearsUnreasonableOrder, Hears
 use Rattle.network_moves.specs.Moves.{Moves, last_of}
 use Rattle.network_moves.specs.Flowing.{IsFlowing, OpensAlone, IsEnd, MovesAlone, NamesReceived}
 use Rattle.network_moves.specs.Quiet.{IsQuiet}
-use Rattle.network_moves.specs.Laws.{EndsOnce, under_way}
+use Rattle.network_moves.specs.Laws.{EntersOnce, EndsOnce, IsJoined, IsAccountedFor, under_way}
 
 -- a statement holds after every list of moves from a quiet network, while no node is broken
 abbrev pub Always : (Shape → (Message → Saying) → Network → Type 0) → Type 0
@@ -77,5 +77,13 @@ module _ (shape : Shape) (read : Message → Saying) (p : Network) where
 
   -- ---- the node law
 
+  abbrev pub EachMessageEntersOnce : Type 0
+  EachMessageEntersOnce = (point : ℕ) → EntersOnce shape read p point
+
   abbrev pub EachMessageEndsOnce : Type 0
   EachMessageEndsOnce = (point : ℕ) → EndsOnce shape read p point
+
+  -- ---- of the whole network
+
+  abbrev pub EachMessageIsAccountedFor : Type 0
+  EachMessageIsAccountedFor = IsJoined shape → IsAccountedFor shape read p

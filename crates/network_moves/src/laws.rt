@@ -10,7 +10,7 @@ ghost use Rattle.network_moves.specs.Theorems.{LinksOpenWithNoWordLeft, EndsFoll
 ghost use Rattle.network_moves.specs.Theorems.{NumbersNameWhatWasReceived};
 ghost use Rattle.network_moves.specs.Theorems.{OrdersMoveWhatIsLacked, AnswersMoveWhatIsLacked};
 ghost use Rattle.network_moves.specs.Theorems.{OrdersAreReasonable, AnswersAreReasonable};
-ghost use Rattle.network_moves.specs.Theorems.{EachMessageEndsOnce};
+ghost use Rattle.network_moves.specs.Theorems.{EachMessageEntersOnce, EachMessageEndsOnce, EachMessageIsAccountedFor};
 ghost use Rattle.network_moves.specs.Laws.{WordsAreAwaited, WordsAreTrue};
 ghost use Rattle.network_moves.specs.Quiet.{first_networks_are_quiet};
 ghost use Rattle.network_moves.specs.Crossing.{Crosses};
@@ -56,11 +56,18 @@ pub fn completions_move_what_the_other_end_lacks()
     ensures reasonable_answers { Always AnswersAreReasonable }
 {}
 
-/// The node law. Of any kind of user messages, as many came in at a node, from its user parts and by its links, as
-/// ended there, received or refused by name; came to a neighbour by a link; wait, at the node or on a link of it; or
-/// are gone. And no more are gone than its notices of loss name.
+/// The node law. Of any kind of user messages, as many came in at a node as were submitted there or came from a
+/// neighbour by a link; and as many as ended there, received or refused by name; came to a neighbour by a link; wait,
+/// at the node or on a link of it; or are gone. And no more are gone than its notices of loss name.
 pub fn each_message_ends_once()
-    ensures { Always EachMessageEndsOnce }
+    ensures entered { Always EachMessageEntersOnce }
+    ensures ended { Always EachMessageEndsOnce }
+{}
+
+/// Of the whole network: of any kind of user messages, as many were submitted at its nodes as ended, received or
+/// refused by name; wait; or are gone. Each end of a link has to be at a node.
+pub fn each_message_is_accounted_for()
+    ensures { Always EachMessageIsAccountedFor }
 {}
 
 /// The first network is quiet, whatever its shape.
