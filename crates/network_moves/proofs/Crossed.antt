@@ -1,7 +1,8 @@
--- The run of the mated pair is one.
+-- The runs of the mated pair are some.
 use Rattle.network_moves.proofs.Basics.{◌++◌, refl, arith}
 use Rattle.network_moves.proofs.Definitions.{first_network}
 use Rattle.network_moves.specs.Crossing.{joining, failing, ordering, answering, changing_over, moving, run, end_of, Crosses}
+use Rattle.network_moves.specs.LateAnswer.{giving_up, opening_again, late_run, EndsTheBar}
 use Rattle.network_moves.proofs.Running.{AllCan, all-done, can-append, idle-opens}
 
 -- one after another
@@ -78,4 +79,29 @@ crosses = record {
     second_may_open = (idle-opens _ refl, idle-opens _ refl);
     unbroken = λ point. refl;
   };
+}
+
+-- ---- the late answer
+
+giving_up-can : AllCan (end_of first_network joining) giving_up
+giving_up-can =
+    (omega arith, refl) ▷ (refl, refl) ▷ (refl, refl) ▷ refl ▷ refl ▷ (refl, refl) ▷ (refl, refl, refl)
+    ▷ (refl, refl) ▷ (refl, refl) ▷ (refl, refl, refl) ▷ (refl, refl) ▷ (refl, refl) ▷ (refl, refl, refl)
+    ▷ refl
+    ▷ tt
+
+opening_again-can : AllCan (end_of first_network (joining ++ giving_up)) opening_again
+opening_again-can =
+    (refl, refl, refl, refl, refl)
+    ▷ (refl, refl) ▷ (refl, refl) ▷ (refl, refl, refl) ▷ (refl, refl) ▷ (refl, refl) ▷ (refl, refl, refl)
+    ▷ (refl, refl, refl, refl) ▷ (refl, refl)
+    ▷ tt
+
+pub ends-the-bar : EndsTheBar
+ends-the-bar = record {
+  moves =
+      all-done first_network late_run
+      (can-append first_network (joining ++ giving_up) opening_again (can-append first_network joining giving_up joining-can giving_up-can) opening_again-can);
+  barred = record { complete = refl; awaited = refl; named = refl };
+  opened = record { up = refl; came = refl; gone = refl; named = refl; unbroken = λ point. refl };
 }

@@ -100,6 +100,10 @@ Can p (run.answers end order number answer count) =
 Can p (run.completes end answer number count) =
     ((there p end).bag ≡ answer ∷ []) × (read_plainly answer ≡ Answer (place_of end).link (opposite (place_of end).side) number)
     × ((at p end).near.awaited ≡ true) × ((at p end).near.incomplete ≡ true) × (named_count (at p end).near.queue number ≡ Some count)
+Can p (run.runs_out end) = (at p end).near.incomplete ≡ true
+Can p (run.ends_wait end answer number) =
+    ((there p end).bag ≡ answer ∷ []) × (read_plainly answer ≡ Answer (place_of end).link (opposite (place_of end).side) number)
+    × ((at p end).near.awaited ≡ true) × ((at p end).near.incomplete ≡ false)
 
 done : (p : Network) (d : Doing) → Can p d → Move mated read_plainly p (after p d)
 done p (run.opens end) c = moves.opens_first (record { place = place_of end; near_may = idle-opens (at p end).near c.0; far_may = idle-opens (at p end).far c.1; after = both-set p end _ _ })
@@ -166,6 +170,19 @@ done p (run.completes end answer number count) c =
       incomplete = c.3;
       count = count;
       named = c.4;
+      after = both-set p end _ _;
+    })
+done p (run.runs_out end) c = moves.completes_by_time (record { place = place_of end; incomplete = c; after = both-set p end _ _ })
+done p (run.ends_wait end answer number) c =
+    moves.ends_wait (record {
+      place = place_of end;
+      number = number;
+      answer = answer;
+      rest = [];
+      taken = taken (there p end).bag answer c.0;
+      says = c.1;
+      awaited = c.2;
+      complete = c.3;
       after = both-set p end _ _;
     })
 

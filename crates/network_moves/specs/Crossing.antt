@@ -7,11 +7,11 @@ use Rattle.signalling_types.specs.Message.{Message, is_management}
 use Rattle.signalling_types.specs.Numbers.{number_of}
 use Rattle.network_moves.specs.Sayings.{Side, Near, Far, Saying, UserMessage, Order, Answer, is_awaited_by}
 use Rattle.network_moves.specs.Sayings.{saying}
-use Rattle.network_moves.specs.Networks.{Frame, MessageFrame, Moved, Line, Node, Network, Shape, Place, seen}
+use Rattle.network_moves.specs.Networks.{Frame, MessageFrame, Moved, Gone, Line, Node, Network, Shape, Place, seen}
 use Rattle.network_moves.specs.Networks.{line_at, node_at, point_at}
 use Rattle.network_moves.specs.Passing.{with_message}
 use Rattle.network_moves.specs.Carrying.{with_status, with_sent, with_frames_left, with_heard, with_accepted}
-use Rattle.network_moves.specs.Failing.{with_failure, with_wait, with_completion}
+use Rattle.network_moves.specs.Failing.{with_failure, with_wait, with_completion, without_unconfirmed}
 use Rattle.network_moves.specs.Returning.{MayOpen, opened_first, opened_second, with_service}
 use Rattle.network_moves.specs.Moves.{Moves, last_of}
 use Rattle.network_moves.specs.Laws.{under_way}
@@ -97,6 +97,8 @@ pub data Doing : Type 0 where
   orders : MatedEnd → (order : Message) → Doing
   answers : MatedEnd → (order : Message) (number : ℕ) (answer : Message) (count : ℕ) → Doing
   completes : MatedEnd → (answer : Message) (number : ℕ) (count : ℕ) → Doing
+  runs_out : MatedEnd → Doing
+  ends_wait : MatedEnd → (answer : Message) (number : ℕ) → Doing
 
 abbrev pub at : Network → MatedEnd → Line
 at p end = line_at p (place_of end)
@@ -149,6 +151,12 @@ after p (completes end answer number count) =
     with_both p end
     (with_completion (at p end) Moved false)
     (record (there p end) { bag = drop count (at p end).near.queue.all ++ [] })
+after p (runs_out end) =
+    with_both p end
+    (with_completion (at p end) Gone (at p end).near.awaited)
+    (without_unconfirmed (there p end) (at p end).near.queue)
+after p (ends_wait end answer number) =
+    with_both p end (with_wait (at p end) false) (record (there p end) { bag = [] })
 
 -- ---- the run
 

@@ -10,3 +10,4 @@ pub mod Laws
 pub mod Quiet
 pub mod Theorems
 pub mod Crossing
+pub mod LateAnswer

@@ -14,6 +14,7 @@ ghost use Rattle.network_moves.specs.Theorems.{EachMessageEntersOnce, EachMessag
 ghost use Rattle.network_moves.specs.Laws.{WordsAreAwaited, WordsAreTrue};
 ghost use Rattle.network_moves.specs.Quiet.{first_networks_are_quiet};
 ghost use Rattle.network_moves.specs.Crossing.{Crosses};
+ghost use Rattle.network_moves.specs.LateAnswer.{EndsTheBar};
 
 /// Law (i), of one link and one direction. While either end is up, and until the near end's changeover is complete,
 /// unless an end may follow the other, the far end accepted the first messages of the near end's queue, as many as it
@@ -81,4 +82,11 @@ pub fn a_new_network_is_quiet()
 /// is named as lost, and the links may open again.
 pub fn messages_cross_by_a_third_node()
     ensures { Crosses }
+{}
+
+/// Nor is what they say of losses. In a run of 55 moves a link fails with a message on it that doesn't come, and T2 runs
+/// out before the answer is here. The message is named as lost, and the link opens once the answer came; no node is
+/// broken.
+pub fn a_late_answer_ends_the_bar()
+    ensures { EndsTheBar }
 {}
