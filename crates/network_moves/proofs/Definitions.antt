@@ -4,7 +4,7 @@ pub use Rattle.link.specs.Queue.{last_accepted, Queue, IsQueue, first_queue, for
 pub use Rattle.signalling_types.specs.Message.{Message}
 pub use Rattle.signalling_types.specs.declared.limits.TheConstants.Limits.{WINDOW}
 pub use Rattle.network_moves.specs.Sayings.{Side, Near, Far, opposite, same_side, Saying, UserMessage, Order, Answer, Other, is_user_message, is_end, is_awaited_by, is_untrue, saying, user}
-pub use Rattle.network_moves.specs.Networks.{Frame, EmptyFrame, MessageFrame, Phase, Live, Moved, Gone, LinkEnd, Line, Node, Network, Shape, turned, seen, Place, line_at, point_at, node_at, waiting_in, waiting, given_up_in, given_up, one_if, sum_to, sum_of_ends, NodeBecomes, LinesBecome, Becomes, IsTakenFrom}
+pub use Rattle.network_moves.specs.Networks.{Frame, EmptyFrame, MessageFrame, Phase, Live, Moved, Gone, LinkEnd, Line, Node, Network, Shape, turned, seen, end_at, Place, line_at, point_at, node_at, waiting_in, waiting, given_up_in, given_up, one_if, sum_to, sum_of_ends, NodeBecomes, LinesBecome, Becomes, IsTakenFrom}
 pub use Rattle.network_moves.specs.Passing.{with_message, Submits, Makes, Ends, GivesUp, Discards, Places}
 pub use Rattle.network_moves.specs.Carrying.{with_status, with_statuses_left, with_frame, acknowledgement, with_sent, with_frames_left, with_heard, with_accepted, LineBecomes, SendsStatus, SendsMessage, SendsEmpty, HearsStatus, TakesStatus, DoublesStatus, Drops, TakesEmpty, TakesMessage}
 pub use Rattle.network_moves.specs.Failing.{with_failure, with_wait, with_completion, sent_unconfirmed, without_unconfirmed, Falls, Orders, CompletesByOrder, AnswersOrder, CompletesByAnswer, EndsWait, CompletesByTime}

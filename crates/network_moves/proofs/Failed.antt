@@ -1,12 +1,12 @@
 -- Moves of a failure and its changeover are sound.
 use Rattle.network_moves.proofs.Basics.{◌≡◌, ◌≢◌, inr, ℕ, Bool, true, false, ◌+◌, List, [], ◌∷◌, ◌++◌, drop, count_by, refl, ap, sym, ◌∙◌, subst, arith, ⊎_elim, cases_eq}
-use Rattle.network_moves.proofs.Definitions.{Message, last_accepted, Side, Near, Far, opposite, Saying, Order, Answer, is_end, is_awaited_by, is_untrue, saying, user, Live, Moved, Gone, Line, Network, Shape, turned, Place, line_at, point_at, node_at, waiting, given_up, one_if, with_failure, with_wait, with_completion, sent_unconfirmed, Falls, Orders, CompletesByOrder, AnswersOrder, CompletesByAnswer, EndsWait, CompletesByTime, Flows}
+use Rattle.network_moves.proofs.Definitions.{end_at, Message, last_accepted, Side, Near, Far, opposite, Saying, Order, Answer, is_end, is_awaited_by, is_untrue, saying, user, Live, Moved, Gone, Line, Network, Shape, turned, Place, line_at, point_at, node_at, waiting, given_up, one_if, with_failure, with_wait, with_completion, sent_unconfirmed, Falls, Orders, CompletesByOrder, AnswersOrder, CompletesByAnswer, EndsWait, CompletesByTime, Flows}
 use Rattle.std.specs.Prelude.{take}
 use Rattle.network_moves.proofs.Counts.{count-append, count-cons, count-one}
 use Rattle.network_moves.proofs.Words.{one-said, one-management, one-flag, small, end-itself, end-opposite, end-elsewhere, opposite-twice, told, told-elsewhere}
 use Rattle.network_moves.proofs.Lines.{IsLine}
 use Rattle.network_moves.proofs.LinesChanged.{line-failure, line-completion, line-awaited, line-unawaited, incomplete-there}
-use Rattle.network_moves.proofs.Sound.{Sound, kept-line, kept-node, line-there, far-truth, end_at}
+use Rattle.network_moves.proofs.Sound.{Sound, kept-line, kept-node, line-there, far-truth}
 use Rattle.network_moves.proofs.Waiting.{same, waiting-live, given-live, drop-split, drop-fewer}
 use Rattle.network_moves.proofs.Quiet.{quiet-line, still-true}
 use Rattle.network_moves.proofs.Tells.{Tells, order-tells, answer-tells, names-received}

@@ -1,11 +1,11 @@
 -- Moves of messages and frames are sound.
 use Rattle.network_moves.proofs.Basics.{◌≡◌, inl, suc, Bool, true, false, ◌+◌, ◌≤◌, [], ◌∷◌, length, drop, slice_get, count_by, refl, ap, sym, ◌∙◌, arith, Some, drop-append-le}
-use Rattle.network_moves.proofs.Definitions.{Message, last_accepted, Queue, appended, Saying, UserMessage, Other, is_untrue, is_awaited_by, saying, user, Line, Network, Shape, Live, turned, line_at, node_at, waiting, waiting_in, given_up, given_up_in, one_if, with_message, Submits, Makes, Ends, GivesUp, Discards, Places, with_status, with_statuses_left, with_frame, acknowledgement, with_sent, with_heard, with_frames_left, with_accepted, SendsStatus, SendsMessage, SendsEmpty, HearsStatus, TakesStatus, DoublesStatus, Drops, TakesEmpty, TakesMessage, Flows, on_its_way}
+use Rattle.network_moves.proofs.Definitions.{end_at, Message, last_accepted, Queue, appended, Saying, UserMessage, Other, is_untrue, is_awaited_by, saying, user, Line, Network, Shape, Live, turned, line_at, node_at, waiting, waiting_in, given_up, given_up_in, one_if, with_message, Submits, Makes, Ends, GivesUp, Discards, Places, with_status, with_statuses_left, with_frame, acknowledgement, with_sent, with_heard, with_frames_left, with_accepted, SendsStatus, SendsMessage, SendsEmpty, HearsStatus, TakesStatus, DoublesStatus, Drops, TakesEmpty, TakesMessage, Flows, on_its_way}
 use Rattle.network_moves.proofs.Counts.{count-append, count-cons, count-one}
 use Rattle.network_moves.proofs.Words.{untrue_of, only-user, one-said, one-no_user, one-management}
 use Rattle.network_moves.proofs.Lines.{IsLine, both, serving-flows, line-message, line-status, line-empty, line-sent, line-heard, line-told}
 use Rattle.network_moves.proofs.LinesTaken.{line-left, line-taken_empty, line-taken_message, taken_message-is, taken_message-sent}
-use Rattle.network_moves.proofs.Sound.{Sound, kept-line, kept-node, line-there, far-truth, end_at}
+use Rattle.network_moves.proofs.Sound.{Sound, kept-line, kept-node, line-there, far-truth}
 use Rattle.network_moves.proofs.Waiting.{IsSame, same, waiting-live, given-live, waiting-alike, given-alike, comes-off, given-fewer}
 use Rattle.network_moves.proofs.Quiet.{quiet-line, still-true}
 

@@ -1,6 +1,6 @@
 -- What every move keeps, characterized by what it changes at one node and on one line.
 use Rattle.network_moves.proofs.Basics.{◌≡◌, ◌≢◌, ℕ, Bool, true, false, ◌+◌, ◌≤◌, List, count_by, nat_eq, refl, ap, sym, subst, arith, if◌then◌else◌, ⊎_elim, cases_eq, ne_eqb, eq-eqb}
-use Rattle.network_moves.proofs.Definitions.{Message, Side, Near, Far, opposite, Saying, is_awaited_by, saying, user, LinkEnd, Line, Node, Network, Shape, turned, seen, Place, line_at, point_at, node_at, waiting, given_up, one_if, NodeBecomes, LinesBecome, Becomes, on_its_way, under_way, WordsAreAwaited, WordsAreTrue, EntersOnce, sum_at}
+use Rattle.network_moves.proofs.Definitions.{end_at, Message, Side, Near, Far, opposite, Saying, is_awaited_by, saying, user, LinkEnd, Line, Node, Network, Shape, turned, seen, Place, line_at, point_at, node_at, waiting, given_up, one_if, NodeBecomes, LinesBecome, Becomes, on_its_way, under_way, WordsAreAwaited, WordsAreTrue, EntersOnce, sum_at}
 use Rattle.network_moves.proofs.Lines.{IsLine, line-turned}
 use Rattle.network_moves.proofs.Counts.{if-true, if-false, ends-but, ends-alike, way-node, way-line}
 use Rattle.network_moves.proofs.Words.{untrue_of}
@@ -31,9 +31,6 @@ module _ (shape : Shape) (read : Message → Saying) where
     pub books : (point : ℕ) → Balances p point
 
 -- ---- ends of links
-
-abbrev pub end_at : Network → ℕ → Side → LinkEnd
-end_at p link side = (seen side (p.line link)).near
 
 pub far-is : (side : Side) (z : Line) → (seen (opposite side) z).near ≡ (seen side z).far
 far-is Near z = refl

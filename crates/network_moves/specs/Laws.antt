@@ -3,9 +3,9 @@ use Rattle.std.specs.Prelude.{◌≡◌, ℕ, Bool, ◌+◌, ◌≤◌, ◌<◌,
 use Rattle.signalling_types.specs.Message.{Message}
 use Rattle.link.specs.Queue.{last_accepted}
 use Rattle.network_moves.specs.Sayings.{Side, Saying, is_awaited_by, is_untrue, saying, user}
-use Rattle.network_moves.specs.Networks.{Line, Network, Shape, seen, waiting, given_up, one_if, sum_to, sum_of_ends}
+use Rattle.network_moves.specs.Networks.{Line, Network, Shape, end_at, waiting, given_up, one_if, sum_to, sum_of_ends}
 
--- the messages of the near end that the far end lacks and may still get, or others after it
+-- of the near end's messages, how many are under way: they wait, or were given up and may still come
 abbrev pub on_its_way : (Message → Bool) → Line → ℕ
 on_its_way test z = count_by test (waiting z) + count_by test (given_up z)
 
@@ -21,15 +21,15 @@ module _ (shape : Shape) (read : Message → Saying) where
   abbrev pub WordsAreAwaited : Network → Type 0
   WordsAreAwaited p =
       (link : ℕ) (side : Side) →
-      under_way shape (saying read (is_awaited_by link side)) p ≤ one_if (seen side (p.line link)).near.awaited
+      under_way shape (saying read (is_awaited_by link side)) p ≤ one_if (end_at p link side).awaited
 
   -- law (iii): an order or an answer is under way only while its link is down at the end that made it, and has the
   -- number of the last message accepted there
   abbrev pub WordsAreTrue : Network → Type 0
   WordsAreTrue p =
       (link : ℕ) (side : Side) →
-      under_way shape (saying read (is_untrue link side (seen side (p.line link)).near.up
-      (last_accepted (seen side (p.line link)).near.queue))) p
+      under_way shape
+      (saying read (is_untrue link side (end_at p link side).up (last_accepted (end_at p link side).queue))) p
       ≡ 0
 
 -- ---- what became of the messages of a node

@@ -95,6 +95,9 @@ abbrev pub seen : Side → Line → Line
 seen Near z = z
 seen Far z = turned z
 
+abbrev pub end_at : Network → ℕ → Side → LinkEnd
+end_at p link side = (seen side (p.line link)).near
+
 -- an end of a link of the network
 pub record Place : Type 0 where
   pub link : ℕ

@@ -1,4 +1,4 @@
--- What a message says to the nodes of a network (Q.704 §5, with the numbers of Q.2210).
+-- What a message says to the nodes of a network (Q.704 §5, with the numbers of Q.2210). Orders and answers are words.
 use Rattle.std.specs.Prelude.{ℕ, Bool, true, false, not, ◌&&◌, ◌||◌, nat_eq}
 use Rattle.signalling_types.specs.Message.{Message}
 
