@@ -84,9 +84,9 @@ pub fn messages_cross_by_a_third_node()
     ensures { Crosses }
 {}
 
-/// Nor is what they say of losses. In a run of 55 moves a link fails with a message on it that doesn't come, and T2 runs
-/// out before the answer is here. The message is named as lost, and the link opens once the answer came; no node is
-/// broken.
+/// Nor is what they say of losses. In a run of 55 moves a link fails with a message on it that doesn't come, and T2
+/// runs out before the answer is here. The message is named as lost, and the link opens once the answer came; no node
+/// is broken.
 pub fn a_late_answer_ends_the_bar()
     ensures { EndsTheBar }
 {}
