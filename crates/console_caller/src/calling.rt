@@ -81,5 +81,6 @@ fn begun(
         can_read: true,
         can_write: true,
         has_ended_writing: false,
+        has_failed: false,
     })
 }

@@ -35,6 +35,8 @@ pub(crate) struct Conversation {
     pub(crate) can_read: bool,
     pub(crate) can_write: bool,
     pub(crate) has_ended_writing: bool,
+    /// Whether a write failed, so that not all was written.
+    pub(crate) has_failed: bool,
 }
 
 impl Conversation {
@@ -89,7 +91,10 @@ impl Conversation {
             Progress::Octets(count) => self.outgoing.written(count),
             Progress::Later => self.can_write = false,
             Progress::Again => {}
-            Progress::End | Progress::Failed => self.outgoing.give_up(),
+            Progress::End | Progress::Failed => {
+                self.has_failed = true;
+                self.outgoing.give_up();
+            }
         }
     }
 
@@ -110,7 +115,7 @@ impl Conversation {
                 Ok(None)
             }
             Progress::Again => Ok(None),
-            Progress::End => Ok(Some(self.has_ended_writing)),
+            Progress::End => Ok(Some(self.has_ended_writing && !self.has_failed)),
             Progress::Failed => Ok(Some(false)),
         }
     }
