@@ -1,11 +1,12 @@
 //! Endpoints of SCTP under trial: sessions that were recorded with an SCTP of other authors, two endpoints under random
-//! schedules, and datagrams that are harmed or made up.
+//! schedules, and datagrams that are harmed or made up; and a network of exchanges, whose links go over gates.
 //!
 //! Its arguments are the names of recorded sessions, files in `data/`, and how many schedules are played, 200 if that
 //! is left out.
 #![tactic(auto)]
 
 mod dice;
+mod gates;
 mod harmed;
 mod schedules;
 mod sessions;
@@ -25,5 +26,6 @@ fn main(rt: HostRuntime) -> io::Result<()> {
         }
     }
     schedules::print_schedules(&rt, schedules)?;
-    harmed::print_phases(&rt)
+    harmed::print_phases(&rt)?;
+    gates::print_network(&rt)
 }
