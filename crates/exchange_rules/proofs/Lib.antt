@@ -152,3 +152,9 @@ pub mod OutageLaws
 pub mod OpeningLaws
 pub mod UnaskedOutages
 pub mod ReadyLast
+pub mod ProvingTimes
+pub mod FarPoints
+pub mod LedRows
+pub mod ProcedureExamples
+pub mod ToldRoutes
+pub mod OrderedLinks

@@ -46,3 +46,9 @@ pub mod LawsOfCauses
 pub mod LawsOfCountdowns
 pub mod LawsOfSubsystems
 pub mod RuleExamples
+pub mod LawsOfProving
+pub mod LawsOfFarPoints
+pub mod LawsOfRows
+pub mod ProcedureExamples
+pub mod LawsOfTelling
+pub mod LawsOfOrders

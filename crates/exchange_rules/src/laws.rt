@@ -34,6 +34,7 @@ ghost use Rattle.exchange_rules.specs.LawsOfShares.{full_shares_refuse, others_k
 pub mod link_tests;
 pub mod links;
 pub mod outage;
+pub mod peers;
 pub mod subsystems;
 pub mod user_parts;
 
@@ -46,6 +47,12 @@ pub use links::{
     what_was_received_is_counted,
 };
 pub use outage::outages_are_a_state_where_asked_for;
+pub use peers::{
+    adjacent_points_are_told_of_routes, links_are_proved_as_long_as_either_end_asks,
+    links_open_and_close_as_ordered, messages_go_back_to_titles_by_rows,
+    only_adjacent_points_manage, rows_lead_to_subsystems, tests_of_others_are_answered,
+    what_came_is_acknowledged,
+};
 pub use subsystems::{
     prohibited_subsystems_are_tested, rows_keep_off_prohibited_subsystems,
     subsystems_are_as_their_points_say, subsystems_are_forgotten_with_their_points,
