@@ -1,5 +1,5 @@
--- Management and tests that come for this point: from which points they are accepted, and what answers a link test: laws
--- (Q.704 §2.4, §11.2.7, Q.707 §2.2).
+-- Management and tests that come for this point: from which points they are accepted, and what answers a link test:
+-- laws (Q.704 §2.4, §11.2.7, Q.707 §2.2).
 use Rattle.std.specs.Prelude.{◌≡◌, ◌≤◌, ◌<◌, ◌⊎◌, ◌^◌, ℕ, true, false, is_some, None, Ok}
 use Rattle.signalling_types.specs.Message.{Message, dpc_of, is_management, network_indicator, opc_of, service_indicator}
 use Rattle.signalling_types.specs.declared.cause.Cause.TheVariants.{ManagementFull, NotFromAdjacent, NotInProfile}

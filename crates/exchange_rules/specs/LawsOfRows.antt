@@ -1,6 +1,7 @@
 -- Where translation rows lead, and how a message goes back by one; and what answers a subsystem test: laws (Q.714 §4.2,
 -- §5.2.3, §5.3.2, §5.3.4).
-use Rattle.std.specs.Prelude.{◌≡◌, ◌<◌, ◌⊎◌, ◌↔◌, ◌^◌, ℕ, Bool, true, false, nat_eq, nat_le, length, drop, Contains, List, Option, Some, None, Ok}
+use Rattle.std.specs.Prelude.{◌≡◌, ◌<◌, ◌⊎◌, ◌↔◌, ◌^◌, ℕ, Bool, true, false, nat_eq, nat_le, length, drop}
+use Rattle.std.specs.Prelude.{Contains, List, None, Ok, Option, Some}
 use Rattle.signalling_types.specs.Message.{Message, service_indicator}
 use Rattle.signalling_types.specs.declared.cause.Cause.{Cause}
 use Rattle.settings_rows.specs.Configuration.{Configuration, TitleEntry}
@@ -99,8 +100,8 @@ pub record IsSubsystemTest (c : Configuration) (m : Message) (about : Management
   pub point : about.point ≡ c.own
   pub equipped : (about.ssn ≡ 1) ⊎ Contains c.subsystems about.ssn
 
--- a field reads as the answer: an SSA about the same subsystem in a UDT of class 0, to SCCP management at the point that
--- asked, by the same link selection; its multiplicity indicator is 0
+-- a field reads as the answer: an SSA about the same subsystem in a UDT of class 0, to SCCP management at the point
+-- that asked, by the same link selection; its multiplicity indicator is 0
 pub record ReadsAsAnswer (c : Configuration) (asked : Label) (about : ManagementValue) (field : List ℕ) : Type 0 where
   pub label : label_at field ≡ record { dpc = asked.opc; opc = c.own; sls = asked.sls }
   pub parts : PartsValue

@@ -8,7 +8,8 @@ use Rattle.settings_rows.specs.Configuration.{Configuration}
 use Rattle.settings.specs.Readings.{destination_place}
 use Rattle.mtp3_codec.specs.Headings.{label_at}
 use Rattle.mtp3_codec.specs.Management.{read_management}
-use Rattle.mtp3_codec.specs.declared.management.Management.TheVariants.{TransferAllowed, TransferProhibited, TransferRestricted}
+use Rattle.mtp3_codec.specs.declared.management.Management.TheVariants.{TransferAllowed, TransferProhibited}
+use Rattle.mtp3_codec.specs.declared.management.Management.TheVariants.{TransferRestricted}
 use Rattle.routes.specs.declared.route.RouteStatus.{RouteStatus}
 use Rattle.routes.specs.declared.route.RouteStatus.TheVariants.{Allowed, Prohibited, Restricted}
 use Rattle.route_management.specs.Told.{is_own_point}

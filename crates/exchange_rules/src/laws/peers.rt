@@ -58,16 +58,17 @@ pub fn adjacent_points_are_told_of_routes()
     ensures unrouted { senders_without_route_are_told }
 {}
 
-/// A link that the operator deactivates is down, and stays so until it is activated: it doesn't ask to open, and refuses
-/// an association. A link that is down and has an association asks that it end; one that is up asks nothing (Q.704
-/// §3.2).
+/// A link that the operator deactivates is down, and stays so until it is activated: it doesn't ask to open, and
+/// refuses an association. A link that is down and has an association asks that it end; one that is up asks nothing
+/// (Q.704 §3.2).
 pub fn links_open_and_close_as_ordered()
     ensures out { deactivated_links_stay_out }
     ensures asks { links_ask_as_they_stand }
 {}
 
-/// A message that User Data newly carries is acknowledged: it leaves an acknowledgement owed, while one is owed there is
-/// a frame to take, and each frame has the number of the last message that was accepted on its link (RFC 4165 §4.2.1).
+/// A message that User Data newly carries is acknowledged: it leaves an acknowledgement owed, while one is owed there
+/// is a frame to take, and each frame has the number of the last message that was accepted on its link (RFC 4165
+/// §4.2.1).
 pub fn what_came_is_acknowledged()
     ensures owed { messages_are_to_be_acknowledged }
     ensures taken { owed_ones_go_out }
