@@ -61,3 +61,4 @@ pub mod Delivered
 pub mod ThirdNode
 pub mod AfterRestart
 pub mod Untold
+pub mod Possible

@@ -7,3 +7,4 @@ pub mod Anew
 pub mod ThirdNode
 pub mod AfterRestart
 pub mod Beyond
+pub mod Possible

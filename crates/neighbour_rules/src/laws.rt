@@ -9,6 +9,8 @@ ghost use Rattle.neighbour_rules.specs.Anew.{pairs_begin_quietly, promises_begin
 ghost use Rattle.neighbour_rules.specs.Awaiting.{nothing_is_awaited_in_vain, nothing_is_held_in_vain};
 ghost use Rattle.neighbour_rules.specs.Laws.{frames_carry, none_is_left, words_are_final};
 ghost use Rattle.neighbour_rules.specs.Laws.{moves_are_lacked};
+ghost use Rattle.neighbour_rules.specs.Possible.{links_may_fail, statuses_may_be_harmed};
+ghost use Rattle.neighbour_rules.specs.Possible.{third_nodes_may_say_anything_else};
 ghost use Rattle.neighbour_rules.specs.Promises.{each_message_once, each_flow_in_order};
 ghost use Rattle.neighbour_rules.specs.Promises.{books_are_of_the_two, flows_stay_between};
 ghost use Rattle.neighbour_rules.specs.ThirdNode.{GoesOn};
@@ -131,4 +133,14 @@ pub fn nothing_is_held_in_vain()
 /// otherwise it didn't grow (Q.704 §2.4, Q.714 §2.3, §4.2, §5.3.4). This holds even if a message may be lost.
 pub fn deliveries_tell_what_came()
     ensures { deliveries_tell }
+{}
+
+/// The laws of steps ask this little of what lies between and around two nodes. On a link between them the next link
+/// status in flight may be lost, or come twice; the association may be lost at any moment, as one end sees it; and a
+/// tick may pass at one end alone. A link that leads to a third node may open at any moment, and any frame may come by
+/// it, unless it carries management (SI 0) in the name of one of the two for the other.
+pub fn the_worst_may_happen()
+    ensures statuses { statuses_may_be_harmed }
+    ensures links { links_may_fail }
+    ensures thirds { third_nodes_may_say_anything_else }
 {}

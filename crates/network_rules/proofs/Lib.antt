@@ -58,3 +58,4 @@ pub mod CameAfter
 pub mod Hearing
 pub mod Hops
 pub mod NextMessage
+pub mod Possible

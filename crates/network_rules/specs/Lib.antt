@@ -10,3 +10,4 @@ pub mod TwoFailures
 pub mod AfterRestart
 pub mod Hops
 pub mod NextMessage
+pub mod Possible

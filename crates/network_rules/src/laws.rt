@@ -16,6 +16,8 @@ ghost use Rattle.network_rules.specs.Pairs.{nobody_speaks_for_another, runs_are_
 ghost use Rattle.network_rules.specs.Paths.{books_begin_empty, each_node_passes_in_order, last_hops_begin_anew};
 ghost use Rattle.network_rules.specs.Paths.{each_node_passes_what_comes_in_order};
 ghost use Rattle.network_rules.specs.Paths.{last_hops_keep_flows_in_order, paths_keep_the_order_of_their_hops};
+ghost use Rattle.network_rules.specs.Possible.{links_may_fail, outside_may_say_anything_else};
+ghost use Rattle.network_rules.specs.Possible.{statuses_may_be_harmed};
 ghost use Rattle.network_rules.specs.Totals.{each_message_is_accounted_for, messages_come_from_end_to_end};
 ghost use Rattle.network_rules.specs.Transit.{messages_pass_through};
 ghost use Rattle.network_rules.specs.TwoFailures.{CrossesTwoFailures};
@@ -203,4 +205,14 @@ pub fn two_messages_come_in_order()
 /// and nothing waits in the end.
 pub fn a_message_comes_after_a_restart()
     ensures { ComesAfterRestart }
+{}
+
+/// The laws ask this little of links and of points outside. On a link between two nodes the next link status in flight
+/// may be lost, or come twice; the association may be lost at any moment, as one node sees it; and a tick may pass at
+/// one node alone. A link that leads out may open at any moment, and any frame may come by it, unless it carries
+/// management (SI 0) in the name of a node of the network for a node of it.
+pub fn the_worst_may_happen()
+    ensures statuses { statuses_may_be_harmed }
+    ensures links { links_may_fail }
+    ensures outside { outside_may_say_anything_else }
 {}
