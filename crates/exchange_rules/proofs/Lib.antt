@@ -158,3 +158,4 @@ pub mod LedRows
 pub mod ProcedureExamples
 pub mod ToldRoutes
 pub mod OrderedLinks
+pub mod ReroutedFlows

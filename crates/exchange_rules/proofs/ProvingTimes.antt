@@ -1,7 +1,7 @@
 -- How long L4 runs as proving begins.
-use Rattle.exchange_rules.proofs.Basics.{◌≡◌, ◌≢◌, ◌≤◌, ◌<◌, ◌&&◌, ℕ, Bool, true, false, length, Option, Some, None, max, refl, ap, sym, ◌∙◌, arith, ⊎_elim, inl, inr, cases_lt, get_or_past, if◌then◌else◌}
+use Rattle.exchange_rules.proofs.Basics.{◌≡◌, ◌≢◌, ◌⊎◌, ◌≤◌, ◌<◌, ◌&&◌, ℕ, Bool, true, false, length, Option, Some, None, max, refl, ap, sym, ◌∙◌, arith, ⊎_elim, inl, inr, cases_lt, get_or_past, if◌then◌else◌}
 use Rattle.exchange_rules.proofs.Definitions.{Configuration, Alignment, LinkStatus, LinkTimer, Action, Status, action_at, acts_on, Period, Link, down_link, is_down, Node, Done, answer, Handled, link_at, on_link_status, act_by_status, hear_outage, end_outage, tells_outage, tells_recovery, without_timer_if, timer_name, ticks_of, paced, WholeQueues, whole, HasAllPlaces, has_name, Running, counts-clear, left-set}
-use Rattle.link.specs.Table.{entering, timer_of}
+use Rattle.link.specs.Table.{entering, period_after, proving_status, timer_of}
 use Rattle.link.specs.declared.action.Action.TheVariants as act
 use Rattle.link.specs.declared.action.LinkTimer.TheVariants as timer
 use Rattle.link.specs.declared.alignment.Alignment.TheVariants.{NotAligned, Aligned, Proving}
@@ -68,42 +68,57 @@ module _ (c : Configuration) (link : ℕ) (n : Node WholeQueues) (places : HasAl
   up-at : (state : Alignment) → its.alignment ≡ state → is_down state ≡ false → is_down its.alignment ≡ false
   up-at state e up = ap is_down e ∙ up
 
-  -- by the period and the state in which the peer's Proving finds the link
-  awaited : (status : LinkStatus) (period next : Period) (sent : Option LinkStatus) → tells_outage c link status n.parts ≡ false → tells_recovery link status n.parts ≡ false
-      → acts-on status period NotAligned ≡ act.Go (entering NotAligned (Proving false) next sent (Some timer.L4)) → acts-on status period Aligned ≡ act.Go (entering Aligned (Proving false) next None (Some timer.L4))
-      → its.period ≡ period → AwaitsProving its → left_to_prove c link status n ≡ Some (max 1 (ticks_of (paced next c.timers) timer.L4))
-  awaited status period next sent out back first second e (inl state) =
-      begins status NotAligned false next sent out back (up-at NotAligned state refl) (acts-at status period NotAligned e state ∙ first)
-  awaited status period next sent out back first second e (inr state) =
-      begins status Aligned false next None out back (up-at Aligned state refl) (acts-at status period Aligned e state ∙ second)
+  -- how long L4 runs for a period
+  abbrev runs-for : Period → Option ℕ
+  runs-for period = Some (max 1 (ticks_of (paced period c.timers) timer.L4))
+
+  -- proving begins, for the period after what the peer asks for
+  awaited : (status : LinkStatus) → tells_outage c link status n.parts ≡ false → tells_recovery link status n.parts ≡ false
+      → ((period : Period) → acts-on status period NotAligned ≡ act.Go (entering NotAligned (Proving false) (period_after period (Status status)) (Some (proving_status period)) (Some timer.L4)))
+      → ((period : Period) → acts-on status period Aligned ≡ act.Go (entering Aligned (Proving false) (period_after period (Status status)) None (Some timer.L4)))
+      → AwaitsProving its → left_to_prove c link status n ≡ runs-for (period_after its.period (Status status))
+  awaited status out back first second (inl state) =
+      begins status NotAligned false (period_after its.period (Status status)) (Some (proving_status its.period)) out back (up-at NotAligned state refl)
+      (ap (acts-on status its.period) state ∙ first its.period)
+  awaited status out back first second (inr state) =
+      begins status Aligned false (period_after its.period (Status status)) None out back (up-at Aligned state refl) (ap (acts-on status its.period) state ∙ second its.period)
+
+  after-normal : AwaitsProving its → left_to_prove c link ProvingNormal n ≡ runs-for (period_after its.period (Status ProvingNormal))
+  after-normal awaits = awaited ProvingNormal (and-false c.processor_outage) refl (λ period. refl) (λ period. refl) awaits
+
+  after-emergency : AwaitsProving its → left_to_prove c link ProvingEmergency n ≡ runs-for (period_after its.period (Status ProvingEmergency))
+  after-emergency awaits = awaited ProvingEmergency (and-false c.processor_outage) refl (λ period. refl) (λ period. refl) awaits
+
+  normal-by : (period : Period) → its.period ≡ period → AwaitsProving its → left_to_prove c link ProvingNormal n ≡ runs-for (period_after period (Status ProvingNormal))
+  normal-by period e awaits = after-normal awaits ∙ ap (λ (p : Period). runs-for (period_after p (Status ProvingNormal))) e
 
   pub proved-as-asked : IsProvedAsAsked c link its n
   proved-as-asked = record {
-    by_peer = λ chosen awaits. by-peer its.period refl chosen awaits;
-    by_this_end = λ e awaits. awaited ProvingNormal Emergency Emergency (Some ProvingEmergency) (and-false c.processor_outage) refl refl refl e awaits;
-    by_neither = λ other awaits. by-neither its.period refl other awaits;
-    fixed = λ e awaits. awaited ProvingEmergency Fixed Fixed (Some ProvingNormal) (and-false c.processor_outage) refl refl refl e awaits;
+    by_peer = λ chosen awaits. after-emergency awaits ∙ asked-for its.period chosen;
+    by_this_end = λ e awaits. normal-by Emergency e awaits;
+    by_neither = λ either awaits. by-neither either awaits;
+    fixed = λ e awaits. after-emergency awaits ∙ ap (λ (p : Period). runs-for (period_after p (Status ProvingEmergency))) e;
     hurried = λ e proved. hurries proved.0 e proved.1;
-    runs_on = λ other proved. goes-on its.period refl other proved.0 proved.1;
+    runs_on = λ other proved. goes-on other proved.0 proved.1;
   }
     where
-      by-peer : (period : Period) → its.period ≡ period → its.period ≢ Fixed → AwaitsProving its → left_to_prove c link ProvingEmergency n ≡ Some (max 1 (ticks_of (paced Emergency c.timers) timer.L4))
-      by-peer Fixed e chosen awaits = absurd (chosen e)
-      by-peer Normal e chosen awaits = awaited ProvingEmergency Normal Emergency (Some ProvingNormal) (and-false c.processor_outage) refl refl refl e awaits
-      by-peer Emergency e chosen awaits = awaited ProvingEmergency Emergency Emergency (Some ProvingEmergency) (and-false c.processor_outage) refl refl refl e awaits
+      asked-for : (period : Period) → period ≢ Fixed → runs-for (period_after period (Status ProvingEmergency)) ≡ runs-for Emergency
+      asked-for Fixed chosen = absurd (chosen refl)
+      asked-for Normal chosen = refl
+      asked-for Emergency chosen = refl
 
-      by-neither : (period : Period) → its.period ≡ period → its.period ≢ Emergency → AwaitsProving its → left_to_prove c link ProvingNormal n ≡ Some (max 1 c.timers.l4)
-      by-neither Fixed e other awaits = awaited ProvingNormal Fixed Fixed (Some ProvingNormal) (and-false c.processor_outage) refl refl refl e awaits
-      by-neither Normal e other awaits = awaited ProvingNormal Normal Normal (Some ProvingNormal) (and-false c.processor_outage) refl refl refl e awaits
-      by-neither Emergency e other awaits = absurd (other e)
+      by-neither : (its.period ≡ Normal) ⊎ (its.period ≡ Fixed) → AwaitsProving its → left_to_prove c link ProvingNormal n ≡ Some (max 1 c.timers.l4)
+      by-neither (inl e) awaits = normal-by Normal e awaits
+      by-neither (inr e) awaits = normal-by Fixed e awaits
 
-      hurried-acts : (ready : Bool) → acts-on ProvingEmergency Normal (Proving ready) ≡ act.Go (entering (Proving ready) (Proving ready) Emergency None (Some timer.L4))
+      hurried-acts : (ready : Bool) → acts-on ProvingEmergency Normal (Proving ready)
+          ≡ act.Go (entering (Proving ready) (Proving ready) (period_after Normal (Status ProvingEmergency)) None (Some timer.L4))
       hurried-acts true = refl
       hurried-acts false = refl
 
-      hurries : (ready : Bool) → its.period ≡ Normal → its.alignment ≡ Proving ready → left_to_prove c link ProvingEmergency n ≡ Some (max 1 (ticks_of (paced Emergency c.timers) timer.L4))
+      hurries : (ready : Bool) → its.period ≡ Normal → its.alignment ≡ Proving ready → left_to_prove c link ProvingEmergency n ≡ runs-for Emergency
       hurries ready e state =
-          begins ProvingEmergency (Proving ready) ready Emergency None (and-false c.processor_outage) refl (up-at (Proving ready) state refl)
+          begins ProvingEmergency (Proving ready) ready (period_after Normal (Status ProvingEmergency)) None (and-false c.processor_outage) refl (up-at (Proving ready) state refl)
           (acts-at ProvingEmergency Normal (Proving ready) e state ∙ hurried-acts ready)
 
       passes : (period : Period) → period ≢ Normal → (ready : Bool) → acts-on ProvingEmergency period (Proving ready) ≡ act.Ignored
@@ -113,11 +128,10 @@ module _ (c : Configuration) (link : ℕ) (n : Node WholeQueues) (places : HasAl
       passes Emergency other true = refl
       passes Emergency other false = refl
 
-      goes-on : (period : Period) → its.period ≡ period → its.period ≢ Normal → (ready : Bool) → its.alignment ≡ Proving ready → left_to_prove c link ProvingEmergency n ≡ n.parts.timers.left (L4 link)
-      goes-on period e other ready state =
+      goes-on : its.period ≢ Normal → (ready : Bool) → its.alignment ≡ Proving ready → left_to_prove c link ProvingEmergency n ≡ n.parts.timers.left (L4 link)
+      goes-on other ready state =
           ap (λ (d : Done WholeQueues). d.left.parts.timers.left (L4 link))
-          (by-table ProvingEmergency act.Ignored (and-false c.processor_outage) refl
-          (acts-at ProvingEmergency its.period (Proving ready) refl state ∙ passes its.period other ready))
+          (by-table ProvingEmergency act.Ignored (and-false c.processor_outage) refl (ap (acts-on ProvingEmergency its.period) state ∙ passes its.period other ready))
 
 pub as-asked : links_are_proved_as_either_end_asks
 as-asked c link node places = proved-as-asked c link node places

@@ -37,7 +37,8 @@ pub record IsProvedAsAsked (c : Configuration) (link : ℕ) (l : Link) (node : N
   pub by_peer : l.period ≢ Fixed → AwaitsProving l → left_to_prove c link ProvingEmergency node ≡ emergency_ticks c
   pub by_this_end : l.period ≡ Emergency → AwaitsProving l →
       left_to_prove c link ProvingNormal node ≡ emergency_ticks c
-  pub by_neither : l.period ≢ Emergency → AwaitsProving l → left_to_prove c link ProvingNormal node ≡ normal_ticks c
+  pub by_neither : (l.period ≡ Normal) ⊎ (l.period ≡ Fixed) → AwaitsProving l →
+      left_to_prove c link ProvingNormal node ≡ normal_ticks c
   pub fixed : l.period ≡ Fixed → AwaitsProving l → left_to_prove c link ProvingEmergency node ≡ normal_ticks c
   pub hurried : l.period ≡ Normal → IsBeingProved l → left_to_prove c link ProvingEmergency node ≡ emergency_ticks c
   pub runs_on : l.period ≢ Normal → IsBeingProved l →

@@ -52,3 +52,4 @@ pub mod LawsOfRows
 pub mod ProcedureExamples
 pub mod LawsOfTelling
 pub mod LawsOfOrders
+pub mod LawsOfRerouting

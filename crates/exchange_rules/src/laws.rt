@@ -50,8 +50,8 @@ pub use outage::outages_are_a_state_where_asked_for;
 pub use peers::{
     adjacent_points_are_told_of_routes, links_are_proved_as_long_as_either_end_asks,
     links_open_and_close_as_ordered, messages_go_back_to_titles_by_rows,
-    only_adjacent_points_manage, rows_lead_to_subsystems, tests_of_others_are_answered,
-    what_came_is_acknowledged,
+    only_adjacent_points_manage, routes_change_as_their_points_say, rows_lead_to_subsystems,
+    tests_of_others_are_answered, what_came_is_acknowledged,
 };
 pub use subsystems::{
     prohibited_subsystems_are_tested, rows_keep_off_prohibited_subsystems,

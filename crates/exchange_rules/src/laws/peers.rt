@@ -6,6 +6,7 @@ ghost use Rattle.exchange_rules.specs.LawsOfOrders.{deactivated_links_stay_out, 
 ghost use Rattle.exchange_rules.specs.LawsOfOrders.{links_ask_as_they_stand, messages_are_to_be_acknowledged};
 ghost use Rattle.exchange_rules.specs.LawsOfOrders.{owed_ones_go_out};
 ghost use Rattle.exchange_rules.specs.LawsOfProving.{links_are_proved_as_either_end_asks};
+ghost use Rattle.exchange_rules.specs.LawsOfRerouting.{flows_are_rerouted_by_status, statuses_are_taken_as_said};
 ghost use Rattle.exchange_rules.specs.LawsOfRows.{messages_go_back_by_rows, rows_have_room};
 ghost use Rattle.exchange_rules.specs.LawsOfTelling.{senders_without_route_are_told, statuses_are_told_as_such};
 ghost use Rattle.exchange_rules.specs.LawsOfRows.{rows_lead_to_point_and_backup, subsystem_tests_are_answered};
@@ -73,4 +74,13 @@ pub fn what_came_is_acknowledged()
     ensures owed { messages_are_to_be_acknowledged }
     ensures taken { owed_ones_go_out }
     ensures number { frames_acknowledge }
+{}
+
+/// What the adjacent point of a set says of a route, by TFP, TFR or TFA, is taken as said where it is another status
+/// than before. By TFP flows go by other routes at once, and none is held for that (Q.704 §7). By TFR and TFA each flow
+/// that goes from one link to another by this is held by the rerouting of its destination, and T6 is set; every other
+/// hold stays (§8). T10 is set where the route isn't allowed (§13.5).
+pub fn routes_change_as_their_points_say()
+    ensures taken { statuses_are_taken_as_said }
+    ensures flows { flows_are_rerouted_by_status }
 {}
