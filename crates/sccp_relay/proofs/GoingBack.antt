@@ -1,5 +1,5 @@
 -- What is returned, as it is read where it arrives.
-use Rattle.std.proofs.Common.{◌≡◌, ◌≢◌, ℕ, ◌+◌, ◌/◌, ◌^◌, ◌<◌, ◌⊎◌, Bool, true, false, cond, List, ◌++◌, length, drop, Option, Some, None, Result, Ok, Err, refl, sym, ap, subst, inl, inr}
+use Rattle.std.proofs.Common.{◌∙◌, ◌≡◌, ◌≢◌, ℕ, ◌+◌, ◌/◌, ◌^◌, ◌<◌, ◌⊎◌, Bool, true, false, cond, List, ◌++◌, length, drop, Option, Some, None, Result, Ok, Err, refl, sym, ap, subst, inl, inr}
 use Rattle.std.proofs.lemmas.Bool.{eq-eqb, eqb-true}
 use Rattle.std.specs.List.{list_all}
 use Rattle.std.specs.Prelude.{All, IfSome, nat_eq, unwrap_or}
@@ -18,8 +18,9 @@ use Rattle.sccp_codec.specs.Titles.{read_title}
 use Rattle.sccp_relay.specs.Sccp.{SccpValue, Plain, Extended, sccp_parts, read_sccp, asks_for_return, is_kind_returned}
 use Rattle.sccp_relay.specs.Points.{OwnValue, point_by, unless_barred}
 use Rattle.sccp_relay.specs.Statuses.{TitlesValue}
+use Rattle.sccp_relay.specs.declared.subsystem.ProhibitedSubsystem.{ProhibitedSubsystem}
 use Rattle.sccp_relay.specs.Relay.{row_of, written, translated}
-use Rattle.sccp_relay.specs.Returning.{return_cause, parameter_of, returned_parameters, service, return_to, return_by, return_led, return_by_row, return_read, returned, sent_back, led_back}
+use Rattle.sccp_relay.specs.Returning.{is_kept_off, return_by_number, return_cause, parameter_of, returned_parameters, service, return_to, return_by, return_led, return_by_row, return_read, returned, sent_back, led_back}
 use Rattle.sccp_relay.specs.Led.{GoesBack, IsReturned, AreInRange, type_octet, second_octet, hops_of, optional_of, a_udts_returns_a_udt}
 use Rattle.sccp_relay.specs.Ways.{IsRow}
 use Rattle.sccp_relay.proofs.KeptParameters.{named-length}
@@ -55,6 +56,13 @@ goes-back own label point message field e =
     let r = otherwise (nat_eq point own) (written point own label message) field e in
     record { elsewhere = λ same. absurd (let yes = eq-eqb point own same in let no = r.0 in cc); writes = r.1 }
 
+-- by subsystem number it isn't prohibited there
+pub number-returns : (own : ℕ) (prohibited : List ProhibitedSubsystem) (label : Label) (number : ℕ) (came : SccpValue) (point : ℕ) (field : List ℕ)
+    → return_by_number own prohibited label number came point ≡ Some field
+    → (is_kept_off prohibited point (sccp_parts came).calling.ssn ≡ false) × (return_to own label point (service number came (sent_back (sccp_parts came))) ≡ Some field)
+number-returns own prohibited label number came point field e =
+    otherwise (is_kept_off prohibited point (sccp_parts came).calling.ssn) (return_to own label point (service number came (sent_back (sccp_parts came)))) field e
+
 or-fits : (point : Option ℕ) (other : ℕ) → IfSome point (λ p. p < 2 ^ 14) → other < 2 ^ 14 → unwrap_or point other < 2 ^ 14
 or-fits None other h k = k
 or-fits (Some point) other h k = h
@@ -88,7 +96,7 @@ row-returns own titles label number came (Ok row) field t all h octets f e =
       fits = record { called = translated-fits row caller l.called is h.calling l.is; calling = h.called };
       writes = b.writes;
       calling = refl;
-      back = record { by_number = λ s. absurd (let no = t in cc); by_title = λ s. (row, f, led-to own titles.prohibited None label.sls row, led) };
+      back = record { by_number = λ s. absurd (let no = t in cc); not_prohibited = λ ssn s is. absurd (let no = t in cc); by_title = λ s. (row, f, led-to own titles.prohibited None label.sls row, led) };
       carried = refl;
     }
 
@@ -97,7 +105,9 @@ routing-returns : (routing : Routing) (own : OwnValue) (titles : TitlesValue) (l
 routing-returns Title own titles label number came field r l all h octets e = row-returns own titles label number came (unless_barred own titles.prohibited None label.sls (row_of titles.rows (sccp_parts came).calling)) field r all h octets refl e
 routing-returns Ssn own titles label number came field r l all h octets e =
     let caller = (sccp_parts came).calling in
-    let b = goes-back own.point label (unwrap_or caller.point label.opc) (service number came (sent_back (sccp_parts came))) field e in
+    let point = unwrap_or caller.point label.opc in
+    let allowed = number-returns own.point titles.prohibited label number came point field e in
+    let b = goes-back own.point label point (service number came (sent_back (sccp_parts came))) field allowed.1 in
     record {
       point = unwrap_or caller.point label.opc;
       point_fits = or-fits caller.point label.opc h.calling.point l;
@@ -106,7 +116,11 @@ routing-returns Ssn own titles label number came field r l all h octets e =
       fits = record { called = h.calling; calling = h.called };
       writes = b.writes;
       calling = refl;
-      back = record { by_number = λ s. (refl, refl); by_title = λ s. absurd (let no = r in cc) };
+      back = record {
+        by_number = λ s. (refl, refl);
+        not_prohibited = λ ssn s is. sym (ap (is_kept_off titles.prohibited point) is) ∙ allowed.0;
+        by_title = λ s. absurd (let no = r in cc);
+      };
       carried = refl;
     }
 

@@ -19,7 +19,7 @@ use Rattle.sccp_relay.specs.Relay.{Onward, relay, row_of, label_to, written, led
 use Rattle.sccp_relay.specs.Returning.{return_cause, service, return_by, return_by_row, returned, sent_back, led_back}
 use Rattle.sccp_relay.proofs.SaidMessages.{written-text}
 use Rattle.sccp_relay.proofs.GoingOn.{Leads, Answered, in-case, read-leads}
-use Rattle.sccp_relay.proofs.GoingBack.{goes-back, is-led_back, read-returns}
+use Rattle.sccp_relay.proofs.GoingBack.{goes-back, is-led_back, number-returns, read-returns}
 
 pub record Fits (sif : List ℕ) : Type 0 where
   pub long : 4 ≤ length sif
@@ -82,7 +82,8 @@ routing-fits Title own titles label number came field e = row-fits own titles.pr
 routing-fits Ssn own titles label number came field e =
     let goes = service number came (sent_back (sccp_parts came)) in
     let point = unwrap_or (sccp_parts came).calling.point label.opc in
-    written-fits point own.point label goes field (goes-back own.point label point goes field e).writes
+    written-fits point own.point label goes field
+    (goes-back own.point label point goes field (number-returns own.point titles.prohibited label number came point field e).1).writes
 
 pub returned-fits : (own : OwnValue) (titles : TitlesValue) (text : List ℕ) (cause : Cause) (sif : List ℕ) → returned own titles text cause ≡ Some sif → Fits sif
 unfolding returned

@@ -15,7 +15,7 @@ use Rattle.sccp_relay.specs.Sccp.{SccpValue, Plain, Extended, sccp_parts, is_ext
 use Rattle.sccp_relay.specs.Points.{OwnValue, is_open, is_backup_open}
 use Rattle.sccp_relay.specs.Relay.{Onward, relay, row_of, ssn_by, is_equipped, management_address}
 use Rattle.sccp_relay.specs.Returning.{return_cause, returned_parameters, returned}
-use Rattle.sccp_relay.specs.Statuses.{TitlesValue}
+use Rattle.sccp_relay.specs.Statuses.{TitlesValue, is_prohibited}
 use Rattle.sccp_relay.specs.Ways.{IsRow}
 use Rattle.sccp_relay.specs.declared.subsystem.ProhibitedSubsystem.{ProhibitedSubsystem}
 
@@ -158,10 +158,13 @@ pub record IsTestAnswer (own : OwnValue) (titles : TitlesValue) (sif field : Lis
 -- ---- what is returned
 
 -- The point that a message goes back to, and how its called address reads there. By subsystem number it is the point
--- that the address names, or if there is none the point that the message came from; by title, where its row leads.
+-- that the address names, or if there is none the point that the message came from, and its subsystem isn't prohibited
+-- there; by title, where its row leads.
 pub record GoesBack (own : OwnValue) (titles : TitlesValue) (label : Label) (to : AddressValue) (point : ℕ)
     (called : AddressValue) : Type 0 where
   pub by_number : to.routing ≡ Ssn → (point ≡ unwrap_or to.point label.opc) × (called ≡ to)
+  pub not_prohibited : (ssn : ℕ) → to.routing ≡ Ssn → to.ssn ≡ Some ssn →
+      is_prohibited titles.prohibited (record { point = point; ssn = ssn }) ≡ false
   pub by_title : to.routing ≡ Title →
       (row : TitleEntry) × (row_of titles.rows to ≡ Ok row) × IsLedTo own titles.prohibited None label.sls row point
       × IsLed row to called

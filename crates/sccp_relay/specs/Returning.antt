@@ -1,5 +1,5 @@
 -- SCLC, SCCP connectionless control: the message that returns one that was refused, a UDTS or an XUDTS (Q.714 §4.2).
-use Rattle.std.specs.Prelude.{ℕ, if◌then◌else◌, nat_eq, List, [], ◌∷◌, ◌++◌, drop, Option, Some, None, unwrap_or, Result, Ok, Err}
+use Rattle.std.specs.Prelude.{ℕ, Bool, false, if◌then◌else◌, nat_eq, List, [], ◌∷◌, ◌++◌, drop, Option, Some, None, unwrap_or, Result, Ok, Err}
 use Rattle.settings_rows.specs.Configuration.{TitleEntry}
 use Rattle.signalling_types.specs.declared.cause.Cause.{Cause}
 use Rattle.signalling_types.specs.declared.cause.Cause.TheVariants.{NoNature, NoDigits, SubsystemProhibited, Unequipped, HopCounter, TooLong, UnknownDestination, NoRoute}
@@ -14,7 +14,7 @@ use Rattle.sccp_codec.specs.Extended.{ExtendedValue, ParameterValue, first_named
 use Rattle.sccp_relay.specs.Points.{OwnValue, point_by, unless_barred}
 use Rattle.sccp_relay.specs.Relay.{row_of, translated, written}
 use Rattle.sccp_relay.specs.Sccp.{SccpValue, Plain, Extended, sccp_parts, read_sccp, asks_for_return}
-use Rattle.sccp_relay.specs.Statuses.{TitlesValue}
+use Rattle.sccp_relay.specs.Statuses.{TitlesValue, is_prohibited}
 use Rattle.sccp_relay.specs.declared.subsystem.ProhibitedSubsystem.{ProhibitedSubsystem}
 
 -- the return cause (Q.713 §3.12); nothing is returned for any other refusal
@@ -76,12 +76,25 @@ return_by_row own prohibited label number message (Ok row) =
     return_led own label number message (point_by own prohibited None label.sls row)
     (translated row (sccp_parts message).calling)
 
+-- whether the subsystem of this number is prohibited at a point; without a number none is
+abbrev pub is_kept_off : List ProhibitedSubsystem → (point : ℕ) → (ssn : Option ℕ) → Bool
+is_kept_off prohibited point None = false
+is_kept_off prohibited point (Some ssn) = is_prohibited prohibited (record { point = point; ssn = ssn })
+
+-- to a subsystem at a point, unless it is prohibited there (Q.714 §2.3)
+abbrev pub return_by_number : (own : ℕ) → List ProhibitedSubsystem → Label → ℕ → SccpValue → (point : ℕ)
+    → Option (List ℕ)
+return_by_number own prohibited label number message point =
+    if is_kept_off prohibited point (sccp_parts message).calling.ssn
+    then None
+    else return_to own label point (service number message (sent_back (sccp_parts message)))
+
 -- It goes to the address that called. By subsystem number that is the point that it names, else the point that the
 -- message came from; by title it is where a row leads
 abbrev pub return_by : Routing → OwnValue → TitlesValue → Label → ℕ → SccpValue → Option (List ℕ)
 return_by Ssn own titles label number message =
-    return_to own.point label (unwrap_or (sccp_parts message).calling.point label.opc)
-    (service number message (sent_back (sccp_parts message)))
+    return_by_number own.point titles.prohibited label number message
+    (unwrap_or (sccp_parts message).calling.point label.opc)
 return_by Title own titles label number message =
     return_by_row own titles.prohibited label number message
     (unless_barred own titles.prohibited None label.sls (row_of titles.rows (sccp_parts message).calling))

@@ -36,7 +36,8 @@ pub fn what_goes_on_reads_back()
 
 /// A UDTS returns a UDT that asked for it, an XUDTS an XUDT, and nothing else is returned: with the addresses exchanged
 /// and the same data. To an address by subsystem number it goes to the point that this names, or where the message came
-/// from; to one by title, where the row of the title leads (Q.714 §4.2).
+/// from, and never to a subsystem that is prohibited there (§2.3); to one by title, where the row of the title leads
+/// (Q.714 §4.2).
 pub fn a_udts_returns_a_udt()
     ensures { led.a_udts_returns_a_udt }
 {}

@@ -15,6 +15,7 @@ use crate::changing::changed_title;
 use crate::message::{MAX_HOPS, Message};
 use crate::own::{Own, Ways};
 use crate::relaying::{behind_label, open_row};
+use crate::subsystem::Subsystem;
 use crate::writing::{anew, label_to, led, same, same_parts};
 use mtp3_codec::Label;
 use sccp_codec::{
@@ -122,12 +123,43 @@ fn return_by<W: Ways>(
     let caller = &parts.calling;
     if caller.routing == Routing::Ssn {
         let point = caller.point.unwrap_or(label.opc);
-        let parts = sent_back(parts);
-        return return_to(point, own.point, label, number, message, &parts, field);
+        return return_by_number(point, own.point, label, number, message, titles, field);
     }
     match open_row(caller, None, label.sls, titles, own) {
         Ok(row) => return_led(number, message, &row, label, titles, own, field),
         Err(_) => None,
+    }
+}
+
+/// It goes to the subsystem that called, at this point, unless that is prohibited there.
+fn return_by_number(
+    point: PointCode,
+    own: PointCode,
+    label: Label,
+    number: u8,
+    message: &Message<'_>,
+    titles: &Titles,
+    field: &mut Field,
+) -> Option<usize>
+    ensures text { written_in result field.new
+        ≡ rule.return_by_number own titles.now.prohibited label number (sccp_of message.now) point }
+    ensures label { IfSome result (λ count. 4 ≤ count) }
+    ensures fits { IfSome result (λ count. count ≤ Limits.SIF_OCTETS) }
+{
+    let parts = message.parts();
+    if is_kept_off(point, parts.calling.ssn, titles) {
+        return None;
+    }
+    return_to(point, own, label, number, message, &sent_back(parts), field)
+}
+
+/// Whether the subsystem of this number is prohibited at a point; without a number none is.
+fn is_kept_off(point: PointCode, ssn: Option<u8>, titles: &Titles) -> bool
+    ensures { result ≡ rule.is_kept_off titles.now.prohibited point ssn }
+{
+    match ssn {
+        Some(ssn) => titles.is_prohibited(&Subsystem { point, ssn }),
+        None => false,
     }
 }
 
