@@ -1,6 +1,6 @@
 -- User Data on a link in service changes nothing before its numbers are looked at.
 use Rattle.link.specs.declared.period.Period.{Period}
-use Rattle.link.specs.declared.period.Period.TheVariants.{Fixed, Normal, Emergency}
+use Rattle.link.specs.declared.period.Period.TheVariants.{Fixed, Normal, Hurried, Emergency}
 use Rattle.link.specs.declared.action.Action.TheVariants.{Go}
 use Rattle.link.specs.Table.{period_after, staying}
 use Rattle.exchange.proofs.Basics.{◌≡◌, ◌∙◌, ℕ, true, false, refl, ap, None, append-nil, set-get_or, Configuration, UserData, Transition, Alignment, Down, NotAligned, Aligned, Proving, AlignedReady, InService, action_at, Link, down_link, is_in_service, stepped, QueueKind, Parts, Node, link_at, in_service, links_with, advance, Carrying, act_by_data, receive_data, handle}
@@ -12,6 +12,7 @@ staying_in_service period = record (staying InService period) { serve = true }
 same_period : (period : Period) → period_after period UserData ≡ period
 same_period Fixed = refl
 same_period Normal = refl
+same_period Hurried = refl
 same_period Emergency = refl
 
 same_link : (l : Link) → l.alignment ≡ InService → stepped (staying_in_service l.period) l ≡ l

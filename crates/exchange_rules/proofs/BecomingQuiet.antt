@@ -3,7 +3,7 @@
 use Rattle.exchange_rules.proofs.Basics.{◌≡◌, ◌≤◌, ◌-◌, ◌+◌, ℕ, zero, suc, Bool, true, false, List, [], ◌∷◌, ◌++◌, Option, Some, None, refl, ap, sym, ◌∙◌, subst, arith, is_some, false_from_ne_true as not-so, if◌then◌else◌, max}
 use Rattle.exchange_rules.proofs.Definitions.{Configuration, TimerName, is_running, Asking, Abstract, apply, after_each, first_state, link_at, tests_links, answer_ticks, pause_ticks, after_asking}
 use Rattle.link.specs.declared.period.Period.{Period}
-use Rattle.link.specs.declared.period.Period.TheVariants.{Fixed, Normal, Emergency}
+use Rattle.link.specs.declared.period.Period.TheVariants.{Fixed, Normal, Hurried, Emergency}
 use Rattle.exchange_rules.specs.Timing.{paced}
 use Rattle.exchange_rules.specs.TimerSettings.{setting_of}
 use Rattle.timers.specs.declared.name.TimerName.TheVariants as name
@@ -58,11 +58,13 @@ ticks-tests (suc many) most a w r u =
 within-answer : (c : Configuration) (link x : ℕ) → (period : Period) × (x ≤ max 1 (setting_of (paced period c.timers) (name.Slt1 link))) → x ≤ max 1 (answer_ticks c)
 within-answer c link x (Fixed, l) = l
 within-answer c link x (Normal, l) = l
+within-answer c link x (Hurried, l) = l
 within-answer c link x (Emergency, l) = l
 
 within-pause : (c : Configuration) (link x : ℕ) → (period : Period) × (x ≤ max 1 (setting_of (paced period c.timers) (name.Slt2 link))) → x ≤ max 1 (pause_ticks c)
 within-pause c link x (Fixed, l) = l
 within-pause c link x (Normal, l) = l
+within-pause c link x (Hurried, l) = l
 within-pause c link x (Emergency, l) = l
 
 -- in each state reached from the first

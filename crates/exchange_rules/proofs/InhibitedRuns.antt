@@ -1,6 +1,6 @@
 -- T8 runs on for as many ticks as it is set to, whatever is asked, unless its set comes back.
 use Rattle.exchange_rules.proofs.Basics.{◌≡◌, ◌⊎◌, inl, inr, ◌<◌, ◌≤◌, ℕ, ◌+◌, ◌-◌, ◌==◌, true, List, [], ◌∷◌, Option, Some, None, refl, ap, sym, ◌∙◌, arith, nat_tests, max, is_some}
-use Rattle.link.specs.declared.period.Period.TheVariants.{Fixed, Normal, Emergency}
+use Rattle.link.specs.declared.period.Period.TheVariants.{Fixed, Normal, Hurried, Emergency}
 use Rattle.settings_rows.specs.declared.timer_ticks.TimerTicks.{TimerTicks}
 use Rattle.exchange_rules.proofs.Definitions.{Period, paced, left-ticked, one_less, Asking, AsksWants, Happens, Takes, Happening, CameUp, WentDown, FrameCame, Ticked, Submitted, Activated, Deactivated, TitleAdded, TitleRemoved, Abstract, whole}
 use Rattle.timers.specs.Timers.{no_tick_left}
@@ -49,6 +49,7 @@ module _ (s d : ℕ) where
   same-t8 : (period : Period) (ticks : TimerTicks) → (paced period ticks).t8 ≡ ticks.t8
   same-t8 Fixed ticks = refl
   same-t8 Normal ticks = refl
+  same-t8 Hurried ticks = refl
   same-t8 Emergency ticks = refl
 
   -- it runs out only at the last tick

@@ -1,9 +1,9 @@
 -- The settings say whether links have the fixed period: it stays so whatever happens.
 use Rattle.exchange_rules.proofs.Basics.{◌≡◌, ◌≢◌, ℕ, Bool, true, false, length, List, Option, Some, None, inl, refl, ap, sym, subst, ◌∙◌, if◌then◌else◌}
 use Rattle.exchange_rules.proofs.Definitions.{Configuration, Asking, is_same_input, Status, links_with, Input, Go, Transition, Period, period_after, effect_in, table, acts_on, is_down, Link, stepped, down_link, after_failure, period_of, Parts, Node, link_at, WholeQueues, first_state, after_each, opened_by}
-use Rattle.m2pa_codec.specs.declared.status.LinkStatus.TheVariants.{ProvingEmergency}
+use Rattle.m2pa_codec.specs.declared.status.LinkStatus.TheVariants.{Alignment as AlignmentStatus, ProvingEmergency}
 use Rattle.node_links.specs.NodeLinks.{link_in}
-use Rattle.link.specs.declared.period.Period.TheVariants.{Fixed, Normal, Emergency}
+use Rattle.link.specs.declared.period.Period.TheVariants.{Fixed, Normal, Hurried, Emergency}
 use Rattle.link.proofs.Periods.{period_in, same-period}
 use Rattle.exchange_rules.specs.Opening.{is_urgent, period_by}
 use Rattle.exchange_rules.specs.LawsOfPeriods.{periods_are_fixed_without_emergency, periods_are_chosen_with_emergency}
@@ -87,6 +87,7 @@ step-period x input step e =
 fixed-after : (period : Period) (input : Input) → period ≡ Fixed → period_after period input ≡ Fixed
 fixed-after Fixed input e = refl
 fixed-after Normal input e = absurd (let no : Normal ≡ Fixed = e in cc)
+fixed-after Hurried input e = absurd (let no : Hurried ≡ Fixed = e in cc)
 fixed-after Emergency input e = absurd (let no : Emergency ≡ Fixed = e in cc)
 
 other-after : (period : Period) (input : Input) → period ≢ Fixed → period_after period input ≢ Fixed
@@ -94,7 +95,12 @@ other-after Fixed input e f = e refl
 other-after Emergency input e f = cc
 other-after Normal input e f = by (is_same_input input (Status ProvingEmergency)) f
   where
-    by : (b : Bool) → (if b then Emergency else Normal) ≡ Fixed → ⊥
+    by : (b : Bool) → (if b then Hurried else Normal) ≡ Fixed → ⊥
+    by true g = cc
+    by false g = cc
+other-after Hurried input e f = by (is_same_input input (Status AlignmentStatus)) f
+  where
+    by : (b : Bool) → (if b then Normal else Hurried) ≡ Fixed → ⊥
     by true g = cc
     by false g = cc
 

@@ -5,7 +5,7 @@ use Rattle.link.specs.declared.alignment.Alignment.TheVariants.{Down, NotAligned
 use Rattle.link.specs.Table.{timer_number}
 use Rattle.m2pa_codec.specs.Frames.{status_number, status_of}
 use Rattle.m2pa_codec.proofs.StatusNumbers.{status_of-number}
-use Rattle.link.specs.declared.period.Period.TheVariants.{Fixed, Normal, Emergency}
+use Rattle.link.specs.declared.period.Period.TheVariants.{Fixed, Normal, Hurried, Emergency}
 use Rattle.exchange_rules.proofs.Serving.{step_in, found-cell, IsInAll, in-all}
 
 -- ---- the table
@@ -81,7 +81,7 @@ found-leads (c ∷ cells) a input effect e h =
     ] refl h
 
 leads-all : IsInAll cell_leads
-leads-all = record { fixed = refl; normal = refl; emergency = refl }
+leads-all = record { fixed = refl; normal = refl; hurried = refl; emergency = refl }
 
 effect-leads : (period later : Period) (effect : Option Effect) (a : Alignment) (input : Input) (step : Transition) → effect_in (table period) a input ≡ effect → action_of later a effect ≡ Go step
     → leads (kind_of input) (state_number a) (state_number (step_in (action_of later a effect)).state) ≡ true
@@ -166,6 +166,7 @@ effect-aligns later (Some Passes) a input step f e is = absurd cc
 
 pub aligned-from : (period : Period) (a : Alignment) (input : Input) (step : Transition) → action_at period a input ≡ Go step → step.state ≡ Aligned → (a ≡ NotAligned) ⊎ (period ≢ Fixed)
 aligned-from Normal a input step e is = inr (λ (no : Normal ≡ Fixed). cc)
+aligned-from Hurried a input step e is = inr (λ (no : Hurried ≡ Fixed). cc)
 aligned-from Emergency a input step e is = inr (λ (no : Emergency ≡ Fixed). cc)
 aligned-from Fixed a input step e is =
     inl (effect-aligns (period_after Fixed input) (effect_in (table Fixed) a input) a input step refl e (ap (λ (x : Action). (step_in x).state) e ∙ is))

@@ -15,7 +15,7 @@ use Rattle.exchange_rules.proofs.WithinTimes.{Within, within-set, handed_out-eas
 use Rattle.exchange_rules.proofs.LinkTimes.{kept-eased, Turned, turned-of, turned-both, turned-same, turned-set, fails-kept, orders-kept, acknowledges-kept, returns-kept, reroutes-kept, advanced-turned, begin_test-turned, test_unanswered-turned}
 use Rattle.m2pa_codec.specs.declared.status.LinkStatus.TheVariants.{Ready}
 use Rattle.link.specs.Table.{entering}
-use Rattle.link.specs.declared.period.Period.TheVariants.{Fixed, Normal, Emergency}
+use Rattle.link.specs.declared.period.Period.TheVariants.{Fixed, Normal, Hurried, Emergency}
 use Rattle.std.specs.Option.{unwrap_or}
 
 taking-link : (its : TimerName) → takes_links its ≡ true → is_of_link its ≡ true
@@ -159,20 +159,25 @@ module _ (c : Configuration) where
   stopped_if-within link None r w = w
   stopped_if-within link (Some its) r w = stopped-within link its r w
 
-  -- the same by the ticks of each period
-  paced-within : (period : Period) (link : ℕ) (its : LinkTimer) → takes_links (timer_name link its) ≡ true → max 1 (ticks_of (paced period c.timers) its) ≤ most
-  paced-within Fixed link its e = ticks-within link its e
-  paced-within Normal link its e = ticks-within link its e
-  paced-within Emergency link timer.L4 e = by c.timers.l4e refl
+  -- the same by the ticks of the emergency period
+  short-within : (link : ℕ) (its : LinkTimer) → takes_links (timer_name link its) ≡ true → max 1 (ticks_of (paced Emergency c.timers) its) ≤ most
+  short-within link timer.L4 e = by c.timers.l4e refl
     where
       by : (l4e : Option ℕ) → c.timers.l4e ≡ l4e → max 1 (unwrap_or l4e c.timers.l4) ≤ max 1 (max (max c.timers.l4 (unwrap_or l4e 0)) (max c.timers.l6 c.timers.l7))
       by None f = omega arith
       by (Some ticks) f = omega arith
-  paced-within Emergency link timer.L6 e = ticks-within link timer.L6 e
-  paced-within Emergency link timer.L7 e = ticks-within link timer.L7 e
-  paced-within Emergency link timer.L1 e = absurd cc
-  paced-within Emergency link timer.L2 e = absurd cc
-  paced-within Emergency link timer.L3 e = absurd cc
+  short-within link timer.L6 e = ticks-within link timer.L6 e
+  short-within link timer.L7 e = ticks-within link timer.L7 e
+  short-within link timer.L1 e = absurd cc
+  short-within link timer.L2 e = absurd cc
+  short-within link timer.L3 e = absurd cc
+
+  -- and by those of each
+  paced-within : (period : Period) (link : ℕ) (its : LinkTimer) → takes_links (timer_name link its) ≡ true → max 1 (ticks_of (paced period c.timers) its) ≤ most
+  paced-within Fixed link its e = ticks-within link its e
+  paced-within Normal link its e = ticks-within link its e
+  paced-within Hurried link its e = short-within link its e
+  paced-within Emergency link its e = short-within link its e
 
   set_if-within : (period : Period) (link : ℕ) (its : Option LinkTimer) (r : Running) → Bounded r → Bounded (with_timer_if (paced period c.timers) link its r)
   set_if-within period link None r w = w

@@ -233,7 +233,7 @@ stops-no-l6 : (a : Alignment) → is_that (timer_of a) timer.L6 ≡ false
 stops-no-l6 a = ap (λ (o : Option LinkTimer). is_that o timer.L6) (waits-of a) ∙ no-l6 a
 
 turns-all : IsInAll (λ (c : Cell). turns_so (state_number c.state) c.effect)
-turns-all = record { fixed = refl; normal = refl; emergency = refl }
+turns-all = record { fixed = refl; normal = refl; hurried = refl; emergency = refl }
 
 turn-of : (period later : Period) (effect : Option Effect) (a : Alignment) (input : Input) (step : Transition) → effect_in (table period) a input ≡ effect → action_of later a effect ≡ Go step
     → IsTurn a (step_in (action_of later a effect))

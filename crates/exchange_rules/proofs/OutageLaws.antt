@@ -57,32 +57,43 @@ module _ (c : Configuration) (link : ℕ) (n : Node WholeQueues) where
   recovered-ignored periods.Normal (Proving false) = refl
   recovered-ignored periods.Normal AlignedReady = refl
   recovered-ignored periods.Normal InService = refl
+  recovered-ignored periods.Hurried Down = refl
   recovered-ignored periods.Emergency Down = refl
+  recovered-ignored periods.Hurried NotAligned = refl
   recovered-ignored periods.Emergency NotAligned = refl
+  recovered-ignored periods.Hurried Aligned = refl
   recovered-ignored periods.Emergency Aligned = refl
+  recovered-ignored periods.Hurried (Proving true) = refl
   recovered-ignored periods.Emergency (Proving true) = refl
+  recovered-ignored periods.Hurried (Proving false) = refl
   recovered-ignored periods.Emergency (Proving false) = refl
+  recovered-ignored periods.Hurried AlignedReady = refl
   recovered-ignored periods.Emergency AlignedReady = refl
+  recovered-ignored periods.Hurried InService = refl
   recovered-ignored periods.Emergency InService = refl
 
   outage-fails : (period : Period) → action_at period InService (Status says.ProcessorOutage) ≡ act.Fail
   outage-fails periods.Fixed = refl
   outage-fails periods.Normal = refl
+  outage-fails periods.Hurried = refl
   outage-fails periods.Emergency = refl
 
   busy-stays : (period : Period) → action_at period InService (Status says.Busy) ≡ act.Go (staying_in_service period)
   busy-stays periods.Fixed = refl
   busy-stays periods.Normal = refl
+  busy-stays periods.Hurried = refl
   busy-stays periods.Emergency = refl
 
   busy_ended-stays : (period : Period) → action_at period InService (Status says.BusyEnded) ≡ act.Go (staying_in_service period)
   busy_ended-stays periods.Fixed = refl
   busy_ended-stays periods.Normal = refl
+  busy_ended-stays periods.Hurried = refl
   busy_ended-stays periods.Emergency = refl
 
   l6-fails : (period : Period) → action_at period InService (Expiry timer.L6) ≡ act.Fail
   l6-fails periods.Fixed = refl
   l6-fails periods.Normal = refl
+  l6-fails periods.Hurried = refl
   l6-fails periods.Emergency = refl
 
   proving-fails : (period : Period) (ready : Bool) → action_at period (Proving ready) (Status says.ProcessorOutage) ≡ act.Fail
@@ -90,12 +101,15 @@ module _ (c : Configuration) (link : ℕ) (n : Node WholeQueues) where
   proving-fails periods.Fixed false = refl
   proving-fails periods.Normal true = refl
   proving-fails periods.Normal false = refl
+  proving-fails periods.Hurried true = refl
   proving-fails periods.Emergency true = refl
+  proving-fails periods.Hurried false = refl
   proving-fails periods.Emergency false = refl
 
   ready-fails : (period : Period) → action_at period AlignedReady (Status says.ProcessorOutage) ≡ act.Fail
   ready-fails periods.Fixed = refl
   ready-fails periods.Normal = refl
+  ready-fails periods.Hurried = refl
   ready-fails periods.Emergency = refl
 
   falls-so : (a : Alignment) → (link_at n.parts link).alignment ≡ a → is_in_service a ≡ false → action_at its_period a (Status says.ProcessorOutage) ≡ act.Fail

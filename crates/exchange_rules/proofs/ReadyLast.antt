@@ -49,7 +49,7 @@ cell_ends number Serves = true
 cell_ends number Passes = true
 
 ends-all : IsInAll (λ (c : Cell). cell_ends (state_number c.state) c.effect)
-ends-all = record { fixed = refl; normal = refl; emergency = refl }
+ends-all = record { fixed = refl; normal = refl; hurried = refl; emergency = refl }
 
 sent-last : (waiting : List LinkStatus) (sent : Option LinkStatus) (was : Bool) → sends_ready sent was true ≡ true → (was ≡ true → Ending waiting) → Ending (waiting ++ option_to_list sent)
 sent-last waiting None was e h = subst Ending (sym (append-nil waiting)) (h e)

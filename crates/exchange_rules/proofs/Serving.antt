@@ -7,7 +7,7 @@ use Rattle.exchange_rules.specs.LawsOfCauses.{fails_by}
 use Rattle.link.specs.declared.alignment.Alignment.TheVariants.{Down, NotAligned, Aligned, Proving, AlignedReady, InService}
 use Rattle.link.specs.declared.action.Action.TheVariants.{Ignored}
 use Rattle.link.specs.declared.period.Period.{Period}
-use Rattle.link.specs.declared.period.Period.TheVariants.{Fixed, Normal, Emergency}
+use Rattle.link.specs.declared.period.Period.TheVariants.{Fixed, Normal, Hurried, Emergency}
 use Rattle.link.specs.declared.action.LinkTimer.TheVariants.{L1, L2, L3, L4, L6, L7}
 
 -- ---- states by their numbers
@@ -89,11 +89,13 @@ found-cell P (c ∷ cells) a input effect e h =
 pub record IsInAll (P : Cell → Bool) : Type 0 where
   pub fixed : list_all P (table Fixed) ≡ true
   pub normal : list_all P (table Normal) ≡ true
+  pub hurried : list_all P (table Hurried) ≡ true
   pub emergency : list_all P (table Emergency) ≡ true
 
 pub in-all : (P : Cell → Bool) (period : Period) → IsInAll P → list_all P (table period) ≡ true
 in-all P Fixed each = each.fixed
 in-all P Normal each = each.normal
+in-all P Hurried each = each.hurried
 in-all P Emergency each = each.emergency
 
 pub cell-found : (P : ℕ → Effect → Bool) (period : Period) (a : Alignment) (input : Input) (effect : Effect) → IsInAll (λ (c : Cell). P (state_number c.state) c.effect)
@@ -174,27 +176,27 @@ effect-step period after None a input step f e = absurd cc
 effect-step period after (Some Fails) a input step f e = absurd cc
 effect-step period after (Some Remembers) a input step f e = record {
   serves = λ h. absurd cc;
-  stays = λ h. (let no : false ≡ true = sym (ap (λ (b : Bool). stays_there b Remembers) h) ∙ cell-of stays_there period a input Remembers (record { fixed = refl; normal = refl; emergency = refl }) f in absurd cc);
+  stays = λ h. (let no : false ≡ true = sym (ap (λ (b : Bool). stays_there b Remembers) h) ∙ cell-of stays_there period a input Remembers (record { fixed = refl; normal = refl; hurried = refl; emergency = refl }) f in absurd cc);
   stop = refl;
   start = refl;
 }
 effect-step period after (Some (Enters state sent started)) a input step f e = record {
   serves = λ h. absurd cc;
   stays = λ h.
-      (let no : false ≡ true = sym (ap (λ (b : Bool). stays_there b (Enters state sent started)) h) ∙ cell-of stays_there period a input (Enters state sent started) (record { fixed = refl; normal = refl; emergency = refl }) f in absurd cc);
+      (let no : false ≡ true = sym (ap (λ (b : Bool). stays_there b (Enters state sent started)) h) ∙ cell-of stays_there period a input (Enters state sent started) (record { fixed = refl; normal = refl; hurried = refl; emergency = refl }) f in absurd cc);
   stop = no_l7_of a;
-  start = not-so (is_l7 started) (cell-of starts_no_l7 period a input (Enters state sent started) (record { fixed = refl; normal = refl; emergency = refl }) f);
+  start = not-so (is_l7 started) (cell-of starts_no_l7 period a input (Enters state sent started) (record { fixed = refl; normal = refl; hurried = refl; emergency = refl }) f);
 }
 effect-step period after (Some BeginsAgain) a input step f e = record {
   serves = λ h. absurd cc;
-  stays = λ h. (let no : false ≡ true = sym (ap (λ (b : Bool). stays_there b BeginsAgain) h) ∙ cell-of stays_there period a input BeginsAgain (record { fixed = refl; normal = refl; emergency = refl }) f in absurd cc);
+  stays = λ h. (let no : false ≡ true = sym (ap (λ (b : Bool). stays_there b BeginsAgain) h) ∙ cell-of stays_there period a input BeginsAgain (record { fixed = refl; normal = refl; hurried = refl; emergency = refl }) f in absurd cc);
   stop = no_l7_of a;
   start = refl;
 }
 effect-step period after (Some Passes) a input step f e = absurd cc
 effect-step period after (Some EntersServing) a input step f e = record { serves = λ h. refl; stays = λ h. refl; stop = no_l7_of a; start = refl }
 effect-step period after (Some Serves) a input step f e = record {
-  serves = λ h. cell-of serves_there period a input Serves (record { fixed = refl; normal = refl; emergency = refl }) f;
+  serves = λ h. cell-of serves_there period a input Serves (record { fixed = refl; normal = refl; hurried = refl; emergency = refl }) f;
   stays = λ h. h;
   stop = refl;
   start = refl;

@@ -263,4 +263,4 @@ timers-keep c asked timer =
     (λ left e. (let no : None ≡ Some left = sym (left-none timer (first_state c).node.parts.timers.counts) ∙ e in absurd cc))
 
 pub paced-is : only_l4_is_paced
-paced-is ticks = record { fixed = refl; normal = refl; emergency = λ link. refl; rest = refl }
+paced-is ticks = record { fixed = refl; normal = refl; hurried = refl; emergency = λ link. refl; rest = refl }

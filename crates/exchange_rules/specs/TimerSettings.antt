@@ -8,7 +8,7 @@ use Rattle.timers.specs.declared.name.TimerName.TheVariants.{L1, L2, L3, L4, L6,
 use Rattle.timers.specs.declared.name.TimerName.TheVariants.{Slt1, Slt2}
 use Rattle.timers.specs.Timers.{one_less}
 use Rattle.link.specs.declared.period.Period.{Period}
-use Rattle.link.specs.declared.period.Period.TheVariants.{Fixed, Normal, Emergency}
+use Rattle.link.specs.declared.period.Period.TheVariants.{Fixed, Normal, Hurried, Emergency}
 use Rattle.exchange_rules.specs.Timing.{paced}
 use Rattle.exchange_rules.specs.State.{Asking, Happening, CameUp, WentDown, FrameCame, Ticked, Submitted, Activated, Deactivated, TitleAdded, TitleRemoved}
 use Rattle.exchange_rules.specs.Queues.{whole}
@@ -78,6 +78,7 @@ timers_keep_their_settings =
 pub record IsPaced (ticks : TimerTicks) : Type 0 where
   pub fixed : paced Fixed ticks ≡ ticks
   pub normal : paced Normal ticks ≡ ticks
+  pub hurried : paced Hurried ticks ≡ paced Emergency ticks
   pub emergency : (link : ℕ) → setting_of (paced Emergency ticks) (L4 link) ≡ unwrap_or ticks.l4e ticks.l4
   pub rest : record (paced Emergency ticks) { l4 = ticks.l4 } ≡ ticks
 

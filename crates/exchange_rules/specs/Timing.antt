@@ -6,7 +6,7 @@ use Rattle.link.specs.declared.action.LinkTimer.{LinkTimer}
 use Rattle.link.specs.declared.action.LinkTimer.TheVariants.{L1, L2, L3, L4, L6, L7}
 use Rattle.link.specs.declared.action.Transition.{Transition}
 use Rattle.link.specs.declared.period.Period.{Period}
-use Rattle.link.specs.declared.period.Period.TheVariants.{Fixed, Normal, Emergency}
+use Rattle.link.specs.declared.period.Period.TheVariants.{Fixed, Normal, Hurried, Emergency}
 use Rattle.timers.specs.declared.name.TimerName.{TimerName}
 use Rattle.timers.specs.declared.name.TimerName.TheVariants as name
 use Rattle.timers.specs.Timers.{Running, set_timer, start_unless_running, clear_timer}
@@ -34,6 +34,7 @@ ticks_of ticks L7 = ticks.l7
 abbrev pub paced : Period → TimerTicks → TimerTicks
 paced Fixed ticks = ticks
 paced Normal ticks = ticks
+paced Hurried ticks = record ticks { l4 = unwrap_or ticks.l4e ticks.l4 }
 paced Emergency ticks = record ticks { l4 = unwrap_or ticks.l4e ticks.l4 }
 
 -- a timer of a link stops

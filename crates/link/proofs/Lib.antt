@@ -7,3 +7,4 @@ pub mod Lanes
 pub mod Naming
 pub mod Periods
 pub mod SequenceExamples
+pub mod PeriodExamples

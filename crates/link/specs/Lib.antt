@@ -9,3 +9,4 @@ pub mod Naming
 pub mod Periods
 pub mod Faults
 pub mod SequenceExamples
+pub mod PeriodExamples

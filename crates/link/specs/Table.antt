@@ -10,7 +10,7 @@ use Rattle.link.specs.declared.action.LinkTimer.TheVariants.{L1, L2, L3, L4, L6,
 use Rattle.link.specs.declared.action.Input.{Input}
 use Rattle.link.specs.declared.action.Input.TheVariants.{Status, UserData, Expiry}
 use Rattle.link.specs.declared.period.Period.{Period}
-use Rattle.link.specs.declared.period.Period.TheVariants.{Fixed, Normal, Emergency}
+use Rattle.link.specs.declared.period.Period.TheVariants.{Fixed, Normal, Hurried, Emergency}
 use Rattle.link.specs.declared.action.Action.{Action}
 use Rattle.link.specs.declared.action.Action.TheVariants.{Ignored, Fail, Go}
 use Rattle.link.specs.declared.action.Transition.{Transition}
@@ -40,10 +40,11 @@ pub record Cell : Type 0 where
 abbrev pub cell : Alignment → Input → Effect → Cell
 cell state input effect = record { state = state; input = input; effect = effect }
 
--- the status by which a link asks to be proved (Q.703 §7.2)
+-- the status by which a link asks to be proved: by its own period, whatever the peer asks for (Q.703 §7.2)
 abbrev pub proving_status : Period → LinkStatus
 proving_status Fixed = ProvingNormal
 proving_status Normal = ProvingNormal
+proving_status Hurried = ProvingNormal
 proving_status Emergency = ProvingEmergency
 
 -- the peer asks for emergency proving while a link is proved: normal proving ends, and emergency proving begins
@@ -51,12 +52,14 @@ proving_status Emergency = ProvingEmergency
 abbrev pub hurrying : Period → (ready : Bool) → Effect
 hurrying Fixed ready = Passes
 hurrying Normal ready = Enters (Proving ready) None (Some L4)
+hurrying Hurried ready = Passes
 hurrying Emergency ready = Passes
 
 -- the peer aligns anew while a link is proved (Q.703 §7.3)
 abbrev pub beginning_again : Period → Effect
 beginning_again Fixed = Passes
 beginning_again Normal = BeginsAgain
+beginning_again Hurried = BeginsAgain
 beginning_again Emergency = BeginsAgain
 
 -- by the period before the input
@@ -146,10 +149,12 @@ timer_of (Proving ready) = Some L4
 timer_of AlignedReady = Some L1
 timer_of InService = None
 
--- the period after an input: either end's wish for emergency proving makes both use it (Q.703 §7.3)
+-- the period after an input: either end's wish for emergency proving makes both use it (Q.703 §7.3). A peer that
+-- aligns anew says again what it wishes
 abbrev pub period_after : Period → Input → Period
 period_after Fixed input = Fixed
-period_after Normal input = if is_same_input input (Status ProvingEmergency) then Emergency else Normal
+period_after Normal input = if is_same_input input (Status ProvingEmergency) then Hurried else Normal
+period_after Hurried input = if is_same_input input (Status AlignmentStatus) then Normal else Hurried
 period_after Emergency input = Emergency
 
 -- entering a state stops the timer of the state before

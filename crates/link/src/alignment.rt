@@ -170,9 +170,9 @@ fn hurry(ready: bool, period: Period) -> Action
     let here = Alignment::Proving { ready };
     match period {
         Period::Normal => {
-            Action::Go(here.enter(here, Period::Emergency, None, Some(LinkTimer::L4)))
+            Action::Go(here.enter(here, Period::Hurried, None, Some(LinkTimer::L4)))
         }
-        Period::Fixed | Period::Emergency => Action::Ignored,
+        Period::Fixed | Period::Hurried | Period::Emergency => Action::Ignored,
     }
 }
 
@@ -181,11 +181,12 @@ fn begin_again(ready: bool, period: Period) -> Action
     ensures { result ≡ action_at period (Alignment.Proving ready) (Input.Status LinkStatus.Alignment) }
 {
     let here = Alignment::Proving { ready };
-    let proving = Some(period.status());
+    let after = period.after(Input::Status(LinkStatus::Alignment));
+    let proving = Some(after.status());
     match period {
         Period::Fixed => Action::Ignored,
-        Period::Normal | Period::Emergency => {
-            let step = here.enter(Alignment::Aligned, period, proving, Some(LinkTimer::L3));
+        Period::Normal | Period::Hurried | Period::Emergency => {
+            let step = here.enter(Alignment::Aligned, after, proving, Some(LinkTimer::L3));
             Action::Go(step.begin_anew())
         }
     }

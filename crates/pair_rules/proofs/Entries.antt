@@ -79,7 +79,7 @@ leads-by period later None a input step up f e = absurd cc
 leads-by period later (Some Fails) a input step up f e = absurd cc
 leads-by period later (Some Remembers) a input step up f e = sym (ap (λ (x : Action). is_down (state_in x)) e)
 leads-by period later (Some (Enters state sent started)) a input step up f e =
-    sym (ap (λ (x : Action). is_down (state_in x)) e) ∙ not-so (is_down state) (found-up (table period) a input (Enters state sent started) (in-all (λ (x : Cell). leads_up x.effect) period (record { fixed = refl; normal = refl; emergency = refl })) f)
+    sym (ap (λ (x : Action). is_down (state_in x)) e) ∙ not-so (is_down state) (found-up (table period) a input (Enters state sent started) (in-all (λ (x : Cell). leads_up x.effect) period (record { fixed = refl; normal = refl; hurried = refl; emergency = refl })) f)
 leads-by period later (Some EntersServing) a input step up f e = sym (ap (λ (x : Action). is_down (state_in x)) e)
 leads-by period later (Some BeginsAgain) a input step up f e = sym (ap (λ (x : Action). is_down (state_in x)) e)
 leads-by period later (Some Passes) a input step up f e = absurd cc
@@ -95,7 +95,7 @@ heard-by period later None a input step up f e = absurd cc
 heard-by period later (Some Fails) a input step up f e = absurd cc
 heard-by period later (Some Remembers) a input step up f e = sym (ap (λ (x : Action). is_heard (state_in x)) e)
 heard-by period later (Some (Enters state sent started)) a input step up f e =
-    sym (ap (λ (x : Action). is_heard (state_in x)) e) ∙ found-heard (table period) a input (Enters state sent started) (in-all (λ (x : Cell). enters_heard x.effect) period (record { fixed = refl; normal = refl; emergency = refl })) f
+    sym (ap (λ (x : Action). is_heard (state_in x)) e) ∙ found-heard (table period) a input (Enters state sent started) (in-all (λ (x : Cell). enters_heard x.effect) period (record { fixed = refl; normal = refl; hurried = refl; emergency = refl })) f
 heard-by period later (Some EntersServing) a input step up f e = sym (ap (λ (x : Action). is_heard (state_in x)) e)
 heard-by period later (Some BeginsAgain) a input step up f e = sym (ap (λ (x : Action). is_heard (state_in x)) e)
 heard-by period later (Some Passes) a input step up f e = absurd cc

@@ -87,7 +87,7 @@ fn paced(period: Period, ticks: TimerTicks) -> TimerTicks
 {
     match period {
         Period::Fixed | Period::Normal => ticks,
-        Period::Emergency => TimerTicks {
+        Period::Hurried | Period::Emergency => TimerTicks {
             l4: ticks.l4e.unwrap_or(ticks.l4),
             ..ticks
         },
