@@ -14,6 +14,9 @@ from pathlib import Path
 from harness import PATIENCE, ROOT, STP, NodeTest, free_port, links_between, run, settings, wait_until
 
 PACKAGING = ROOT / "packaging"
+KILLED = "stpd: the node doesn't stop, and is killed"
+# What a shell adds to the number of the signal that ended a process.
+SHELL_SIGNALLED = 128
 
 
 def helped() -> list[tuple[str, str]]:
@@ -81,6 +84,15 @@ class Wrapper(NodeTest):
         os.killpg(wrapper.pid, signal.SIGINT)
         self.assertEqual(wrapper.wait(PATIENCE), 0)
         self.assertTrue(self.log().endswith(" stop\n"), self.log())
+
+    def test_a_node_that_is_paused(self) -> None:
+        """A node that doesn't end, though its console takes the line, is killed."""
+        wrapper = self.started()
+        children = Path(f"/proc/{wrapper.pid}/task/{wrapper.pid}/children")
+        os.kill(int(children.read_text()), signal.SIGSTOP)
+        wrapper.send_signal(signal.SIGTERM)
+        self.assertEqual(wrapper.wait(PATIENCE), SHELL_SIGNALLED + signal.SIGKILL)
+        self.assertIn(f"{KILLED}\n", self.log())
 
     def test_the_status_of_the_node(self) -> None:
         (self.folder / "node.toml").write_text(self.text.replace("own = 1", "own = -1"))
