@@ -8,6 +8,7 @@ import shutil
 import socket
 import stat
 import subprocess
+import threading
 import unittest
 from typing import Any, Iterator
 
@@ -19,7 +20,22 @@ FLAGS = "flag lost_any 0\nflag late_any 0\n"
 QUESTIONS = 6000
 HELP_LINES = 19
 MOST_CALLERS = 16
+LINE_OCTETS = 8300
 NOBODY = 65534
+UNANSWERED = "the connection ended before all was answered"
+
+# Lines, what a console answers them before it ends the connection, and the status. What is shown, and news, answer no
+# line that always has an answer.
+ANSWERS = (
+    ("users\nusers", "handled\nhandled\n", 0),
+    ("users\nusers\n", "handled\n", FAILED),
+    ("users\nshow flags\n# nothing\n\n\r\nshow\n", f"handled\n{FLAGS}{MALFORMED}\n", REFUSED),
+    ("users\nwatch\n", "handled\nlocal e0 850240001001001000\nhandled\nrefused 6 NoUserPart e0\n", 0),
+    ("users\nwatch\n", "handled\nlocal e0 850240001001001000\nrefused 6 NoUserPart e0\n", FAILED),
+    ("submit 8502\nhelp\n", "queued e0\n", FAILED),
+    ("submit 8502\nusers\n", "refused 2 NoLabel\n", FAILED),
+    ("watch\nstop\nusers\n", "handled\nstopping\nfailed e0 operator\n", 0),
+)
 
 
 class LoneTest(NodeTest):
@@ -131,7 +147,41 @@ class Tell(LoneTest):
             with self.subTest(answer), self.answering(node, answer, reads) as teller:
                 printed, said = teller.communicate(timeout=PATIENCE)
                 self.assertEqual((teller.returncode, printed), (FAILED, answer.decode()))
-                self.assertEqual(said, f"{node.console}: the connection ended before the answer\n")
+                self.assertEqual(said, f"{node.console}: {UNANSWERED}\n")
+
+    def test_answers_that_are_missing(self) -> None:
+        node = self.at_a_socket()
+        for text, answer, status in ANSWERS:
+            with self.subTest(text, answer=answer), socket.socket(socket.AF_UNIX) as listener:
+                listener.bind(str(node.console))
+                listener.listen()
+                console = threading.Thread(target=self.answer_all, args=(listener, answer))
+                console.start()
+                told = run("tell", "node.toml", folder=node.folder, text=text)
+                console.join()
+                os.unlink(str(node.console))
+                self.assertEqual((told.returncode, told.stdout), (status, answer))
+                self.assertEqual(told.stderr, f"{node.console}: {UNANSWERED}\n" if status == FAILED else "")
+
+    @staticmethod
+    def answer_all(listener: socket.socket, answer: str) -> None:
+        """Is a console that answers this once its caller has written all."""
+        connection, _ = listener.accept()
+        with connection:
+            while connection.recv(4096):
+                pass
+            connection.sendall(answer.encode())
+
+    def test_a_line_that_is_too_long(self) -> None:
+        """It ends the connection, whatever was answered before it."""
+        long = "x" * (LINE_OCTETS + 1)
+        for node in (self.lone(), self.at_a_socket()):
+            node.start()
+            place = f"{HOST}:{node.console}" if isinstance(node.console, int) else node.console
+            for front, answer in (("", ""), ("users\n", "handled\n"), ("activate e9\n", "refused 22 NoSuchName\n")):
+                told = run("tell", "node.toml", folder=node.folder, text=f"{front}{long}\nusers\n")
+                self.assertEqual((told.returncode, told.stdout), (FAILED, answer))
+                self.assertEqual(told.stderr, f"{place}: {UNANSWERED}\n")
 
     @contextlib.contextmanager
     def answering(self, node: Node, answer: bytes, reads: bool) -> Iterator[subprocess.Popen]:

@@ -1,1 +1,4 @@
 pub mod Answering
+pub mod Sending
+pub mod Calling
+pub mod Laws

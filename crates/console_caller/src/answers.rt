@@ -1,7 +1,9 @@
 //! What the answers of a console say.
 
 ghost use Rattle.std.specs.Prelude.{◌≡◌};
-ghost use Rattle.console_caller.specs.Answering.{is_refusal, is_refused_outcome, starts_with, blanks, has_answer};
+ghost use Rattle.console_caller.specs.Answering.{is_answer, is_deed, is_last, is_malformed, is_no_place, is_refusal};
+ghost use Rattle.console_caller.specs.Answering.{is_refused_outcome, is_queued_outcome, is_stopping};
+ghost use Rattle.console_caller.specs.Answering.{blanks, counted_if};
 ghost use Rattle.console_caller.specs.Answering.{nothing, ended, read_octet, read, verdict};
 
 use crate::fault::CallFault;
@@ -14,6 +16,9 @@ const FRONT_OCTETS: usize = 64;
 /// The blanks of an outcome that is a refusal: before its number, and before its name. A notice has one more, before
 /// the name of a link.
 const REFUSAL_BLANKS: usize = 2;
+
+/// The blanks of the outcome of a message that is queued: before the name of the link.
+const QUEUED_BLANKS: usize = 1;
 
 /// What a console made of the lines.
 #[derive(Clone, Copy, PartialEq, Eq)]
@@ -29,9 +34,10 @@ pub enum Told {
 pub(crate) struct Answers {
     front: ArrayVec<u8, FRONT_OCTETS>,
     is_within_line: bool,
-    has_any: bool,
+    is_first: bool,
+    answers: u64,
     is_refused: bool,
-    has_stopped: bool,
+    has_closed: bool,
 }
 
 impl Model for Answers {
@@ -42,9 +48,10 @@ impl Model for Answers {
     ghost view = { λ a. record {
       front = a.front.items;
       is_within_line = a.is_within_line;
-      has_any = a.has_any;
+      is_first = a.is_first;
+      answers = a.answers;
       is_refused = a.is_refused;
-      has_stopped = a.has_stopped;
+      has_closed = a.has_closed;
     } };
 }
 
@@ -56,9 +63,10 @@ impl Answers {
         Answers {
             front: ArrayVec::new(),
             is_within_line: false,
-            has_any: false,
+            is_first: true,
+            answers: 0,
             is_refused: false,
-            has_stopped: false,
+            has_closed: false,
         }
     }
 
@@ -74,7 +82,6 @@ impl Answers {
     fn read_octet(&mut self, octet: u8)
         ensures { self.new ≡ read_octet octet self.old }
     {
-        self.has_any = true;
         if octet == b'\n' {
             self.end_line();
             return;
@@ -89,29 +96,49 @@ impl Answers {
     fn end_line(&mut self)
         ensures { self.new ≡ ended self.old }
     {
+        self.answers = counted_if(is_answer(self.front.as_slice()), self.answers);
         self.is_refused = self.is_refused || is_refusal(self.front.as_slice());
-        self.has_stopped = self.front.as_slice() == b"stopping".as_slice();
+        self.has_closed = self.has_closed || is_last(self.is_first, self.front.as_slice());
         self.is_within_line = false;
+        self.is_first = false;
         self.front.clear();
     }
 
-    /// What came of a call whose connection ended, after all was written or before that, for a line that always has an
-    /// answer or for others.
+    /// What came of a call whose connection ended, after all was written or before that, where this many answers were
+    /// due.
     ///
-    /// Lost if the answers aren't whole, unless they say that something wasn't done, or that the node stops.
-    pub(crate) fn verdict(&self, is_whole: bool, has_answer: bool) -> Result<Told, CallFault>
-        ensures { result ≡ verdict is_whole has_answer self.now }
+    /// Lost if the answers aren't whole or too few, unless the console closes the connection behind one of them.
+    pub(crate) fn verdict(&self, is_whole: bool, due: u64) -> Result<Told, CallFault>
+        ensures { result ≡ verdict is_whole due self.now }
     {
-        if self.is_refused {
-            return Ok(Told::Refused);
+        let is_complete = is_whole && !self.is_within_line && due <= self.answers;
+        if !self.has_closed && !is_complete {
+            return Err(CallFault::Lost);
         }
-        let is_complete = is_whole && !self.is_within_line && (self.has_any || !has_answer);
-        if self.has_stopped || is_complete {
-            Ok(Told::Done)
+        if self.is_refused {
+            Ok(Told::Refused)
         } else {
-            Err(CallFault::Lost)
+            Ok(Told::Done)
         }
     }
+}
+
+/// A count, and one more if there is one.
+pub(crate) fn counted_if(is_one: bool, count: u64) -> u64
+    ensures { result ≡ counted_if is_one count }
+{
+    if is_one {
+        count.saturating_add(1)
+    } else {
+        count
+    }
+}
+
+/// Whether a line is the answer to one that always has an answer. What is shown, and news, are none.
+fn is_answer(line: &[u8]) -> bool
+    ensures { result ≡ is_answer line.now }
+{
+    is_refusal(line) || is_deed(line)
 }
 
 /// Whether an answer says that something wasn't done: the line was malformed, the node refused or ignored it, or there
@@ -120,37 +147,65 @@ fn is_refusal(line: &[u8]) -> bool
     ensures { result ≡ is_refusal line.now }
 {
     line == b"ignored".as_slice()
-        || starts_with(line, b"malformed")
-        || starts_with(line, b"no place")
+        || is_malformed(line)
+        || is_no_place(line)
         || is_refused_outcome(line)
+}
+
+/// Whether an answer says that something was done, or that it begins; of the answer to `help` that is the first line.
+fn is_deed(line: &[u8]) -> bool
+    ensures { result ≡ is_deed line.now }
+{
+    line == b"handled".as_slice()
+        || line == b"held".as_slice()
+        || line == b"local".as_slice()
+        || is_stopping(line)
+        || line == b"help                      these lines".as_slice()
+        || is_queued_outcome(line)
+}
+
+/// Whether the console closes the connection behind an answer, which is the first line that came or isn't: the node
+/// stops or has no place for the caller, or the caller's first line is malformed.
+fn is_last(is_first: bool, line: &[u8]) -> bool
+    ensures { result ≡ is_last is_first line.now }
+{
+    is_stopping(line) || is_no_place(line) || is_first && is_malformed(line)
+}
+
+fn is_malformed(line: &[u8]) -> bool
+    ensures { result ≡ is_malformed line.now }
+{
+    line == b"malformed: help lists the lines".as_slice()
+}
+
+fn is_no_place(line: &[u8]) -> bool
+    ensures { result ≡ is_no_place line.now }
+{
+    line.starts_with(b"no place: ")
+}
+
+fn is_stopping(line: &[u8]) -> bool
+    ensures { result ≡ is_stopping line.now }
+{
+    line == b"stopping".as_slice()
 }
 
 /// Whether a line is an outcome `refused NUMBER NAME`, and no notice.
 fn is_refused_outcome(line: &[u8]) -> bool
     ensures { result ≡ is_refused_outcome line.now }
 {
-    starts_with(line, b"refused ") && blanks(line) == REFUSAL_BLANKS
+    line.starts_with(b"refused ") && blanks(line) == REFUSAL_BLANKS
 }
 
-/// Whether a line begins with this.
-fn starts_with(line: &[u8], front: &[u8]) -> bool
-    ensures { result ≡ starts_with line.now front.now }
+/// Whether a line is an outcome `queued LINK`, and no frame in words of a link of this name.
+fn is_queued_outcome(line: &[u8]) -> bool
+    ensures { result ≡ is_queued_outcome line.now }
 {
-    line.len() >= front.len() && &line[..front.len()] == front
+    line.starts_with(b"queued ") && blanks(line) == QUEUED_BLANKS
 }
 
 fn blanks(line: &[u8]) -> usize
     ensures { result ≡ blanks line.now }
 {
     line.iter().filter(|octet| **octet == b' ').count()
-}
-
-/// Whether a line always has an answer: it isn't empty, no remark, and shows nothing, of which there may be none.
-pub(crate) fn has_answer(line: &[u8]) -> bool
-    ensures { result ≡ has_answer line.now }
-{
-    !line.is_empty()
-        && !starts_with(line, b"\n")
-        && !starts_with(line, b"#")
-        && !starts_with(line, b"show ")
 }

@@ -1,6 +1,10 @@
 //! Calling a console.
 
-use crate::answers::{Answers, Told, has_answer};
+ghost use Rattle.std.specs.Prelude.{◌≡◌, false, IfOk};
+ghost use Rattle.console_caller.specs.Answering.{nothing};
+ghost use Rattle.console_caller.specs.Calling.{is_write_failed, Calls};
+
+use crate::answers::{Answers, Told};
 use crate::conversation::{CONNECTION, Conversation, is_input_told};
 use crate::fault::CallFault;
 use crate::outgoing::Outgoing;
@@ -16,28 +20,32 @@ use std::{io, net};
 const EVENTS: usize = 2;
 
 /// Calls the console at this place, writes it these words as one line, or what the reader gives if there are none, and
-/// prints what it answers. Then it ends its half, so that the console closes the connection after the last answer; a
-/// node that stops does so when its work is done.
+/// prints what it answers, as it comes. Then it ends its half, so that the console closes the connection after the last
+/// answer; a node that stops does so when its work is done.
 ///
-/// Connect if nobody answers there. Lost if the connection breaks, ends within a line or before all was written, or,
-/// for words that always have an answer, ends without one; but not after an answer that says that something wasn't
-/// done, or that the node stops.
+/// Connect if nobody answers there. Lost if the connection breaks, ends within a line or before all was written, or
+/// ends before each line that always has an answer was answered; but not behind an answer that closes it, since the
+/// node stops, has no place for this caller, or can't read its first line. What came before an error was printed; after
+/// Write the first octets of it, however many.
 pub fn call<R: Source, W: Sink>(
     rt: &HostRuntime,
     place: ConsolePlace<'_>,
     words: &[String],
     reader: &mut R,
     writer: &mut W,
-) -> Result<Told, CallFault> {
+) -> Result<Told, CallFault>
+    ensures { Calls words.now (R.input reader.old).remaining result (W.output writer.old) (W.output writer.new) }
+{
     let outgoing = Outgoing::new(rt.alloc(), words)?;
-    let is_answered = has_answer(outgoing.pending());
     let stream = match connected(rt, place) {
         Ok(stream) => stream,
         Err(error) => return Err(CallFault::Connect(error.kind())),
     };
     let mut conversation = begun(rt, stream, outgoing)?;
     let is_whole = conversation.run(reader, writer)?;
-    conversation.answers.verdict(is_whole, is_answered)
+    conversation
+        .answers
+        .verdict(is_whole, conversation.outgoing.due())
 }
 
 /// A connection to a console. Its reads and writes wait for nobody.
@@ -61,7 +69,11 @@ fn begun(
     rt: &HostRuntime,
     mut stream: ConsoleStream,
     outgoing: Outgoing,
-) -> Result<Conversation, CallFault> {
+) -> Result<Conversation, CallFault>
+    ensures answers { IfOk result (λ conversation. conversation.answers ≡ nothing) }
+    ensures outgoing { IfOk result (λ conversation. conversation.outgoing ≡ outgoing) }
+    ensures quiet { is_write_failed result ≡ false }
+{
     let events = Events::with_capacity(rt.alloc(), EVENTS)?;
     let Ok(poll) = Poll::new(rt) else {
         return Err(CallFault::Poll);
@@ -81,6 +93,5 @@ fn begun(
         can_read: true,
         can_write: true,
         has_ended_writing: false,
-        has_failed: false,
     })
 }

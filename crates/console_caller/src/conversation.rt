@@ -1,5 +1,9 @@
 //! A conversation with a console: the connection, what is written to it, and what was answered.
 
+ghost use Rattle.std.specs.Prelude.{◌≡◌, ℕ, List, true, false, OnOk, Ok, Some};
+ghost use Rattle.console_caller.specs.Calling.{is_write_failed, Comes};
+ghost use Rattle.console_caller.specs.Sending.{IsOwed};
+
 use crate::answers::Answers;
 use crate::fault::CallFault;
 use crate::outgoing::Outgoing;
@@ -35,17 +39,21 @@ pub(crate) struct Conversation {
     pub(crate) can_read: bool,
     pub(crate) can_write: bool,
     pub(crate) has_ended_writing: bool,
-    /// Whether a write failed, so that not all was written.
-    pub(crate) has_failed: bool,
 }
 
 impl Conversation {
-    /// Writes and reads until the connection ends. False if it broke.
+    /// Writes and reads until the connection ends. Whether all was written by then; false also if it broke.
     pub(crate) fn run<R: Source, W: Sink>(
         &mut self,
         reader: &mut R,
         writer: &mut W,
-    ) -> Result<bool, CallFault> {
+    ) -> Result<bool, CallFault>
+        ensures came { (came : List ℕ) × Comes (is_write_failed result) came self.old.answers self.new.answers
+            (W.output writer.old) (W.output writer.new) }
+        ensures owed { OnOk result (IsOwed (R.input reader.old).remaining (R.input reader.new).remaining
+            self.old.outgoing self.new.outgoing) }
+        ensures whole { result ≡ Ok true → self.new.outgoing.has_ended ≡ true }
+    {
         for _ in 0..u64::MAX {
             self.take_input(reader)?;
             self.write();
@@ -58,7 +66,12 @@ impl Conversation {
     }
 
     /// Reads further lines, if all was written so far and there are some.
-    fn take_input<R: Source>(&mut self, reader: &mut R) -> Result<(), CallFault> {
+    fn take_input<R: Source>(&mut self, reader: &mut R) -> Result<(), CallFault>
+        ensures quiet { is_write_failed result ≡ false }
+        ensures answers { self.new.answers ≡ self.old.answers }
+        ensures owed { OnOk result (IsOwed (R.input reader.old).remaining (R.input reader.new).remaining
+            self.old.outgoing self.new.outgoing) }
+    {
         if !self.is_input_ready || !self.outgoing.wants_more() {
             return Ok(());
         }
@@ -70,7 +83,10 @@ impl Conversation {
     }
 
     /// Makes one write of what waits; once nothing more follows, ends the half that writes.
-    fn write(&mut self) {
+    fn write(&mut self)
+        ensures answers { self.new.answers ≡ self.old.answers }
+        ensures outgoing { self.new.outgoing ≡ self.old.outgoing }
+    {
         if self.outgoing.is_done() {
             self.end_writing();
         } else if self.can_write && !self.outgoing.pending().is_empty() {
@@ -78,7 +94,10 @@ impl Conversation {
         }
     }
 
-    fn end_writing(&mut self) {
+    fn end_writing(&mut self)
+        ensures answers { self.new.answers ≡ self.old.answers }
+        ensures outgoing { self.new.outgoing ≡ self.old.outgoing }
+    {
         if !self.has_ended_writing {
             self.has_ended_writing = true;
             let _ended = self.stream.end_writing();
@@ -86,21 +105,26 @@ impl Conversation {
     }
 
     /// Makes one write. If it fails, the answers to what was written before may still come.
-    fn write_once(&mut self) {
+    fn write_once(&mut self)
+        ensures answers { self.new.answers ≡ self.old.answers }
+        ensures outgoing { self.new.outgoing ≡ self.old.outgoing }
+    {
         match self.stream.write(self.outgoing.pending()) {
             Progress::Octets(count) => self.outgoing.written(count),
             Progress::Later => self.can_write = false,
             Progress::Again => {}
-            Progress::End | Progress::Failed => {
-                self.has_failed = true;
-                self.outgoing.give_up();
-            }
+            Progress::End | Progress::Failed => self.outgoing.give_up(),
         }
     }
 
     /// Makes one read, and prints what came. None unless the connection ended; false if it broke, or ended before all
     /// was written.
-    fn read<W: Sink>(&mut self, writer: &mut W) -> Result<Option<bool>, CallFault> {
+    fn read<W: Sink>(&mut self, writer: &mut W) -> Result<Option<bool>, CallFault>
+        ensures came { (came : List ℕ) × Comes (is_write_failed result) came self.old.answers self.new.answers
+            (W.output writer.old) (W.output writer.new) }
+        ensures outgoing { self.new.outgoing ≡ self.old.outgoing }
+        ensures whole { result ≡ Ok (Some true) → self.new.outgoing.has_ended ≡ true }
+    {
         if !self.can_read {
             return Ok(None);
         }
@@ -115,12 +139,16 @@ impl Conversation {
                 Ok(None)
             }
             Progress::Again => Ok(None),
-            Progress::End => Ok(Some(self.has_ended_writing && !self.has_failed)),
+            Progress::End => Ok(Some(self.outgoing.is_whole())),
             Progress::Failed => Ok(Some(false)),
         }
     }
 
-    fn print<W: Sink>(&mut self, octets: &[u8], writer: &mut W) -> Result<(), CallFault> {
+    fn print<W: Sink>(&mut self, octets: &[u8], writer: &mut W) -> Result<(), CallFault>
+        ensures outgoing { self.new.outgoing ≡ self.old.outgoing }
+        ensures came { Comes (is_write_failed result) octets.now self.old.answers self.new.answers
+            (W.output writer.old) (W.output writer.new) }
+    {
         self.answers.read(octets);
         match writer.write(octets) {
             Ok(()) => Ok(()),
@@ -137,7 +165,11 @@ impl Conversation {
     }
 
     /// Waits until there is something to do.
-    fn wait(&mut self) -> Result<(), CallFault> {
+    fn wait(&mut self) -> Result<(), CallFault>
+        ensures quiet { is_write_failed result ≡ false }
+        ensures answers { self.new.answers ≡ self.old.answers }
+        ensures outgoing { self.new.outgoing ≡ self.old.outgoing }
+    {
         if self.is_busy() {
             return Ok(());
         }

@@ -1,5 +1,7 @@
 //! Why a console wasn't told everything, or its answers weren't read.
 
+ghost use Rattle.std.specs.Prelude.{◌≡◌};
+
 use std::alloc::{AllocError, AllocFailed};
 use std::io::ErrorKind;
 
@@ -16,17 +18,25 @@ pub enum CallFault {
     Read,
     /// A write of the answers failed.
     Write,
-    /// The connection ended before the answer.
+    /// The connection ended before all was answered.
     Lost,
 }
 
 impl From<AllocError> for CallFault {
+    ghost use Rattle.console_caller.specs.declared.fault.CallFault.TheVariants.{NoMemory};
+
+    ghost from_gives = { λ _ fault. fault ≡ NoMemory };
+
     fn from(_error: AllocError) -> CallFault {
         CallFault::NoMemory
     }
 }
 
 impl<T: Drop> From<AllocFailed<T>> for CallFault {
+    ghost use Rattle.console_caller.specs.declared.fault.CallFault.TheVariants.{NoMemory};
+
+    ghost from_gives = { λ _ fault. fault ≡ NoMemory };
+
     fn from(_error: AllocFailed<T>) -> CallFault {
         CallFault::NoMemory
     }

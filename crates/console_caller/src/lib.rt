@@ -5,7 +5,9 @@ pub mod answers;
 mod calling;
 mod conversation;
 pub mod fault;
+pub mod laws;
 mod outgoing;
+mod written;
 
 pub use answers::Told;
 pub use calling::call;

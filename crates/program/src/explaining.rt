@@ -223,7 +223,7 @@ pub(crate) fn explain_call<E: Sink>(
             tell_made(text, errors);
         }
         CallFault::Lost => {
-            let text = format!(in alloc; "{place}: the connection ended before the answer\n");
+            let text = format!(in alloc; "{place}: the connection ended before all was answered\n");
             tell_made(text, errors);
         }
         CallFault::Poll => tell(NO_POLL.as_bytes(), errors),

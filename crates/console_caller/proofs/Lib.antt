@@ -1,0 +1,4 @@
+mod Called
+mod Coming
+mod Owing
+mod Read
