@@ -1,9 +1,10 @@
-"""Nodes that end and come back, and nodes that are paused."""
+"""Nodes that end and come back, nodes that are paused, and what is lost as one stops."""
 
 import signal
 import time
 
 from harness import Node, NodeTest, wait_until
+from test_sctp import SctpPair
 from traffic import Flowing, Pair
 
 MESSAGES = 200
@@ -60,3 +61,17 @@ class Pauses(NodeTest):
         node.signal(signal.SIGCONT)
         flowing.take_answers(wanted)
         flowing.settle()
+
+
+class Stops(NodeTest):
+    def test_what_a_node_kept(self) -> None:
+        """The log counts the messages that end with the node, if there are some."""
+        for pair in (Pair(self), SctpPair(self)):
+            pair.far.signal(signal.SIGSTOP)
+            pair.forth.submit(MESSAGES)
+            pair.near.stop()
+            self.assertEqual(pair.near.logged(f"kept {MESSAGES}$"), 1)
+            self.assertRegex(pair.near.log()[-2], " kept ")
+            pair.far.signal(signal.SIGCONT)
+            pair.far.stop()
+            self.assertEqual(pair.far.logged("kept "), 0)

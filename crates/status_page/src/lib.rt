@@ -6,7 +6,7 @@ mod counted;
 pub mod family;
 pub mod labels;
 mod link_state;
-mod measuring;
+pub mod measuring;
 mod members;
 pub mod metric;
 mod metrics;
@@ -16,4 +16,5 @@ mod state;
 pub mod text;
 
 pub use content::StatusPage;
+pub use measuring::kept_messages;
 pub use noticed::{NoticeKind, NoticeLog};

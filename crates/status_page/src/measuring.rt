@@ -48,7 +48,7 @@ pub(crate) fn held_users(exchange: &Exchange) -> u64
 
 /// How many user messages the node keeps, as its pool counts them: of each link those that aren't confirmed, and those
 /// that are held. It looks at each of them once.
-pub(crate) fn kept_messages(exchange: &Exchange) -> u64
+pub fn kept_messages(exchange: &Exchange) -> u64
     ensures { result ≡ kept_messages kept exchange.now }
 {
     held_users(exchange).saturating_add(users_on_links(exchange))

@@ -2,6 +2,7 @@
 
 mod opening;
 mod showing;
+mod stopping;
 mod waiting;
 
 use exchange::{Event, Exchange};
@@ -115,15 +116,6 @@ impl Server {
         self.node.observers.clients.listener.mark();
         if let Some(page) = &mut self.page {
             page.mark_listener();
-        }
-    }
-
-    /// Its associations over SCTP end by ABORT, and what was captured goes out.
-    pub fn stop<W: Sink>(&mut self, now: Duration, log: &mut W) {
-        let mut log = Log { sink: log, now };
-        if let Some(sctp) = &mut self.sctp {
-            sctp.close(&mut self.node, &mut log);
-            self.node.observers.flush_capture(&mut log);
         }
     }
 
