@@ -190,7 +190,9 @@ both-reached =
 
 pub both-in-order : BothComeInOrder
 both-in-order = record {
-  of_flow = refl;
+  same_flow = refl;
+  flow_accepted = ap (λ (s : Shown). of_flow (flow_of the_message) s.accepted) third-is;
+  flow_comes = ap (λ (s : Shown). s.of_its_flow) far-is;
   accepted = ap (λ (s : Shown). s.accepted) third-is;
   comes_through = ap (λ (s : Shown). s.come) near-is;
   comes = ap (λ (s : Shown). s.come) far-is;

@@ -1,10 +1,11 @@
 -- The run of `TwoFailures` goes on: the next message of its flow goes the same way. Both come from end to end, in
 -- order.
-use Rattle.std.specs.Prelude.{◌≡◌, List, [], ◌∷◌}
+use Rattle.std.specs.Prelude.{◌≡◌, List, [], ◌∷◌, map}
 use Rattle.signalling_types.specs.Message.{Message, flow_of}
 use Rattle.pair_rules.specs.Pairs.{Submits, Takes, Delivers}
+use Rattle.pair_rules.specs.Promises.{of_flow}
 use Rattle.neighbour_rules.specs.ThirdNode.{the_message}
-use Rattle.network_rules.specs.Networks.{Arrival, NetworkState, after_steps}
+use Rattle.network_rules.specs.Networks.{Arrival, NetworkNode, NetworkState, after_steps}
 use Rattle.network_rules.specs.Paths.{ComesInOrder, EachOnlyPasses}
 use Rattle.network_rules.specs.Hops.{AreOpenHops}
 use Rattle.network_rules.specs.TwoFailures.{come, done_at, fourth_line, row, second_line, sends, users_come}
@@ -29,12 +30,19 @@ both_come = after_steps (sends fourth_line) passed
 
 -- ---- and what they show
 
+-- all messages that came to a node
+abbrev pub messages_come : NetworkNode → List Message
+messages_come x = map (λ a. a.message) x.arrived
+
 abbrev pub both_arrivals : List Arrival
 both_arrivals = record { link = 1; message = the_message } ∷ record { link = 1; message = the_next } ∷ []
 
 pub record BothComeInOrder : Type 0 where
-  pub of_flow : flow_of the_next ≡ flow_of the_message
-  -- point 3 accepted both, and they came to points 1 and 2, in this order
+  pub same_flow : flow_of the_next ≡ flow_of the_message
+  -- both are what their flow has: point 3 accepted them, and they came to point 2, in this order
+  pub flow_accepted : of_flow (flow_of the_message) (both_come.node 3).accepted ≡ the_message ∷ the_next ∷ []
+  pub flow_comes : of_flow (flow_of the_message) (messages_come (both_come.node 2)) ≡ the_message ∷ the_next ∷ []
+  -- they are all user messages that point 3 accepted, and that came to points 1 and 2
   pub accepted : (both_come.node 3).accepted ≡ the_message ∷ the_next ∷ []
   pub comes_through : users_come (both_come.node 1) ≡ both_arrivals
   pub comes : users_come (both_come.node 2) ≡ both_arrivals

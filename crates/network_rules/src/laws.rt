@@ -193,9 +193,9 @@ pub fn a_message_crosses_two_failures()
     ensures { CrossesTwoFailures }
 {}
 
-/// Nor do they hold of one message alone: the run goes on with the next message of the flow, which differs from the
-/// first. Each hop of their path has what the law of paths asks, and both come to each node of it in the order in which
-/// they were accepted.
+/// Nor do they hold of one message alone, or of a flow of none: the run goes on with the next message of the flow,
+/// which differs from the first. Each hop of their path has what the law of paths asks, and both, which are all that
+/// their flow has, come to each node of it in the order in which they were accepted.
 pub fn two_messages_come_in_order()
     ensures { BothComeInOrder }
 {}
