@@ -1,10 +1,10 @@
 -- What leaves the tests of links as they are, where nothing but ticks happens.
 use Rattle.exchange_rules.proofs.Basics.{◌≡◌, ◌≢◌, ◌⊎◌, inl, inr, ℕ, Bool, true, false, List, [], ◌∷◌, Option, Some, None, refl, ap, sym, ◌∙◌, subst, cases_eq, if◌then◌else◌, get_or-set_other}
-use Rattle.exchange_rules.proofs.Definitions.{Message, flow_of, Configuration, FailureReason, ChangeoverTimer, Link, down_link, after_failure, Running, clear_timer, left-clear, left-clear_other, without_timers, RouteStatus, status_of, Owed, owed, Found, Parts, Node, with_parts, link_at, links_with, in_service, facts, link_of, fail, lose_each, judged, concluded, complete_if, changeover_of, with_expiry, told_parts, route_message, may_tell, tell, tell_if, tell_each, tell_owed, ask, ask_by, prohibited_test, restricted_test, with_next_test, go_on, go_by, go, go_each, release, waits, WholeQueues, whole, Allowed, Restricted, Prohibited}
+use Rattle.exchange_rules.proofs.Definitions.{is_led, Message, flow_of, Configuration, FailureReason, ChangeoverTimer, Link, down_link, after_failure, Running, clear_timer, left-clear, left-clear_other, without_timers, RouteStatus, status_of, Owed, owed, Found, Parts, Node, with_parts, link_at, links_with, in_service, facts, link_of, fail, lose_each, judged, concluded, complete_if, changeover_of, with_expiry, told_parts, route_message, may_tell, tell, tell_if, tell_each, tell_owed, ask, ask_by, prohibited_test, restricted_test, with_next_test, go_on, go_by, go, go_each, release, waits, WholeQueues, whole, Allowed, Restricted, Prohibited}
 use Rattle.timers.specs.declared.name.TimerName.TheVariants as name
 use Rattle.signalling_types.specs.declared.notice.ChangeoverTimer.TheVariants as which
 use Rattle.exchange_rules.proofs.Steps.{IsOfSends}
-use Rattle.exchange_rules.proofs.SteppingMessages.{send_routed-steps, send_each-steps}
+use Rattle.exchange_rules.proofs.SteppingMessages.{send_if-steps, send_routed-steps, send_each-steps}
 use Rattle.exchange_rules.proofs.SteppingFailures.{fail-links}
 use Rattle.exchange_rules.proofs.Eased.{settled-eased}
 use Rattle.exchange_rules.proofs.LinkTimes.{Kept, kept-eased, stopped, fails-kept, fails-from}
@@ -90,7 +90,7 @@ module _ (c : Configuration) where
       by which.T2 = refl
 
   asked-links : (m : Message) (set destination : ℕ) (n : Node WholeQueues) → (ask whole c m set destination n).parts.links ≡ n.parts.links
-  asked-links m set destination n = send_routed-steps linked-sends m (with_parts n (with_next_test whole c set destination n.parts))
+  asked-links m set destination n = send_if-steps linked-sends (is_led c m n.parts) m (with_parts n (with_next_test whole c set destination n.parts))
 
   ask-links : (status : Option RouteStatus) (set destination : ℕ) (n : Node WholeQueues) → (ask_by whole c status set destination n).parts.links ≡ n.parts.links
   ask-links (Some Prohibited) set destination n = asked-links (prohibited_test whole c set destination) set destination n

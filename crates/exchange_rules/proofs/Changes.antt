@@ -1,6 +1,6 @@
 -- Rules that make only management, or change no queue: there are as many user messages after each as before.
 use Rattle.exchange_rules.proofs.Basics.{Bool, Err, List, None, Ok, Option, Result, Some, [], false, length, nat_lt, not, refl, suc, true, zero, ℕ, ◌&&◌, ◌∙◌, ◌∷◌, ◌≡◌, if◌then◌else◌}
-use Rattle.exchange_rules.proofs.Definitions.{enters_traffic, is_first_test, pass_test, begun_anew, is_outstanding, managements_of, acts_on, Action, Expiry, Status, LinkTimer, Transition, Queue, appended, LinkStatus, LinkTestValue, MgmtFault, TestKind, Acknowledgement, Test, Management, ChangebackDeclaration, ExtendedChangeoverOrder, RouteSetTestProhibited, RouteSetTestRestricted, Owed, owed, Heard, RouteTest, Facts, status_of, RouteStatus, Allowed, Prohibited, Restricted, Configuration, Message, flow_of, is_management, Cause, FailureReason, FrameFault, Outcome, Handled, Ignored, code_for, code_in_use, declaration, freed, hold_flows, loses_flows, on_changeback_acknowledgement, take_back_each, fail_by_order, send_each, standing, begin, begin_by_peer, change_over, changing, fail, fail_by_peer, has_other, make_unavailable, leave_aside, down, in_service, is_link, link_at, do_kind, do_test, test_answer, management_to, send, send_anew, send_routed, activate, association_down, deactivate, end_association, fail_if_up, set_active, adjacent_of, entry_of, peer_of, point_of, set_of, no_room, queue_on, WholeQueues, queue_at, whole, apply_route_status, ask_again, ask_by, on_route_status, with_next_test, facts, link_of, Done, Node, answer, refuse, with_parts, act_by_status, act_by_timer, advance, enters, moved_on, on_link_status, return_if, run_out, serve_status, answer_no_route, answered_parts, inhibited, is_inhibited, may_tell, on_route_test, prohibit, send_route_status, tell_each, tell_if, tell_owed, telling, told_parts, answer_no_user_part, is_unequipped_told, tell_unavailable, unavailable, unequipped_counted, UserPartUnavailable, Unequipped, opc_of, service_indicator, tells_outage, tells_recovery, begin_outage, hear_outage, end_outage, take_step, test_if, queue_if, send_test, begin_test, repeat_test, test_unanswered, with_test_failed, awaiting_test, link_test, tests_links, passes_test, test_passed}
+use Rattle.exchange_rules.proofs.Definitions.{is_led, ask, enters_traffic, is_first_test, pass_test, begun_anew, is_outstanding, managements_of, acts_on, Action, Expiry, Status, LinkTimer, Transition, Queue, appended, LinkStatus, LinkTestValue, MgmtFault, TestKind, Acknowledgement, Test, Management, ChangebackDeclaration, ExtendedChangeoverOrder, RouteSetTestProhibited, RouteSetTestRestricted, Owed, owed, Heard, RouteTest, Facts, status_of, RouteStatus, Allowed, Prohibited, Restricted, Configuration, Message, flow_of, is_management, Cause, FailureReason, FrameFault, Outcome, Handled, Ignored, code_for, code_in_use, declaration, freed, hold_flows, loses_flows, on_changeback_acknowledgement, take_back_each, fail_by_order, send_each, standing, begin, begin_by_peer, change_over, changing, fail, fail_by_peer, has_other, make_unavailable, leave_aside, down, in_service, is_link, link_at, do_kind, do_test, test_answer, management_to, send, send_anew, send_routed, activate, association_down, deactivate, end_association, fail_if_up, set_active, adjacent_of, entry_of, peer_of, point_of, set_of, no_room, queue_on, WholeQueues, queue_at, whole, apply_route_status, ask_again, ask_by, on_route_status, with_next_test, facts, link_of, Done, Node, answer, refuse, with_parts, act_by_status, act_by_timer, advance, enters, moved_on, on_link_status, return_if, run_out, serve_status, answer_no_route, answered_parts, inhibited, is_inhibited, may_tell, on_route_test, prohibit, send_route_status, tell_each, tell_if, tell_owed, telling, told_parts, answer_no_user_part, is_unequipped_told, tell_unavailable, unavailable, unequipped_counted, UserPartUnavailable, Unequipped, opc_of, service_indicator, tells_outage, tells_recovery, begin_outage, hear_outage, end_outage, take_step, test_if, queue_if, send_test, begin_test, repeat_test, test_unanswered, with_test_failed, awaiting_test, link_test, tests_links, passes_test, test_passed}
 use Rattle.exchange_rules.proofs.OwnManagement.{made-management, answer-management, test-management}
 use Rattle.exchange_rules.proofs.Tallies.{no-user-behind, queue-same}
 use Rattle.link.specs.declared.action.Action.TheVariants as act
@@ -77,7 +77,7 @@ module _ (of : Message → Bool) (c : Configuration) where
   pub answer_no_route-stand : (link destination : Option ℕ) (n : Node WholeQueues) → stands of (answer_no_route whole c link destination n) ≡ stands of n
   answer_no_route-stand (Some link) (Some destination) n =
       let set : ℕ = set_of c link in
-      either-stand (may_tell whole c n && not (is_inhibited set destination n.parts)) (prohibit whole c set destination n) n (stands of n)
+      either-stand (may_tell whole c n && not (is_inhibited set destination n.parts) && is_led c (telling.route_message c set destination Prohibited) n.parts) (prohibit whole c set destination n) n (stands of n)
       (prohibit-stand set destination n) refl
   answer_no_route-stand (Some link) None n = refl
   answer_no_route-stand None destination n = refl
@@ -93,7 +93,10 @@ module _ (of : Message → Bool) (c : Configuration) where
 
   send_route_status-stand : (status : Option RouteStatus) (set destination : ℕ) (n : Node WholeQueues) → stands of (send_route_status whole c status set destination n) ≡ stands of n
   send_route_status-stand (Some status) set destination n =
-      made-stand (adjacent_of c set) (telling.telling status (point_of c destination)) (with_parts n (answered_parts set destination status n.parts))
+      let m : Message = telling.route_message c set destination status in
+      let next : Node WholeQueues = with_parts n (answered_parts set destination status n.parts) in
+      either-stand (is_led c m n.parts) (send_routed whole c m next) n (stands of n)
+      (made-stand (adjacent_of c set) (telling.telling status (point_of c destination)) next) refl
   send_route_status-stand None set destination n = refl
 
   pub on_route_test-stand : (test : RouteTest) (route : Result (ℕ × ℕ) Outcome) (n : Node WholeQueues) → stands of (on_route_test whole c test route n).left ≡ stands of n
@@ -114,11 +117,15 @@ module _ (of : Message → Bool) (c : Configuration) where
       apply_route_status-stand (hearing.heard (facts c n.parts) n.parts.told set destination status) set destination status n
   on_route_status-stand status (Err outcome) n = refl
 
+  ask-stand : (test : Management) (set destination : ℕ) (n : Node WholeQueues) → stands of (ask whole c (management_to c (adjacent_of c set) test) set destination n) ≡ stands of n
+  ask-stand test set destination n =
+      let m : Message = management_to c (adjacent_of c set) test in
+      let next : Node WholeQueues = with_parts n (with_next_test whole c set destination n.parts) in
+      either-stand (is_led c m n.parts) (send_routed whole c m next) next (stands of n) (made-stand (adjacent_of c set) test next) refl
+
   ask_by-stand : (status : Option RouteStatus) (set destination : ℕ) (n : Node WholeQueues) → stands of (ask_by whole c status set destination n) ≡ stands of n
-  ask_by-stand (Some Prohibited) set destination n =
-      made-stand (adjacent_of c set) (RouteSetTestProhibited (point_of c destination)) (with_parts n (with_next_test whole c set destination n.parts))
-  ask_by-stand (Some Restricted) set destination n =
-      made-stand (adjacent_of c set) (RouteSetTestRestricted (point_of c destination)) (with_parts n (with_next_test whole c set destination n.parts))
+  ask_by-stand (Some Prohibited) set destination n = ask-stand (RouteSetTestProhibited (point_of c destination)) set destination n
+  ask_by-stand (Some Restricted) set destination n = ask-stand (RouteSetTestRestricted (point_of c destination)) set destination n
   ask_by-stand (Some Allowed) set destination n = refl
   ask_by-stand None set destination n = refl
 

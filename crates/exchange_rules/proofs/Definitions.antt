@@ -21,7 +21,7 @@ pub use Rattle.exchange_rules.specs.Laws.{declared_by_test_in_traffic, tested_in
 pub use Rattle.exchange_rules.specs.LawsOfMessages.{all_brought, all_gone, all_that_came_adds_up, brought_by_asking, gone_by_asking, takes_leave_user_messages, user_messages_are_conserved, carried_messages_have_a_fate, has_fate, submissions_have_a_fate}
 pub use Rattle.exchange_rules.specs.LawsOfLosses.{takes_flag_nothing, naming, AreAccounted, counted, events_account_for_losses, losses_of, names_a_message, names_none, others_of, released, rules_run}
 pub use Rattle.exchange_rules.specs.LawsOfReturns.{entries_hold_changed_flows, HasReturned, HasLost, IsChosen, IsReturn, flows_return_by_their_procedures, entries_are_returns, changed_flows_are_held, returns_keep_holds}
-pub use Rattle.exchange_rules.specs.Telling.{management_to, send, send_anew, send_routed, send_on, own_sio, told_below, is_all_told, answer_no_route, answer_no_user_part, is_unequipped_told, send_if, tell_unavailable, unavailable, unequipped_counted, unequipped_from, answered_parts, inhibited, is_inhibited, may_tell, on_route_test, prohibit, send_route_status, tell_each, tell_if, telling, told_parts, route_message, prohibit_if, answer_route_test, tell, timed_telling}
+pub use Rattle.exchange_rules.specs.Telling.{is_led, management_to, send, send_anew, send_routed, send_on, own_sio, told_below, is_all_told, answer_no_route, answer_no_user_part, is_unequipped_told, send_if, tell_unavailable, unavailable, unequipped_counted, unequipped_from, answered_parts, inhibited, is_inhibited, may_tell, on_route_test, prohibit, send_route_status, tell_each, tell_if, telling, told_parts, route_message, prohibit_if, answer_route_test, tell, timed_telling}
 pub use Rattle.exchange_rules.specs.Opening.{period_of, activate, association_down, deactivate, end_association, fail_if_up, set_active, may_open, open_link, begun, association_up, with_active, without_association}
 pub use Rattle.exchange_rules.specs.Places.{HasPlacesFor, HasHoldsFor, HasCodes}
 pub use Rattle.exchange_rules.specs.Queues.{WholeQueues, whole, queue_at, with_queue}

@@ -1,7 +1,7 @@
 -- What a tick does to timers if no link enters service or leaves it: they run down and stop, and none is set but L1,
 -- L2, L3, T8, T10, and those of tests.
 use Rattle.exchange_rules.proofs.Basics.{◌≡◌, ◌≢◌, ◌⊎◌, inl, inr, ℕ, Bool, true, false, ◌&&◌, List, [], ◌∷◌, length, nat_lt, Option, Some, None, refl, ap, sym, ◌∙◌, ⊎_elim, subst, if◌then◌else◌}
-use Rattle.exchange_rules.proofs.Definitions.{Period, Message, flow_of, Configuration, Cause, FailureReason, ChangeoverTimer, Alignment, Action, Expiry, LinkTimer, action_at, TimerName, Running, L6, L7, set_timer, clear_timer, left-set_other, left-clear, left-clear_other, without_timers, RouteStatus, status_of, Owed, owed, Parts, Node, Found, with_parts, is_link, link_at, in_service, facts, link_of, no_room, fail, fail_link, change_over, make_unavailable, send, send_anew, send_each, lose_each, judged, concluded, complete_if, changeover_of, with_expiry, told_parts, route_message, timed_telling, may_tell, tell, tell_if, tell_each, tell_owed, ask, ask_by, prohibited_test, restricted_test, with_next_test, go_on, go_by, go, go_each, release, waits, run_timer, WholeQueues, whole, Allowed, Restricted, Prohibited, is_in_service}
+use Rattle.exchange_rules.proofs.Definitions.{is_led, send_if, Period, Message, flow_of, Configuration, Cause, FailureReason, ChangeoverTimer, Alignment, Action, Expiry, LinkTimer, action_at, TimerName, Running, L6, L7, set_timer, clear_timer, left-set_other, left-clear, left-clear_other, without_timers, RouteStatus, status_of, Owed, owed, Parts, Node, Found, with_parts, is_link, link_at, in_service, facts, link_of, no_room, fail, fail_link, change_over, make_unavailable, send, send_anew, send_each, lose_each, judged, concluded, complete_if, changeover_of, with_expiry, told_parts, route_message, timed_telling, may_tell, tell, tell_if, tell_each, tell_owed, ask, ask_by, prohibited_test, restricted_test, with_next_test, go_on, go_by, go, go_each, release, waits, run_timer, WholeQueues, whole, Allowed, Restricted, Prohibited, is_in_service}
 use Rattle.exchange_rules.specs.ChangingOver.{with_losses}
 use Rattle.exchange_rules.specs.Frames.{act_by_timer}
 use Rattle.timers.specs.declared.name.TimerName.TheVariants as name
@@ -191,10 +191,14 @@ module _ (c : Configuration) where
       let rest : Node WholeQueues = release whole c n in
       eased-both n rest _ (eased-both n out rest (eased-same n out refl) (go_each-eased n.queues.held out)) (tell_each-eased (owed (facts c rest.parts) rest.parts.told) rest)
 
+  led-eased : (may : Bool) (m : Message) (n : Node WholeQueues) → Eased n (send_if whole c may m n)
+  led-eased true m n = send-eased (no_room whole c m n.queues) (link_of c n.parts (flow_of m)) m n
+  led-eased false m n = eased-none n
+
   asked-eased : (m : Message) (set destination : ℕ) (n : Node WholeQueues) → Eased n (ask whole c m set destination n)
   asked-eased m set destination n =
       let next : Node WholeQueues = with_parts n (with_next_test whole c set destination n.parts) in
-      eased-both n next _ (record { timers = less-set (name.T10 set destination) c.timers.t10 n.parts.timers refl }) (send-eased (no_room whole c m next.queues) (link_of c next.parts (flow_of m)) m next)
+      eased-both n next _ (record { timers = less-set (name.T10 set destination) c.timers.t10 n.parts.timers refl }) (led-eased (is_led c m n.parts) m next)
 
   ask-eased : (status : Option RouteStatus) (set destination : ℕ) (n : Node WholeQueues) → Eased n (ask_by whole c status set destination n)
   ask-eased (Some Prohibited) set destination n = asked-eased (prohibited_test whole c set destination) set destination n

@@ -2,7 +2,7 @@
 -- node that a rule leaves is what the rule leaves of what was kept, and it stays sound. Over any two kinds of queues P
 -- and Q of which h keeps one as the other.
 use Rattle.exchange_rules.proofs.Basics.{◌≡◌, ℕ, Bool, true, false, List, [], ◌∷◌, Option, Some, None, Result, Ok, Err, is_some, refl, ap, ◌∙◌}
-use Rattle.exchange_rules.proofs.Definitions.{Message, dpc_of, flow_of, Configuration, Cause, Outcome, Handled, Ignored, destination_place, RouteStatus, Allowed, Restricted, Prohibited, status_of, Heard, RouteTest, Owed, owed, Node, QueueKind, keep, with_parts, answer, refuse, waits, facts, link_of, set_of, no_room, no_room_on, no_room_for, is_destination, offer, transfer, told_below, route_message, told_parts, answered_parts, inhibited, is_inhibited, may_tell, tell_if, tell_each, tell_owed, prohibit, prohibit_if, answer_no_route, answer_no_user_part, is_unequipped_told, tell_unavailable, unavailable, unequipped_counted, unequipped_from, send_route_status, answer_route_test, on_route_test, with_status_heard, with_next_test, prohibited_test, restricted_test, apply_route_status, on_route_status, ask_by, ask_again, send, send_on, send_routed, send_anew, send_each}
+use Rattle.exchange_rules.proofs.Definitions.{is_led, ask, Message, dpc_of, flow_of, Configuration, Cause, Outcome, Handled, Ignored, destination_place, RouteStatus, Allowed, Restricted, Prohibited, status_of, Heard, RouteTest, Owed, owed, Node, QueueKind, keep, with_parts, answer, refuse, waits, facts, link_of, set_of, no_room, no_room_on, no_room_for, is_destination, offer, transfer, told_below, route_message, told_parts, answered_parts, inhibited, is_inhibited, may_tell, tell_if, tell_each, tell_owed, prohibit, prohibit_if, answer_no_route, answer_no_user_part, is_unequipped_told, tell_unavailable, unavailable, unequipped_counted, unequipped_from, send_route_status, answer_route_test, on_route_test, with_status_heard, with_next_test, prohibited_test, restricted_test, apply_route_status, on_route_status, ask_by, ask_again, send, send_on, send_routed, send_anew, send_each}
 use Rattle.std.specs.Prelude.{nat_eq, nat_lt, length, ◌&&◌, not}
 use Rattle.std.specs.Option.{option_or}
 use Rattle.signalling_types.specs.declared.cause.Cause.TheVariants as causes
@@ -67,8 +67,9 @@ module _ {P Q : Type 0} (p : QueueKind P) (q : QueueKind Q) (h : P → Q) (IsFit
 
   prohibit_if-kept : (s d : ℕ) (n : Node P) → IsFit n.queues → KeepsNode h IsFit (prohibit_if q c s d (keep h n)) (prohibit_if p c s d n)
   prohibit_if-kept s d n f =
-      alike_node (may_tell q c (keep h n) && not (is_inhibited s d n.parts)) (may_tell p c n && not (is_inhibited s d n.parts)) _ _ (prohibit p c s d n) n
-      (ap (λ (b : Bool). b && not (is_inhibited s d n.parts)) (may_tell-kept n))
+      let led : Bool = is_led c (route_message c s d Prohibited) n.parts in
+      alike_node (may_tell q c (keep h n) && not (is_inhibited s d n.parts) && led) (may_tell p c n && not (is_inhibited s d n.parts) && led) _ _ (prohibit p c s d n) n
+      (ap (λ (b : Bool). b && not (is_inhibited s d n.parts) && led) (may_tell-kept n))
       (send_routed-kept (route_message c s d Prohibited) (with_parts n (inhibited c s d n.parts)) f) (record { same = refl; fit = f })
 
   answer_no_route-kept : (link place : Option ℕ) (n : Node P) → IsFit n.queues → KeepsNode h IsFit (answer_no_route q c link place (keep h n)) (answer_no_route p c link place n)
@@ -91,7 +92,10 @@ module _ {P Q : Type 0} (p : QueueKind P) (q : QueueKind Q) (h : P → Q) (IsFit
   answer_no_user_part-kept None origin m n f = record { same = refl; fit = f }
 
   send_route_status-kept : (status : Option RouteStatus) (s d : ℕ) (n : Node P) → IsFit n.queues → KeepsNode h IsFit (send_route_status q c status s d (keep h n)) (send_route_status p c status s d n)
-  send_route_status-kept (Some status) s d n f = send_routed-kept (route_message c s d status) (with_parts n (answered_parts s d status n.parts)) f
+  send_route_status-kept (Some status) s d n f =
+      let m : Message = route_message c s d status in
+      let next : Node P = with_parts n (answered_parts s d status n.parts) in
+      either_node (is_led c m n.parts) _ _ (send_routed p c m next) n (send_routed-kept m next f) (record { same = refl; fit = f })
   send_route_status-kept None s d n f = record { same = refl; fit = f }
 
   answer_route_test-kept : (test : RouteTest) (s d : ℕ) (n : Node P) → IsFit n.queues → Keeps h IsFit (answer_route_test q c test s d (keep h n)) (answer_route_test p c test s d n)
@@ -116,9 +120,14 @@ module _ {P Q : Type 0} (p : QueueKind P) (q : QueueKind Q) (h : P → Q) (IsFit
   on_route_status-kept status (Ok (s, d)) n f = apply_route_status-kept (told.heard (facts c n.parts) n.parts.told s d status) s d status n f
   on_route_status-kept status (Err outcome) n f = parted _ n.parts n.queues f
 
+  ask-kept : (m : Message) (s d : ℕ) (n : Node P) → IsFit n.queues → KeepsNode h IsFit (ask q c m s d (keep h n)) (ask p c m s d n)
+  ask-kept m s d n f =
+      let next : Node P = with_parts n (with_next_test p c s d n.parts) in
+      either_node (is_led c m n.parts) _ _ (send_routed p c m next) next (send_routed-kept m next f) (record { same = refl; fit = f })
+
   ask_by-kept : (status : Option RouteStatus) (s d : ℕ) (n : Node P) → IsFit n.queues → KeepsNode h IsFit (ask_by q c status s d (keep h n)) (ask_by p c status s d n)
-  ask_by-kept (Some Prohibited) s d n f = send_routed-kept (prohibited_test p c s d) (with_parts n (with_next_test p c s d n.parts)) f
-  ask_by-kept (Some Restricted) s d n f = send_routed-kept (restricted_test p c s d) (with_parts n (with_next_test p c s d n.parts)) f
+  ask_by-kept (Some Prohibited) s d n f = ask-kept (prohibited_test p c s d) s d n f
+  ask_by-kept (Some Restricted) s d n f = ask-kept (restricted_test p c s d) s d n f
   ask_by-kept (Some Allowed) s d n f = record { same = refl; fit = f }
   ask_by-kept None s d n f = record { same = refl; fit = f }
 

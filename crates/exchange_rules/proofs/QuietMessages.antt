@@ -1,6 +1,6 @@
 -- Messages that are made here or go to other points: what each rule sends in vain, and how many notices it makes.
 use Rattle.exchange_rules.proofs.Basics.{◌||◌, ap, ◌++◌, ◌≤◌, Bool, Err, List, None, Ok, Option, Result, Some, [], arith, false, length, nat_eq, nat_lt, not, refl, true, ℕ, ◌&&◌, ◌+◌, ◌∷◌, ◌≡◌, if◌then◌else◌}
-use Rattle.exchange_rules.proofs.Definitions.{pass_test, passes_test, is_outstanding, LinkTestValue, MgmtFault, TestKind, Acknowledgement, Test, Owed, owed, Heard, RouteTest, status_of, RouteStatus, Allowed, Prohibited, Restricted, Configuration, Message, dpc_of, opc_of, flow_of, is_management, service_indicator, Cause, Outcome, Handled, Held, Ignored, Local, Queued, Refused, Discrimination, RelayedValue, relay, returned, destination_place, is_destination, offer, transfer, local, sccp, submit, submit_to, whither_goes, is_user, in_place_of, on_unitdata, own_of, relay_by, return_outcome, send_udts, waits, forced, freed, held_by_rerouting, on_changeback_acknowledgement, prohibited_test, restricted_test, route_message, timed_status, with_status_heard, send_each, do_kind, do_test, test_answer, send, send_anew, send_routed, set_of, no_room, no_room_for, WholeQueues, whole, apply_route_status, ask_again, ask_by, on_route_status, with_next_test, facts, link_of, Done, Node, Parts, Notice, answer, refuse, with_parts, answer_no_route, answer_no_user_part, is_unequipped_told, tell_unavailable, unavailable, unequipped_counted, answered_parts, inhibited, is_inhibited, may_tell, on_route_test, prohibit, send_route_status, tell_each, tell_if, tell_owed, told_parts}
+use Rattle.exchange_rules.proofs.Definitions.{is_led, ask, pass_test, passes_test, is_outstanding, LinkTestValue, MgmtFault, TestKind, Acknowledgement, Test, Owed, owed, Heard, RouteTest, status_of, RouteStatus, Allowed, Prohibited, Restricted, Configuration, Message, dpc_of, opc_of, flow_of, is_management, service_indicator, Cause, Outcome, Handled, Held, Ignored, Local, Queued, Refused, Discrimination, RelayedValue, relay, returned, destination_place, is_destination, offer, transfer, local, sccp, submit, submit_to, whither_goes, is_user, in_place_of, on_unitdata, own_of, relay_by, return_outcome, send_udts, waits, forced, freed, held_by_rerouting, on_changeback_acknowledgement, prohibited_test, restricted_test, route_message, timed_status, with_status_heard, send_each, do_kind, do_test, test_answer, send, send_anew, send_routed, set_of, no_room, no_room_for, WholeQueues, whole, apply_route_status, ask_again, ask_by, on_route_status, with_next_test, facts, link_of, Done, Node, Parts, Notice, answer, refuse, with_parts, answer_no_route, answer_no_user_part, is_unequipped_told, tell_unavailable, unavailable, unequipped_counted, answered_parts, inhibited, is_inhibited, may_tell, on_route_test, prohibit, send_route_status, tell_each, tell_if, tell_owed, told_parts}
 use Rattle.changeback.specs.Rerouting.{rerouted}
 use Rattle.signalling_types.specs.declared.cause.Cause.TheVariants as causes
 use Rattle.signalling_types.specs.declared.notice.Notice.TheVariants as notices
@@ -12,7 +12,7 @@ use Rattle.mtp3_codec.specs.declared.discrimination.Discrimination.TheVariants a
 use Rattle.exchange_rules.proofs.QuietReturns.{passed-quiet}
 use Rattle.exchange_rules.proofs.Naming.{Quiet, Sends, any-quiet, both-quiet, both-sends, either-sends, either_done-quiet, either_done-sends, more-does, more-quiet, one-does, same-first, same-quiet, sending}
 use Rattle.exchange_rules.specs.GivingUp.{given_up, unsent, unsent_anew, unsent_by_kind, unsent_by_route_test, unsent_by_test, unsent_local, unsent_offering, unsent_status, unsent_transferring, unsent_unavailable, unsent_without_route, unsent_without_user}
-use Rattle.exchange_rules.specs.GivingUpEvents.{unsent_asking, unsent_asking_again, unsent_telling}
+use Rattle.exchange_rules.specs.GivingUpEvents.{unsent_asking, unsent_asking_again, unsent_route_test, unsent_telling}
 
 module _ (c : Configuration) where
   -- ---- management goes out
@@ -70,7 +70,7 @@ module _ (c : Configuration) where
   without_route-sends : (destination : Option ℕ) (link : ℕ) (n : Node WholeQueues) → Sends (unsent_without_route c destination link n) 1 n (answer_no_route whole c (Some link) destination n)
   without_route-sends (Some destination) link n =
       let set : ℕ = set_of c link in
-      either-sends _ [] 1 (may_tell whole c n && not (is_inhibited set destination n.parts)) n (prohibit whole c set destination n) n (prohibit-sends set destination n) (any-quiet 1 n)
+      either-sends _ [] 1 (may_tell whole c n && not (is_inhibited set destination n.parts) && is_led c (route_message c set destination Prohibited) n.parts) n (prohibit whole c set destination n) n (prohibit-sends set destination n) (any-quiet 1 n)
   without_route-sends None link n = any-quiet 1 n
 
   tell_unavailable-sends : (origin : ℕ) (m : Message) (n : Node WholeQueues) → Sends (unsent_unavailable c origin m n) 1 n (tell_unavailable whole c origin m n)
@@ -86,8 +86,10 @@ module _ (c : Configuration) where
 
   status-sends : (status : Option RouteStatus) (set destination : ℕ) (n : Node WholeQueues) → Sends (unsent_status c status set destination n) 1 n (send_route_status whole c status set destination n)
   status-sends (Some status) set destination n =
-      changed-sends _ (answered_parts set destination status n.parts) n _ refl refl refl
-      (routed-sends (route_message c set destination status) (with_parts n (answered_parts set destination status n.parts)))
+      let m : Message = route_message c set destination status in
+      let next : Node WholeQueues = with_parts n (answered_parts set destination status n.parts) in
+      either-sends (unsent c m next) [] 1 (is_led c m n.parts) n (send_routed whole c m next) n
+      (changed-sends _ (answered_parts set destination status n.parts) n _ refl refl refl (routed-sends m next)) (any-quiet 1 n)
   status-sends None set destination n = any-quiet 1 n
 
   pub on_route_test-sends : (test : RouteTest) (route : Result (ℕ × ℕ) Outcome) (n : Node WholeQueues) → Sends (unsent_by_route_test c test route n) 1 n (on_route_test whole c test route n).left
@@ -123,9 +125,11 @@ module _ (c : Configuration) where
       apply_route_status-quiet (hearing.heard (facts c n.parts) n.parts.told set destination status) set destination status n
   on_route_status-quiet status (Err outcome) n = any-quiet 0 n
 
-  ask-sends : (m : Message) (set destination : ℕ) (n : Node WholeQueues)
-      → Sends (unsent c m (with_parts n (with_next_test whole c set destination n.parts))) 1 n (send_routed whole c m (with_parts n (with_next_test whole c set destination n.parts)))
-  ask-sends m set destination n = changed-sends _ (with_next_test whole c set destination n.parts) n _ refl refl refl (routed-sends m (with_parts n (with_next_test whole c set destination n.parts)))
+  ask-sends : (m : Message) (set destination : ℕ) (n : Node WholeQueues) → Sends (unsent_route_test c m set destination n) 1 n (ask whole c m set destination n)
+  ask-sends m set destination n =
+      let next : Node WholeQueues = with_parts n (with_next_test whole c set destination n.parts) in
+      changed-sends _ (with_next_test whole c set destination n.parts) n _ refl refl refl
+      (either-sends (unsent c m next) [] 1 (is_led c m n.parts) next (send_routed whole c m next) next (routed-sends m next) (any-quiet 1 next))
 
   ask_by-sends : (status : Option RouteStatus) (set destination : ℕ) (n : Node WholeQueues) → Sends (unsent_asking c status set destination n) 1 n (ask_by whole c status set destination n)
   ask_by-sends (Some Prohibited) set destination n = ask-sends (prohibited_test whole c set destination) set destination n

@@ -53,6 +53,10 @@ queued_message_is_on_its_link = (refl, refl)
 pub refused_message_is_on_none : examples.refused_message_is_on_none
 refused_message_is_on_none = (refl, refl)
 
+pub nothing_is_told_without_a_link : examples.nothing_is_told_without_a_link
+unfolding choice_among link_by first_sets links_below
+nothing_is_told_without_a_link = refl
+
 -- ---- a failure
 
 pub failure_holds_the_flow : examples.failure_holds_the_flow

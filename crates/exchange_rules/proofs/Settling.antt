@@ -1,6 +1,6 @@
 -- What a release leaves: each message of Held waits, and if each did before, nothing changed. Telling leaves this so.
 use Rattle.exchange_rules.proofs.Basics.{◌≡◌, ℕ, Bool, true, false, ◌&&◌, not, List, [], ◌∷◌, ◌++◌, Option, Some, None, refl, ap, sym, ◌∙◌, if◌then◌else◌, append-nil, append_assoc}
-use Rattle.exchange_rules.proofs.Definitions.{Message, flow_of, Cause, Configuration, Prohibited, Owed, owed, HoldSet, Node, with_parts, WholeQueues, whole, facts, link_of, waits, all_wait, go_on, go_by, go, go_each, release, Outgoing, SendsStatus, SendsMessage, Acknowledges, SendsNothing, goes_out, after_sending, after_take, set_of, no_room, send, send_routed, route_message, told_parts, inhibited, is_inhibited, may_tell, tell, tell_if, tell_each, tell_owed, prohibit, prohibit_if, answer_no_route, answer_no_user_part, is_unequipped_told, tell_unavailable, unavailable, unequipped_counted}
+use Rattle.exchange_rules.proofs.Definitions.{is_led, Message, flow_of, Cause, Configuration, Prohibited, Owed, owed, HoldSet, Node, with_parts, WholeQueues, whole, facts, link_of, waits, all_wait, go_on, go_by, go, go_each, release, Outgoing, SendsStatus, SendsMessage, Acknowledges, SendsNothing, goes_out, after_sending, after_take, set_of, no_room, send, send_routed, route_message, told_parts, inhibited, is_inhibited, may_tell, tell, tell_if, tell_each, tell_owed, prohibit, prohibit_if, answer_no_route, answer_no_user_part, is_unequipped_told, tell_unavailable, unavailable, unequipped_counted}
 use Rattle.std.proofs.lemmas.List.Folds.{list_all-append}
 
 -- all messages of Held wait for holds that stay as they are
@@ -102,7 +102,7 @@ module _ (c : Configuration) (holds : HoldSet) where
 
   prohibit_if-waits : (place destination : ℕ) (n : Node WholeQueues) → Waits c holds n → Waits c holds (prohibit_if whole c place destination n)
   prohibit_if-waits place destination n w =
-      either-waits (may_tell whole c n && not (is_inhibited place destination n.parts)) (prohibit whole c place destination n) n
+      either-waits (may_tell whole c n && not (is_inhibited place destination n.parts) && is_led c (route_message c place destination Prohibited) n.parts) (prohibit whole c place destination n) n
       (send_routed-waits (route_message c place destination Prohibited) (with_parts n (inhibited c place destination n.parts))
       (record { same = w.same; all = w.all })) w
 

@@ -1,7 +1,7 @@
 -- Messages that are made here or go to other points, and what adjacent points are told and say: each rule is made of
 -- steps.
 use Rattle.exchange_rules.proofs.Basics.{◌≡◌, ◌⊎◌, inl, inr, sym, subst, ◌∙◌, ℕ, Bool, true, false, List, [], ◌∷◌, Option, Some, None, Result, Ok, Err, refl, if◌then◌else◌, length-set}
-use Rattle.exchange_rules.proofs.Definitions.{with_status_heard, Message, dpc_of, flow_of, Configuration, Cause, Outcome, Handled, Ignored, destination_place, Running, RouteStatus, Allowed, Restricted, Prohibited, status_of, told_shape, Heard, RouteTest, Owed, owed, Parts, Node, with_parts, answer, refuse, waits, facts, link_of, set_of, no_room, no_room_for, is_destination, offer, transfer, timed_telling, route_message, told_parts, answered_parts, inhibited, is_inhibited, may_tell, tell, tell_if, tell_each, tell_owed, prohibit, answer_no_route, answer_no_user_part, is_unequipped_told, tell_unavailable, unavailable, unequipped_counted, send_route_status, on_route_test, timed_status, forced, with_next_test, prohibited_test, restricted_test, apply_route_status, on_route_status, ask, ask_by, ask_again, send, send_routed, send_anew, send_each, WholeQueues, whole}
+use Rattle.exchange_rules.proofs.Definitions.{is_led, send_if, with_status_heard, Message, dpc_of, flow_of, Configuration, Cause, Outcome, Handled, Ignored, destination_place, Running, RouteStatus, Allowed, Restricted, Prohibited, status_of, told_shape, Heard, RouteTest, Owed, owed, Parts, Node, with_parts, answer, refuse, waits, facts, link_of, set_of, no_room, no_room_for, is_destination, offer, transfer, timed_telling, route_message, told_parts, answered_parts, inhibited, is_inhibited, may_tell, tell, tell_if, tell_each, tell_owed, prohibit, answer_no_route, answer_no_user_part, is_unequipped_told, tell_unavailable, unavailable, unequipped_counted, send_route_status, on_route_test, timed_status, forced, with_next_test, prohibited_test, restricted_test, apply_route_status, on_route_status, ask, ask_by, ask_again, send, send_routed, send_anew, send_each, WholeQueues, whole}
 use Rattle.std.specs.Prelude.{nat_lt, length, ◌&&◌, is_some, not}
 use Rattle.signalling_types.specs.declared.notice.Notice.TheVariants as notices
 use Rattle.signalling_types.specs.declared.cause.Cause.TheVariants as causes
@@ -47,6 +47,9 @@ module _ {c : Configuration} {R : Node WholeQueues → Node WholeQueues → Type
   pub send_routed-steps : (m : Message) (n : Node WholeQueues) → R n (send_routed whole c m n)
   send_routed-steps m n = by_link-steps (no_room whole c m n.queues) (link_of c n.parts (flow_of m)) m n refl
 
+  pub send_if-steps : (may : Bool) (m : Message) (n : Node WholeQueues) → R n (send_if whole c may m n)
+  send_if-steps may m n = either-steps s may n (send_routed whole c m n) n (send_routed-steps m n) (s.none n)
+
   pub send_each-steps : (ms : List Message) (n : Node WholeQueues) → R n (send_each whole c ms n)
   send_each-steps [] n = s.none n
   send_each-steps (m ∷ ms) n = s.both _ _ _ (by_link-steps None (link_of c n.parts (flow_of m)) m n refl) (send_each-steps ms (send_anew whole c m n))
@@ -82,7 +85,7 @@ module _ {c : Configuration} {Own Counts : ℕ → Type 0} {May : Deed → Type 
   pub answer_no_route-steps : (link destination : Option ℕ) (n : Node WholeQueues) → R n (answer_no_route whole c link destination n)
   answer_no_route-steps (Some link) (Some destination) n =
       let set : ℕ = set_of c link in
-      either-steps s.sends (may_tell whole c n && not (is_inhibited set destination n.parts)) n (prohibit whole c set destination n) n (prohibit-steps set destination n) (s.sends.none n)
+      either-steps s.sends (may_tell whole c n && not (is_inhibited set destination n.parts) && is_led c (route_message c set destination Prohibited) n.parts) n (prohibit whole c set destination n) n (prohibit-steps set destination n) (s.sends.none n)
   answer_no_route-steps (Some link) None n = s.sends.none n
   answer_no_route-steps None destination n = s.sends.none n
 
@@ -102,8 +105,11 @@ module _ {c : Configuration} {Own Counts : ℕ → Type 0} {May : Deed → Type 
 
   send_route_status-steps : (status : Option RouteStatus) (set destination : ℕ) (n : Node WholeQueues) → R n (send_route_status whole c status set destination n)
   send_route_status-steps (Some status) set destination n =
-      s.sends.both _ _ _ (s.told (told.with_told set destination status n.parts.told) n (record { shape = told_shape n.parts.told set destination status; adjacents = refl }))
-      (send_routed-steps s.sends (route_message c set destination status) (with_parts n (answered_parts set destination status n.parts)))
+      let m : Message = route_message c set destination status in
+      let next : Node WholeQueues = with_parts n (answered_parts set destination status n.parts) in
+      either-steps s.sends (is_led c m n.parts) n (send_routed whole c m next) n
+      (s.sends.both _ _ _ (s.told (told.with_told set destination status n.parts.told) n (record { shape = told_shape n.parts.told set destination status; adjacents = refl }))
+      (send_routed-steps s.sends m next)) (s.sends.none n)
   send_route_status-steps None set destination n = s.sends.none n
 
   pub on_route_test-steps : (test : RouteTest) (route : Result (ℕ × ℕ) Outcome) (n : Node WholeQueues) → R n (on_route_test whole c test route n).left
@@ -197,7 +203,7 @@ module _ {c : Configuration} {Own Counts : ℕ → Type 0} {May : Deed → Type 
   ask-steps : (m : Message) (set destination : ℕ) (n : Node WholeQueues) → R n (ask whole c m set destination n)
   ask-steps m set destination n =
       s.sends.both _ _ _ (s.timed _ n (set-quiet c (name.T10 set destination) c.timers.t10 n.parts.timers (λ link e. cc) refl refl refl (λ off. refl)) (set-tests n.parts (name.T10 set destination) c.timers.t10))
-      (send_routed-steps s.sends m (with_parts n (with_next_test whole c set destination n.parts)))
+      (send_if-steps s.sends (is_led c m n.parts) m (with_parts n (with_next_test whole c set destination n.parts)))
 
   ask_by-steps : (status : Option RouteStatus) (set destination : ℕ) (n : Node WholeQueues) → R n (ask_by whole c status set destination n)
   ask_by-steps (Some Prohibited) set destination n = ask-steps (prohibited_test whole c set destination) set destination n

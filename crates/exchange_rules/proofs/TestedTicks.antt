@@ -1,13 +1,13 @@
 -- T10 tests the route as it runs out, and runs again; so through ticks, too, it runs for each route over a set in
 -- service that isn't allowed.
 use Rattle.exchange_rules.proofs.Basics.{◌≡◌, ◌≢◌, ◌<◌, ℕ, Bool, true, false, ◌&&◌, nat_lt, length, List, [], Option, Some, None, refl, ap, sym, subst, ◌∙◌, arith, ⊎_elim, if◌then◌else◌, is_some, and_from, slice_index_or, map, length-map, get_or-map}
-use Rattle.exchange_rules.proofs.Definitions.{Configuration, DestinationEntry, Link, Message, TimerName, NodeCounts, Running, is_running, one_less, set_timer, clear_timer, left-clear_other, left-ticked, counts-set, counts-clear, due_name, after_due, after-clear, after-none, ticked, Route, RouteStatus, Allowed, Restricted, Prohibited, status_of, Node, with_parts, facts, with_timers, run_timer, run_due, ask_by, ask, prohibited_test, restricted_test, first_state, first_routes, WholeQueues, whole}
+use Rattle.exchange_rules.proofs.Definitions.{is_led, Configuration, DestinationEntry, Link, Message, TimerName, NodeCounts, Running, is_running, one_less, set_timer, clear_timer, left-clear_other, left-ticked, counts-set, counts-clear, due_name, after_due, after-clear, after-none, ticked, Route, RouteStatus, Allowed, Restricted, Prohibited, status_of, Node, with_parts, facts, with_timers, run_timer, run_due, ask_by, ask, prohibited_test, restricted_test, first_state, first_routes, WholeQueues, whole}
 use Rattle.timers.specs.declared.name.TimerName.TheVariants as name
 use Rattle.exchange_rules.specs.Testing.{serves_set, is_unsure, unsure_routes_are_tested, tests_are_repeated}
 use Rattle.exchange_rules.proofs.TimerSettings.{cases-name, set-still}
 use Rattle.exchange_rules.proofs.OwnRoutes.{over, first-allowed, not-unsure}
 use Rattle.exchange_rules.proofs.Steps.{status_over}
-use Rattle.exchange_rules.proofs.SteppingMessages.{send_routed-steps}
+use Rattle.exchange_rules.proofs.SteppingMessages.{send_if-steps}
 use Rattle.exchange_rules.proofs.SteppingEvents.{run_timer-steps}
 use Rattle.exchange_rules.proofs.Tested.{Fits, Tests, both, same, sends, timers-test, serving-set, unsure-there}
 use Rattle.exchange_rules.proofs.Asked.{IsOfAll, asked-all}
@@ -73,7 +73,7 @@ module _ (c : Configuration) where
         set-runs c set destination c.timers.t10 stopped
         (omega (arith, ap (λ (x : NodeCounts). x.sets) same_counts, h.sets, serving-set c n.parts set served))
         (omega (arith, ap (λ (x : NodeCounts). x.destinations) same_counts, h.destinations, h.routes, unsure-there n.parts.routes set destination was))))
-        (send_routed-steps (sends c) m next)
+        (send_if-steps (sends c) (is_led c m n.parts) m next)
 
     by_status : (status : Option RouteStatus) → status_of (facts c n.parts) destination set ≡ status
         → Tests c n (ask_by whole c status set destination (handed (name.T10 set destination) n))

@@ -6,8 +6,8 @@ use Rattle.signalling_types.specs.declared.cause.Cause.TheVariants as causes
 use Rattle.routes.specs.Routes.{has_code, links_below}
 unfoldable use Rattle.routes.specs.Routes.{first_sets}
 use Rattle.exchange_rules.specs.LawsOfShares.{without_share, without_shares, others_know_no_shares}
-use Rattle.exchange_rules.proofs.Basics.{◌≡◌, ◌≢◌, ℕ, zero, suc, Bool, true, false, ◌&&◌, ◌||◌, not, List, [], length, map, position, Option, Some, None, option_or, option_and_then, refl, ap, sym, ◌∙◌, nat_le, if◌then◌else◌, get_or-map}
-use Rattle.exchange_rules.proofs.Definitions.{Message, dpc_of, flow_of, is_management, Configuration, Cause, destination_place, chosen_link, Refused, Parts, Node, Done, refuse, with_parts, entry_of, set_of, link_of, facts, waits, is_destination, no_room, is_share_full, no_room_on, no_room_for, offer, transfer, send, route_message, Prohibited, inhibited, is_inhibited, may_tell, prohibit, prohibit_if, answer_no_route, WholeQueues, whole}
+use Rattle.exchange_rules.proofs.Basics.{◌≡◌, ◌≢◌, ℕ, zero, suc, Bool, true, false, ◌&&◌, ◌||◌, not, List, [], length, map, position, Option, Some, None, is_some, option_or, option_and_then, refl, ap, sym, ◌∙◌, nat_le, if◌then◌else◌, get_or-map}
+use Rattle.exchange_rules.proofs.Definitions.{is_led, Message, dpc_of, flow_of, is_management, Configuration, Cause, destination_place, chosen_link, Refused, Parts, Node, Done, refuse, with_parts, entry_of, set_of, link_of, facts, waits, is_destination, no_room, is_share_full, no_room_on, no_room_for, offer, transfer, send, route_message, Prohibited, inhibited, is_inhibited, may_tell, prohibit, prohibit_if, answer_no_route, WholeQueues, whole}
 use Rattle.exchange_rules.proofs.Lists.{position-map}
 
 -- ---- the links of each set
@@ -58,8 +58,11 @@ module _ (c : Configuration) where
 
   answer-plain : (link destination : Option ℕ) (n : Node WholeQueues) → answer_no_route whole none link destination n ≡ answer_no_route whole c link destination n
   answer-plain (Some link) (Some destination) n =
+      let set : ℕ = set_of c link in
+      let m : Message = route_message c set destination Prohibited in
       ap (λ (l : LinkEntry). prohibit_if whole none l.set destination n) (entry-plain link)
-      ∙ ap (λ (x : Node WholeQueues). if may_tell whole c n && not (is_inhibited (set_of c link) destination n.parts) then x else n) (prohibit-plain (set_of c link) destination n)
+      ∙ ap (λ (its : Option ℕ). if may_tell whole c n && not (is_inhibited set destination n.parts) && is_some its then prohibit whole none set destination n else n) (link-plain n.parts (flow_of m))
+      ∙ ap (λ (x : Node WholeQueues). if may_tell whole c n && not (is_inhibited set destination n.parts) && is_led c m n.parts then x else n) (prohibit-plain set destination n)
   answer-plain (Some link) None n = refl
   answer-plain None destination n = refl
 

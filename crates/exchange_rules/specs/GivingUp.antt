@@ -27,7 +27,7 @@ use Rattle.routes.specs.declared.route.RouteStatus.TheVariants.{Prohibited}
 use Rattle.exchange_rules.specs.State.{Found, Node, down, in_service, is_link, with_parts}
 use Rattle.exchange_rules.specs.Routing.{facts, link_of, no_room, route_about, set_of, waits}
 use Rattle.exchange_rules.specs.Queues.{WholeQueues, whole}
-use Rattle.exchange_rules.specs.Telling.{answered_parts, inhibited, is_inhibited, is_unequipped_told, may_tell, route_message, send_anew, unavailable, unequipped_counted}
+use Rattle.exchange_rules.specs.Telling.{answered_parts, inhibited, is_inhibited, is_led, is_unequipped_told, may_tell, route_message, send_anew, unavailable, unequipped_counted}
 use Rattle.exchange_rules.specs.ChangingOver.{changeover_acknowledgement, changeover_of, changeover_order, changing, complete_by_order, concluded, fail_by_order, has_other, make_unavailable, with_changeover, with_changeover_acknowledged, with_expiry}
 use Rattle.changeover.specs.Changeover.{completed}
 use Rattle.exchange_rules.specs.ChangingBack.{changeback_acknowledgement}
@@ -114,11 +114,13 @@ module _ (c : Configuration) where
 
   -- ---- other words of an adjacent point
 
-  -- a route set test, if it is answered (§13.5)
+  -- a route set test, if it is answered (§13.5); for want of a link it isn't
   abbrev pub unsent_status : Option RouteStatus → (set destination : ℕ) → Node WholeQueues → List Notice
   unsent_status (Some status) set destination node =
-      unsent (route_message c set destination status)
+      if is_led c (route_message c set destination status) node.parts
+      then unsent (route_message c set destination status)
       (with_parts node (answered_parts set destination status node.parts))
+      else []
   unsent_status None set destination node = []
 
   abbrev pub unsent_by_route_test : RouteTest → Result (ℕ × ℕ) Outcome → Node WholeQueues → List Notice
@@ -172,10 +174,11 @@ module _ (c : Configuration) where
 
   -- ---- messages that came by a link and were refused here
 
-  -- without a route: transfer-prohibited, unless T8 runs (Q.704 §13.2)
+  -- without a route: transfer-prohibited, unless T8 runs or it has no link (Q.704 §13.2)
   abbrev pub unsent_prohibition : (set destination : ℕ) → Node WholeQueues → List Notice
   unsent_prohibition set destination node =
       if may_tell whole c node && not (is_inhibited set destination node.parts)
+      && is_led c (route_message c set destination Prohibited) node.parts
       then unsent (route_message c set destination Prohibited)
       (with_parts node (inhibited c set destination node.parts))
       else []

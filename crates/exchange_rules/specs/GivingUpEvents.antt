@@ -1,6 +1,7 @@
 -- The management that an event sends in vain: the reasons of Unsent. And T2 that runs out, so that an answer isn't
 -- awaited any more: the reasons of Expired(T2).
 use Rattle.std.specs.Prelude.{Err, List, None, Ok, Option, Result, Some, [], if◌then◌else◌, length, nat_lt, not, suc, zero, ℕ, ◌&&◌, ◌||◌, ◌++◌, ◌∷◌}
+use Rattle.signalling_types.specs.Message.{Message}
 use Rattle.signalling_types.specs.declared.notice.ChangeoverTimer.TheVariants as changeover
 use Rattle.signalling_types.specs.declared.notice.FailureReason.{FailureReason}
 use Rattle.signalling_types.specs.declared.notice.FailureReason.TheVariants as reasons
@@ -29,7 +30,7 @@ use Rattle.exchange_rules.specs.State.{Deactivated, FrameCame, Happening, Node, 
 use Rattle.exchange_rules.specs.Routing.{facts}
 use Rattle.exchange_rules.specs.Queues.{WholeQueues, whole}
 use Rattle.exchange_rules.specs.First.{Abstract}
-use Rattle.exchange_rules.specs.Telling.{may_tell, route_message, tell_if, told_parts}
+use Rattle.exchange_rules.specs.Telling.{is_led, may_tell, route_message, tell_if, told_parts}
 use Rattle.exchange_rules.specs.Rerouting.{prohibited_test, restricted_test, with_next_test}
 use Rattle.exchange_rules.specs.Frames.{Carrying, accept, advance, empty_data, message_data, numbers, tells_outage, tells_recovery}
 use Rattle.exchange_rules.specs.Exchange.{handle_event, release, run_next, with_timers}
@@ -91,13 +92,18 @@ module _ (c : Configuration) where
       then unsent_failing c link reasons.Test node
       else []
 
+  -- a route set test is made only with a link
+  abbrev pub unsent_route_test : Message → (set destination : ℕ) → Node WholeQueues → List Notice
+  unsent_route_test m set destination node =
+      if is_led c m node.parts
+      then unsent c m (with_parts node (with_next_test whole c set destination node.parts))
+      else []
+
   abbrev pub unsent_asking : Option RouteStatus → (set destination : ℕ) → Node WholeQueues → List Notice
   unsent_asking (Some Prohibited) set destination node =
-      unsent c (prohibited_test whole c set destination)
-      (with_parts node (with_next_test whole c set destination node.parts))
+      unsent_route_test (prohibited_test whole c set destination) set destination node
   unsent_asking (Some Restricted) set destination node =
-      unsent c (restricted_test whole c set destination)
-      (with_parts node (with_next_test whole c set destination node.parts))
+      unsent_route_test (restricted_test whole c set destination) set destination node
   unsent_asking (Some Allowed) set destination node = []
   unsent_asking None set destination node = []
 

@@ -1,5 +1,5 @@
 -- What answers mean: laws.
-use Rattle.std.specs.Prelude.{◌≡◌, ◌≤◌, ◌<◌, ◌⊎◌, ◌+◌, ◌++◌, ◌↔◌, ℕ, true, false, max, length, List, [], ◌∷◌, Option, Some}
+use Rattle.std.specs.Prelude.{◌≡◌, ◌≤◌, ◌<◌, ◌⊎◌, ◌+◌, ◌++◌, ◌↔◌, ℕ, true, false, max, length, List, [], ◌∷◌, None, Ok, Option, Some}
 use Rattle.settings_rows.specs.Configuration.{Configuration}
 use Rattle.signalling_types.specs.Message.{Message, dpc_of, flow_of}
 use Rattle.signalling_types.specs.declared.limits.TheConstants.Limits.{LINKS, WINDOW}
@@ -12,6 +12,10 @@ use Rattle.exchange_rules.specs.declared.wants.Wants.TheVariants.{Open}
 use Rattle.exchange_rules.specs.State.{Activated, Asking, AsksWants, CameUp, Deactivated, FrameCame, Happening, Happens, Node, Parts, Submitted, Takes, Ticked, TitleAdded, TitleRemoved, WentDown, link_at}
 use Rattle.exchange_rules.specs.Routing.{link_of, set_of}
 use Rattle.exchange_rules.specs.Messages.{transfer}
+use Rattle.exchange_rules.specs.Telling.{on_route_test, route_message}
+use Rattle.route_management.specs.declared.heard.RouteTest.{RouteTest}
+use Rattle.routes.specs.declared.route.RouteStatus.{RouteStatus}
+use Rattle.routes.specs.declared.route.RouteStatus.TheVariants.{Prohibited}
 use Rattle.exchange_rules.specs.Queues.{WholeQueues, queue_at, whole}
 use Rattle.exchange_rules.specs.Exchange.{after, outcome_of, taken, wants_of}
 use Rattle.exchange_rules.specs.First.{Abstract, first_state}
@@ -35,9 +39,11 @@ queued_stands_last =
     × ((queue_at (transfer whole c from m node).left.queues link).all ≡ (queue_at node.queues link).all ++ m ∷ [])
 
 -- A message that came by a link finds no route. While T8 of the link's set and the destination runs, the point at the
--- other end is told nothing; if it is told, T8 runs from then on, for as long as it is set to.
+-- other end is told nothing, nor while no link leads to it; if it is told, T8 runs from then on, for as long as it is
+-- set to.
 pub record IsToldOnce (c : Configuration) (set destination : ℕ) (before after : Node WholeQueues) : Type 0 where
   pub inhibited : is_running (T8 set destination) before.parts.timers ≡ true → after ≡ before
+  pub stranded : link_of c before.parts (flow_of (route_message c set destination Prohibited)) ≡ None → after ≡ before
   pub told : (after ≡ before) ⊎ (after.parts.timers.left (T8 set destination) ≡ Some (max 1 c.timers.t8))
 
 abbrev pub one_answer_within_t8 : Type 0
@@ -47,6 +53,15 @@ one_answer_within_t8 =
     destination_place c (dpc_of m) ≡ Some destination →
     (transfer whole c (Some link) m node).outcome ≡ Refused NoRoute →
     IsToldOnce c (set_of c link) destination node (transfer whole c (Some link) m node).left
+
+-- A test by which an adjacent point asks about a route is answered only if a link leads there. Else nothing changes, so
+-- the point is still owed what it was owed.
+abbrev pub route_tests_need_a_link : Type 0
+route_tests_need_a_link =
+    (c : Configuration) (asked : RouteTest) (set destination : ℕ) (node : Node WholeQueues) →
+    ((status : RouteStatus) →
+    link_of c node.parts (flow_of (route_message c set destination status)) ≡ None) →
+    (on_route_test whole c asked (Ok (set, destination)) node).left ≡ node
 
 -- ---- T8 isn't stopped early
 

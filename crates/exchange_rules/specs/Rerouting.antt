@@ -21,7 +21,7 @@ use Rattle.route_management.specs.declared.heard.Heard.{Heard}
 use Rattle.route_management.specs.declared.heard.Heard.TheVariants.{Ignored, Unchanged, Changed}
 use Rattle.exchange_rules.specs.State.{QueueKind, Parts, Node, Done, with_parts, answer}
 use Rattle.exchange_rules.specs.Routing.{network_of, facts, adjacent_of, point_of}
-use Rattle.exchange_rules.specs.Telling.{management_to, send_routed}
+use Rattle.exchange_rules.specs.Telling.{is_led, management_to, send_if}
 
 -- ---- a status
 
@@ -111,9 +111,10 @@ module _ {Q : Type 0} (q : QueueKind Q) (c : Configuration) where
   with_next_test set destination p =
       record p { timers = set_timer (name.T10 set destination) c.timers.t10 p.timers }
 
+  -- the test goes out, if its flow has a link
   abbrev pub ask : Message → (set destination : ℕ) → Node Q → Node Q
   ask m set destination node =
-      send_routed q c m (with_parts node (with_next_test set destination node.parts))
+      send_if q c (is_led c m node.parts) m (with_parts node (with_next_test set destination node.parts))
 
   -- the test is that of the route's status; one that is allowed isn't tested
   abbrev pub ask_by : Option RouteStatus → (set destination : ℕ) → Node Q → Node Q

@@ -26,6 +26,7 @@ use Rattle.exchange_rules.specs.Messages.{offer}
 use Rattle.exchange_rules.specs.ChangingOver.{complete_if, fail}
 use Rattle.exchange_rules.specs.ChangingBack.{code_in_use, hold_flows}
 use Rattle.exchange_rules.specs.Rerouting.{forced}
+use Rattle.exchange_rules.specs.Telling.{answer_no_route}
 use Rattle.exchange_rules.specs.Timing.{timed_busy, timed_busy_ended}
 use Rattle.exchange_rules.specs.Exchange.{release}
 use Rattle.exchange_rules.specs.Lasting.{after_each}
@@ -159,6 +160,18 @@ abbrev pub refused_message_is_on_none : Type 0
 refused_message_is_on_none =
     ((offered (Some PoolFull)).outcome ≡ Refused PoolFull)
     × ((queue_at (offered (Some PoolFull)).left.queues 0).all ≡ [])
+
+-- no link is in service: the point at the other end of the one that a message came by isn't told that the message has no
+-- route, and nothing is lost
+abbrev pub with_far_point : Configuration
+with_far_point = record settings {
+  destinations = record { point = 2; sets = 0 ∷ []; joined = false }
+      ∷ record { point = 300; sets = 0 ∷ []; joined = false } ∷ [];
+}
+
+abbrev pub nothing_is_told_without_a_link : Type 0
+nothing_is_told_without_a_link =
+    lost_any (answer_no_route whole with_far_point (Some 0) (Some 1) (first_state with_far_point).node).parts ≡ false
 
 -- ---- a failure
 

@@ -52,6 +52,10 @@ module _ {Q : Type 0} (q : QueueKind Q) (c : Configuration) where
   abbrev pub send_anew : Message → Node Q → Node Q
   send_anew m node = send None (link_of c node.parts (flow_of m)) m node
 
+-- whether the flow of a message has a link
+abbrev pub is_led : Configuration → Message → Parts → Bool
+is_led c m p = is_some (link_of c p (flow_of m))
+
 -- ---- RTPC, RTAC and RTRC, transfer prohibited, allowed and restricted control (Q.704 §13.2 to §13.4), and RSRT, route
 -- set test control (§13.5): what adjacent points are told of routes, and how their tests are answered.
 
@@ -149,9 +153,12 @@ module _ {Q : Type 0} (q : QueueKind Q) (c : Configuration) where
       send_routed q c (route_message c set destination Prohibited)
       (with_parts node (inhibited c set destination node.parts))
 
+  -- none is made for want of room or of a link, nor does T8 start then
   abbrev pub prohibit_if : (set destination : ℕ) → Node Q → Node Q
   prohibit_if set destination node =
-      if may_tell node && not (is_inhibited set destination node.parts) then prohibit set destination node else node
+      if may_tell node && not (is_inhibited set destination node.parts)
+      && is_led c (route_message c set destination Prohibited) node.parts
+      then prohibit set destination node else node
 
   -- the link that it came by, if any, and its destination
   abbrev pub answer_no_route : (link destination : Option ℕ) → Node Q → Node Q
@@ -165,7 +172,7 @@ module _ {Q : Type 0} (q : QueueKind Q) (c : Configuration) where
   abbrev pub is_unequipped_told : (origin : ℕ) → Message → Node Q → Bool
   is_unequipped_told origin m node =
       may_tell node && nat_eq (unequipped_from origin node.parts) 0
-      && is_some (link_of c node.parts (flow_of (unavailable c m)))
+      && is_led c (unavailable c m) node.parts
 
   abbrev pub send_if : Bool → Message → Node Q → Node Q
   send_if is_told m node = if is_told then send_routed q c m node else node
@@ -185,11 +192,13 @@ module _ {Q : Type 0} (q : QueueKind Q) (c : Configuration) where
 
   -- ---- tests
 
-  -- a test is answered, if it is to be, and that counts as told
+  -- a test is answered, if it is to be, and that counts as told; without a link it isn't answered
   abbrev pub send_route_status : Option RouteStatus → (set destination : ℕ) → Node Q → Node Q
   send_route_status (Some status) set destination node =
-      send_routed q c (route_message c set destination status)
+      if is_led c (route_message c set destination status) node.parts
+      then send_routed q c (route_message c set destination status)
       (with_parts node (answered_parts set destination status node.parts))
+      else node
   send_route_status None set destination node = node
 
   -- a test from the adjacent point of a set; one about that point itself is ignored

@@ -1,5 +1,6 @@
 -- Routes that aren't allowed are tested, over every event and every take: laws (Q.704 §13.5).
-use Rattle.std.specs.Prelude.{◌≡◌, ◌≤◌, ◌<◌, ℕ, Bool, true, false, length, List, Option, Some, None}
+use Rattle.std.specs.Prelude.{◌≡◌, ◌≤◌, ◌<◌, ℕ, Bool, true, false, if◌then◌else◌, is_some, length, List, Option, Some, None}
+use Rattle.signalling_types.specs.Message.{Message, flow_of}
 use Rattle.settings_rows.specs.Configuration.{Configuration}
 use Rattle.signalling_types.specs.declared.limits.TheConstants.Limits.{LINKS}
 use Rattle.routes.specs.declared.route.RouteStatus.{RouteStatus}
@@ -10,7 +11,7 @@ use Rattle.timers.specs.Timers.{is_running, set_timer}
 use Rattle.mtp3_codec.specs.declared.management.Management.{Management}
 use Rattle.mtp3_codec.specs.declared.management.Management.TheVariants.{RouteSetTestProhibited, RouteSetTestRestricted}
 use Rattle.exchange_rules.specs.State.{Asking, Parts, Node, with_parts}
-use Rattle.exchange_rules.specs.Routing.{facts, adjacent_of, point_of}
+use Rattle.exchange_rules.specs.Routing.{facts, adjacent_of, link_of, point_of}
 use Rattle.exchange_rules.specs.Telling.{management_to, send_routed}
 use Rattle.exchange_rules.specs.Queues.{WholeQueues, whole}
 use Rattle.exchange_rules.specs.Exchange.{run_timer}
@@ -40,12 +41,14 @@ unsure_routes_are_tested =
     (c : Configuration) (asked : List Asking) → length c.links ≤ LINKS →
     AreTested c (after_each asked (first_state c)).node.parts
 
--- T10 of a route that isn't allowed runs out: a test of the route goes to the adjacent point, and T10 runs again
+-- T10 of a route that isn't allowed runs out: T10 runs again, and if a link leads to the adjacent point a test of the
+-- route goes there; else nothing else changes
 abbrev pub asked_again : Configuration → (set destination : ℕ) → Management → Node WholeQueues → Node WholeQueues
 asked_again c set destination test node =
-    send_routed whole c (management_to c (adjacent_of c set) test)
-    (with_parts node
-    (record node.parts { timers = set_timer (T10 set destination) c.timers.t10 node.parts.timers }))
+    let asking : Message = management_to c (adjacent_of c set) test in
+    let next : Node WholeQueues =
+    with_parts node (record node.parts { timers = set_timer (T10 set destination) c.timers.t10 node.parts.timers }) in
+    if is_some (link_of c node.parts (flow_of asking)) then send_routed whole c asking next else next
 
 pub record AsksAgain (c : Configuration) (set destination : ℕ) (node : Node WholeQueues) : Type 0 where
   pub prohibited : status_of (facts c node.parts) destination set ≡ Some Prohibited →

@@ -26,6 +26,7 @@ ghost use Rattle.exchange_rules.specs.LawsOfReturns.{entries_hold_changed_flows,
 ghost use Rattle.exchange_rules.specs.LawsOfReturns.{tests_hold_changed_flows, first_tests_are_returns};
 ghost use Rattle.exchange_rules.specs.LawsOfAnswers.{queued_stands_last, t8_lasts};
 ghost use Rattle.exchange_rules.specs.LawsOfAnswers.{one_answer_within_t8, t8_runs_its_time, takes_leave_t8};
+ghost use Rattle.exchange_rules.specs.LawsOfAnswers.{route_tests_need_a_link};
 ghost use Rattle.exchange_rules.specs.LawsOfReturns.{returns_keep_holds};
 ghost use Rattle.exchange_rules.specs.LawsOfReturns.{flows_return_by_their_procedures, entries_are_returns};
 ghost use Rattle.exchange_rules.specs.LawsOfReturns.{untested_entries_take_nothing};
@@ -96,13 +97,20 @@ pub fn queued_messages_stand_last()
 {}
 
 /// While T8 of a set and a destination runs, no message from the set that finds no route to the destination is answered
-/// with TFP; where one is, T8 runs from then on (Q.704 §13.2). It stops only at a tick, as it runs out, or as one of
-/// the links of the set enters service, and none of them was; else it lasts as long as it is set to.
+/// with TFP, nor while no link leads to the set's point; where one is, T8 runs from then on (Q.704 §13.2). It stops only
+/// at a tick, as it runs out, or as one of the links of the set enters service, and none of them was; else it lasts as
+/// long as it is set to.
 pub fn no_message_is_answered_while_t8_runs()
     ensures answered { one_answer_within_t8 }
     ensures event { t8_runs_its_time }
     ensures take { takes_leave_t8 }
     ensures always { t8_lasts }
+{}
+
+/// A test by which an adjacent point asks about a route is answered only if a link leads to that point. Else it changes
+/// nothing, so nothing counts as told.
+pub fn route_tests_are_answered_with_a_link()
+    ensures { route_tests_need_a_link }
 {}
 
 /// The move of a completed changeover touches the queue of no other link. In Held the messages that it moves stand
@@ -243,8 +251,8 @@ pub fn routes_to_adjacent_points_stay_allowed()
 {}
 
 /// Each route that isn't allowed, over a set with a link in service, is tested, whatever happens and whatever is taken:
-/// its T10 runs. When T10 of such a route runs out, the test for its status goes to the adjacent point, and T10 runs
-/// again (Q.704 §13.5).
+/// its T10 runs. When T10 of such a route runs out, T10 runs again, and the test for its status goes to the adjacent
+/// point, if a link leads there (Q.704 §13.5).
 pub fn unsure_routes_are_tested_again_and_again()
     ensures always { unsure_routes_are_tested }
     ensures again { tests_are_repeated }

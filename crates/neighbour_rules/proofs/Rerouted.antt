@@ -15,7 +15,7 @@ use Rattle.route_management.specs.declared.heard.Heard.{Heard}
 use Rattle.route_management.specs.declared.heard.Heard.TheVariants as hears
 use Rattle.route_management.specs.declared.heard.RouteTest.{RouteTest}
 use Rattle.exchange_rules.specs.Rerouting.{apply_route_status, controlled, forced, held_by_rerouting, on_route_status, timed_status, with_status_heard}
-use Rattle.exchange_rules.specs.Telling.{answered_parts, on_route_test, send_route_status}
+use Rattle.exchange_rules.specs.Telling.{answered_parts, is_led, on_route_test, route_message, send_route_status, send_routed}
 use Rattle.exchange_rules.proofs.Definitions.{told_shape}
 use Rattle.exchange_rules.proofs.Rules.{rules-of}
 use Rattle.exchange_rules.proofs.SteppingMessages.{on_route_status-steps}
@@ -196,11 +196,18 @@ module _ (c z : Configuration) (j : Joint c z) where
     -- ---- a test
 
     tested-passes : (status : Option RouteStatus) (its destination : ℕ) (n : Node WholeQueues) → Pass n (send_route_status whole c status its destination n)
-    tested-passes (Some status) its destination n =
-        passes-both c z j _ _ _
-        (aside-passes c z j w n arrived loose (answered_parts its destination status n.parts)
-        ((fit-steps c).told (told.with_told its destination status n.parts.told) n (record { shape = told_shape n.parts.told its destination status; adjacents = refl })) refl refl refl refl refl refl (λ e. e))
-        (telling-route c z j w arrived loose (with_parts n (answered_parts its destination status n.parts)) its destination status)
+    tested-passes (Some status) its destination n = sent (is_led c (route_message c its destination status) n.parts)
+      where
+        next : Node WholeQueues
+        next = with_parts n (answered_parts its destination status n.parts)
+
+        sent : (b : Bool) → Pass n (if b then send_routed whole c (route_message c its destination status) next else n)
+        sent true =
+            passes-both c z j _ _ _
+            (aside-passes c z j w n arrived loose (answered_parts its destination status n.parts)
+            ((fit-steps c).told (told.with_told its destination status n.parts.told) n (record { shape = told_shape n.parts.told its destination status; adjacents = refl })) refl refl refl refl refl refl (λ e. e))
+            (telling-route c z j w arrived loose next its destination status)
+        sent false = passes-none c z j (at c z j w n arrived loose)
     tested-passes None its destination n = passes-none c z j (at c z j w n arrived loose)
 
     pub on_route_test-passes : (test : RouteTest) (route : Result (ℕ × ℕ) Outcome) (n : Node WholeQueues) → Pass n (on_route_test whole c test route n).left

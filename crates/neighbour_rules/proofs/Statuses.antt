@@ -33,6 +33,7 @@ use Rattle.pair_rules.proofs.World.{World}
 use Rattle.neighbour_rules.proofs.World.{says_of}
 use Rattle.neighbour_rules.proofs.Good.{Joint, Passes, at, passes-both, passes-none, set}
 use Rattle.neighbour_rules.proofs.Made.{made-brief, adjacent-fits, plain-other, point-fits}
+use Rattle.exchange_rules.specs.Telling.{is_led, send_if}
 use Rattle.neighbour_rules.proofs.Messages.{making, send_routed-passes}
 use Rattle.neighbour_rules.proofs.Relinked.{relinked-passes, timed-passes, titled-passes}
 use Rattle.neighbour_rules.proofs.Testing.{begin_test-passes, test_unanswered-passes}
@@ -145,8 +146,14 @@ module _ (c z : Configuration) (j : Joint c z) where
   asking w n m its_set destination managed says short =
       passes-both c z j _ _ _
       (timed-passes c z j w n [] [] (with_next_test whole c its_set destination n.parts).timers ((fit-steps c).timed _ n (set-timed (name.T10 its_set destination) c.timers.t10 n.parts.timers (λ l e. cc))))
-      (passes-both c z j _ _ _ (making c z j w (with_parts n (with_next_test whole c its_set destination n.parts)) [] m [] says short)
-      (send_routed-passes c z j w (with_parts n (with_next_test whole c its_set destination n.parts)) [] m [] managed))
+      (sent (is_led c m n.parts))
+    where
+      next : Node WholeQueues
+      next = with_parts n (with_next_test whole c its_set destination n.parts)
+
+      sent : (b : Bool) → Passes c z j (at c z j w next [] []) (at c z j w (send_if whole c b m next) [] [])
+      sent true = passes-both c z j _ _ _ (making c z j w next [] m [] says short) (send_routed-passes c z j w next [] m [] managed)
+      sent false = passes-none c z j (at c z j w next [] [])
 
   asked-by : (o : Option RouteStatus) (w : World) (n : Node WholeQueues) (its_set destination : ℕ) → Passes c z j (at c z j w n [] []) (at c z j w (ask_by whole c o its_set destination n) [] [])
   asked-by (Some Prohibited) w n its_set destination =

@@ -9,7 +9,7 @@ use Rattle.std.proofs.Common.{arith}
 use Rattle.exchange_rules.proofs.Basics.{length-set, ◌<◌, ◌^◌}
 use Rattle.routes.specs.declared.route.RouteStatus.TheVariants.{Prohibited}
 use Rattle.route_management.specs.Told.{Owed, owed}
-use Rattle.exchange_rules.specs.Telling.{answer_no_route, answer_no_user_part, is_unequipped_told, tell_unavailable, unavailable, unequipped_counted, inhibited, is_inhibited, may_tell, prohibit, route_message, tell, tell_each, tell_if, tell_owed, telling, told_parts}
+use Rattle.exchange_rules.specs.Telling.{answer_no_route, answer_no_user_part, is_unequipped_told, tell_unavailable, unavailable, unequipped_counted, inhibited, is_inhibited, is_led, may_tell, prohibit, route_message, tell, tell_each, tell_if, tell_owed, telling, told_parts}
 use Rattle.exchange_rules.specs.Routing.{adjacent_of, point_of}
 use Rattle.exchange_rules.proofs.MadeManagement.{made-management}
 use Rattle.exchange_rules.proofs.SteppingMessages.{told_parts-steps, inhibited-steps}
@@ -65,7 +65,7 @@ module _ (c z : Configuration) (j : Joint c z) (w : World) (arrived rest : List 
   pub answer_no_route-passes : (link destination : Option ℕ) (n : Node WholeQueues) → Pass n (answer_no_route whole c link destination n)
   answer_no_route-passes (Some link) (Some destination) n =
       let its : ℕ = set_of c link in
-      either (may_tell whole c n && not (is_inhibited its destination n.parts)) n (prohibit whole c its destination n) (prohibit-passes its destination n)
+      either (may_tell whole c n && not (is_inhibited its destination n.parts) && is_led c (route_message c its destination Prohibited) n.parts) n (prohibit whole c its destination n) (prohibit-passes its destination n)
   answer_no_route-passes (Some link) None n = passes-none c z j (at c z j w n arrived rest)
   answer_no_route-passes None destination n = passes-none c z j (at c z j w n arrived rest)
 

@@ -3,7 +3,7 @@
 use Rattle.exchange_rules.proofs.Basics.{◌<◌, ◌^◌, ◌%◌, arith, ◌≡◌, ◌&&◌, ℕ, zero, suc, Bool, true, false, not, List, [], ◌∷◌, ◌++◌, Option, Some, None, Result, Ok, Err, refl, ◌∙◌, if◌then◌else◌, nat_eq, nat_lt, length, list_all, and_from as pair}
 use Rattle.std.proofs.lemmas.List.Folds.{list_all-append}
 use Rattle.exchange_rules.proofs.Definitions.{Message, is_management, dpc_of, flow_of, service_indicator, Configuration, Cause, Management, ExtendedChangeoverOrder, ChangebackDeclaration, RouteSetTestProhibited, RouteSetTestRestricted, LinkTestValue, RelayedValue, relay, returned, FailureReason, LinkStatus, LinkTimer, Transition, Expiry, Facts, RouteStatus, Allowed, Restricted, Prohibited, RouteTest, Heard, Owed, Node, Done, Parts, with_parts, answer, refuse, WholeQueues, whole, queue_on, hold, declaration, test_answer, link_of, no_room, no_room_for, waits, is_destination, destination_place, link_at, down, in_service, set_of, peer_of, point_of, adjacent_of, telling, entry_of, facts, owed}
-use Rattle.exchange_rules.proofs.Definitions.{send, send_routed, send_anew, send_each, transfer, offer, route_message, told_parts, tell, tell_if, tell_each, tell_owed, may_tell, inhibited, is_inhibited, prohibit, answer_no_route, answered_parts, send_route_status, on_route_test, on_route_status, apply_route_status, ask_by, ask_again, with_next_test, prohibited_test, restricted_test, status_of, management_to, own_of, in_place_of, send_udts, return_outcome, relay_by, on_unitdata, answer_no_user_part, is_unequipped_told, tell_unavailable, unavailable, unequipped_counted, UserPartUnavailable, Unequipped, opc_of}
+use Rattle.exchange_rules.proofs.Definitions.{send, send_routed, send_anew, send_each, transfer, offer, route_message, told_parts, tell, tell_if, tell_each, tell_owed, may_tell, inhibited, is_inhibited, is_led, prohibit, answer_no_route, answered_parts, send_route_status, on_route_test, on_route_status, apply_route_status, ask, ask_by, ask_again, with_next_test, prohibited_test, restricted_test, status_of, management_to, own_of, in_place_of, send_udts, return_outcome, relay_by, on_unitdata, answer_no_user_part, is_unequipped_told, tell_unavailable, unavailable, unequipped_counted, UserPartUnavailable, Unequipped, opc_of}
 use Rattle.exchange_rules.proofs.Definitions.{is_user, sccp, local, make_unavailable, begin, change_over, fail, begin_by_peer, fail_by_peer, fail_by_order, changeover_order, changing, has_other}
 use Rattle.exchange_rules.proofs.Definitions.{hold_flows, code_in_use, code_for, take_back_each, loses_flows, advance, moved_on, return_if, begun_anew, is_first_test, test_passed, pass_test, enters, enters_traffic, serve_status, act_by_status, act_by_timer, run_out, acts_on, link_test, awaiting_test, with_test_failed, tests_links, queue_if, send_test, begin_test, repeat_test, test_unanswered, take_step, test_if, on_link_status, begin_outage, hear_outage, end_outage, tells_outage, tells_recovery, Status}
 use Rattle.exchange_rules.proofs.Settling.{left-true, right-true}
@@ -104,7 +104,7 @@ module _ (c : Configuration) (fine : Message → Bool) (f : IsFine c fine) {R : 
   no_route-keeps : (link destination : Option ℕ) (n : Node WholeQueues) → R n (answer_no_route whole c link destination n)
   no_route-keeps (Some link) (Some destination) n =
       let set : ℕ = set_of c link in
-      either (may_tell whole c n && not (is_inhibited set destination n.parts)) n (prohibit whole c set destination n) n
+      either (may_tell whole c n && not (is_inhibited set destination n.parts) && is_led c (route_message c set destination Prohibited) n.parts) n (prohibit whole c set destination n) n
       (routed-with (route_message c set destination Prohibited) n (inhibited c set destination n.parts) (f.made (adjacent_of c set) (telling Prohibited (point_of c destination)) (f.adjacent set))) (stays n)
   no_route-keeps (Some link) None n = stays n
   no_route-keeps None destination n = stays n
@@ -122,7 +122,11 @@ module _ (c : Configuration) (fine : Message → Bool) (f : IsFine c fine) {R : 
   no_part-keeps None origin m n = stays n
 
   route_status-keeps : (status : Option RouteStatus) (set destination : ℕ) (n : Node WholeQueues) → R n (send_route_status whole c status set destination n)
-  route_status-keeps (Some status) set destination n = routed-with (route_message c set destination status) n (answered_parts set destination status n.parts) (f.made (adjacent_of c set) (telling status (point_of c destination)) (f.adjacent set))
+  route_status-keeps (Some status) set destination n =
+      let m : Message = route_message c set destination status in
+      let next : Parts = answered_parts set destination status n.parts in
+      either (is_led c m n.parts) n (send_routed whole c m (with_parts n next)) n
+      (routed-with m n next (f.made (adjacent_of c set) (telling status (point_of c destination)) (f.adjacent set))) (stays n)
   route_status-keeps None set destination n = stays n
 
   pub test-keeps : (test : RouteTest) (route : Result (ℕ × ℕ) Outcome) (n : Node WholeQueues) → R n (on_route_test whole c test route n).left
@@ -141,9 +145,14 @@ module _ (c : Configuration) (fine : Message → Bool) (f : IsFine c fine) {R : 
   status-keeps status (Ok (set, destination)) n = status-by (told.heard (facts c n.parts) n.parts.told set destination status) set destination status n
   status-keeps status (Err outcome) n = stays n
 
+  ask-one : (m : Message) (set destination : ℕ) (n : Node WholeQueues) → fine m ≡ true → R n (ask whole c m set destination n)
+  ask-one m set destination n e =
+      let next : Node WholeQueues = with_parts n (with_next_test whole c set destination n.parts) in
+      r.both n next _ (r.same n next refl) (either (is_led c m n.parts) next (send_routed whole c m next) next (routed m next e) (stays next))
+
   ask-by : (status : Option RouteStatus) (set destination : ℕ) (n : Node WholeQueues) → R n (ask_by whole c status set destination n)
-  ask-by (Some Prohibited) set destination n = routed-with (prohibited_test whole c set destination) n (with_next_test whole c set destination n.parts) (f.made (adjacent_of c set) (RouteSetTestProhibited (point_of c destination)) (f.adjacent set))
-  ask-by (Some Restricted) set destination n = routed-with (restricted_test whole c set destination) n (with_next_test whole c set destination n.parts) (f.made (adjacent_of c set) (RouteSetTestRestricted (point_of c destination)) (f.adjacent set))
+  ask-by (Some Prohibited) set destination n = ask-one (prohibited_test whole c set destination) set destination n (f.made (adjacent_of c set) (RouteSetTestProhibited (point_of c destination)) (f.adjacent set))
+  ask-by (Some Restricted) set destination n = ask-one (restricted_test whole c set destination) set destination n (f.made (adjacent_of c set) (RouteSetTestRestricted (point_of c destination)) (f.adjacent set))
   ask-by (Some Allowed) set destination n = stays n
   ask-by None set destination n = stays n
 

@@ -52,6 +52,17 @@ impl Exchange {
         });
     }
 
+    /// Whether the flow of a management message for a point has a link.
+    pub(super) fn is_led(&self, point: PointCode, message: &Management) -> bool
+        ensures { result ≡ rule.is_led self.now.settings
+            (rule.management_to self.now.settings point message.now) self.now.node.parts }
+    {
+        let mut octets = [0; MANAGEMENT_OCTETS];
+        let count = message.write(point, self.settings.own(), &mut octets);
+        let label = Label::at(&octets[..count]);
+        self.link_of(&label).is_some()
+    }
+
     /// A management message made here for a point goes out on the link of its flow; without a link none is made.
     pub(super) fn send_management_if_led(&mut self, point: PointCode, message: &Management)
         ensures { self.new ≡ with_node self.old (rule.send_if kept self.old.settings

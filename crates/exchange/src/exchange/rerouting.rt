@@ -170,7 +170,7 @@ impl Exchange {
         }
     }
 
-    /// A test about a destination goes to the adjacent point of a set, and T10 runs again.
+    /// A test about a destination goes to the adjacent point of a set, if a link leads there, and T10 runs again.
     fn ask(&mut self, set: SetId, destination: usize, test: &Management)
         requires set { set < length self.old.settings.sets }
         requires destination { destination < length self.old.settings.destinations }
@@ -180,6 +180,6 @@ impl Exchange {
     {
         let timer = TimerName::T10(set, self.number_of(destination));
         self.timers.set(timer, self.settings.timers().t10);
-        self.send_management(self.adjacent_of(set), test);
+        self.send_management_if_led(self.adjacent_of(set), test);
     }
 }

@@ -196,9 +196,20 @@ impl Exchange {
         self.send_management(self.adjacent_of(set), &telling(status, about));
     }
 
+    /// Whether a link leads to the adjacent point of a set, for the message that says a status of a destination.
+    fn is_status_led(&self, set: SetId, destination: usize, status: RouteStatus) -> bool
+        requires set { set < length self.now.settings.sets }
+        requires destination { destination < length self.now.settings.destinations }
+        ensures { result ≡ rule.is_led self.now.settings
+            (rule.route_message self.now.settings set destination status) self.now.node.parts }
+    {
+        let about = self.point_of(destination);
+        self.is_led(self.adjacent_of(set), &telling(status, about))
+    }
+
     /// A message to the destination of this number has no route. If it arrived on a link, transfer-prohibited about the
     /// destination goes to the point at the other end of that link, and T8 starts. None goes while T8 runs, if that
-    /// point is the destination itself, or if there is no room (Q.704 §13.2).
+    /// point is the destination itself, or if there is no room or no link for it (Q.704 §13.2).
     #[inline(never)]
     pub(super) fn answer_no_route(&mut self, from: Option<LinkId>, destination: usize)
         requires from { IfSome from (λ link. link < length self.old.settings.links) }
@@ -210,7 +221,10 @@ impl Exchange {
             return;
         };
         let set = self.set_of(link);
-        if self.may_tell() && !self.is_inhibited(set, destination) {
+        if self.may_tell()
+            && !self.is_inhibited(set, destination)
+            && self.is_status_led(set, destination, RouteStatus::Prohibited)
+        {
             self.inhibit(set, destination);
             self.send_status(set, destination, RouteStatus::Prohibited);
         }
@@ -258,7 +272,7 @@ impl Exchange {
         Outcome::Handled
     }
 
-    /// Answers a test, if it should be answered. The answer counts as told.
+    /// Answers a test, if it should be answered and the answer has a link. The answer counts as told.
     fn send_route_status(&mut self, test: RouteTest, set: SetId, destination: usize)
         requires set { set < length self.old.settings.sets }
         requires destination { destination < length self.old.settings.destinations }
@@ -271,6 +285,19 @@ impl Exchange {
             .told
             .answer_to_test(&self.links, set, destination, test);
         if let Some(status) = answer {
+            self.send_status_if_led(set, destination, status);
+        }
+    }
+
+    /// Tells the adjacent point of a set the status of a destination that it should know, if the message has a link.
+    fn send_status_if_led(&mut self, set: SetId, destination: usize, status: RouteStatus)
+        requires set { set < length self.old.settings.sets }
+        requires destination { destination < length self.old.settings.destinations }
+        requires status { status ≡ status_to_advertise (known self.old) set destination }
+        ensures { self.new ≡ with_node self.old
+            (rule.send_route_status kept self.old.settings (Some status) set destination self.old.node) }
+    {
+        if self.is_status_led(set, destination, status) {
             self.record_told(set, destination, status);
             self.send_status(set, destination, status);
         }
