@@ -5,7 +5,7 @@ use Rattle.link.specs.Table.{entering, period_after, proving_status, timer_of}
 use Rattle.link.specs.declared.action.Action.TheVariants as act
 use Rattle.link.specs.declared.action.LinkTimer.TheVariants as timer
 use Rattle.link.specs.declared.alignment.Alignment.TheVariants.{NotAligned, Aligned, Proving}
-use Rattle.link.specs.declared.period.Period.TheVariants.{Fixed, Normal, Emergency}
+use Rattle.link.specs.declared.period.Period.TheVariants.{Fixed, Normal, Hurried, Emergency}
 use Rattle.m2pa_codec.specs.declared.status.LinkStatus.TheVariants.{ProvingNormal, ProvingEmergency}
 use Rattle.std.proofs.lemmas.Bool.{lt-ltb}
 use Rattle.timers.specs.declared.name.TimerName.TheVariants.{L4}
@@ -105,6 +105,7 @@ module _ (c : Configuration) (link : ℕ) (n : Node WholeQueues) (places : HasAl
       asked-for : (period : Period) → period ≢ Fixed → runs-for (period_after period (Status ProvingEmergency)) ≡ runs-for Emergency
       asked-for Fixed chosen = absurd (chosen refl)
       asked-for Normal chosen = refl
+      asked-for Hurried chosen = refl
       asked-for Emergency chosen = refl
 
       by-neither : (its.period ≡ Normal) ⊎ (its.period ≡ Fixed) → AwaitsProving its → left_to_prove c link ProvingNormal n ≡ Some (max 1 c.timers.l4)
@@ -125,6 +126,8 @@ module _ (c : Configuration) (link : ℕ) (n : Node WholeQueues) (places : HasAl
       passes Fixed other true = refl
       passes Fixed other false = refl
       passes Normal other ready = absurd (other refl)
+      passes Hurried other true = refl
+      passes Hurried other false = refl
       passes Emergency other true = refl
       passes Emergency other false = refl
 

@@ -1,6 +1,6 @@
 -- What adjacent points are told of routes.
 use Rattle.exchange_rules.proofs.Basics.{◌≡◌, ◌<◌, ◌&&◌, ◌||◌, ◌^◌, ◌*◌, ◌+◌, ◌/◌, ◌%◌, ℕ, Bool, true, false, not, Option, Some, None, ap, ◌∙◌, arith, nat_tests, nat_lt, nat_le, is_some, if◌then◌else◌}
-use Rattle.exchange_rules.proofs.Definitions.{Configuration, Message, flow_of, Cause, ManagementFull, TransferAllowed, TransferProhibited, TransferRestricted, RouteStatus, Allowed, Prohibited, Restricted, Node, Done, with_parts, refuse, adjacent_of, point_of, set_of, link_of, no_room, send, waits, offer, no_room_for, transfer, answer_no_route, prohibit, inhibited, is_running, is_own_point, route_message, WholeQueues, whole}
+use Rattle.exchange_rules.proofs.Definitions.{Configuration, Message, flow_of, Cause, ManagementFull, TransferAllowed, TransferProhibited, TransferRestricted, RouteStatus, Allowed, Prohibited, Restricted, Node, Done, with_parts, refuse, adjacent_of, point_of, set_of, link_of, no_room, send, waits, offer, no_room_for, transfer, answer_no_route, prohibit, inhibited, is_running, is_own_point, route_message, is_led, WholeQueues, whole}
 use Rattle.signalling_types.specs.declared.cause.Cause.TheVariants as causes
 use Rattle.mtp3_codec.proofs.Reading.{its-label, message-back}
 use Rattle.timers.specs.declared.name.TimerName.TheVariants.{T8}
@@ -82,9 +82,10 @@ module _ (c : Configuration) (link destination way : ℕ) (m : Message) (n : Nod
 
   prohibits : answer_no_route whole c (Some link) (Some destination) n ≡ send whole c None (Some way) tfp next
   prohibits =
-      ap (λ (b : Bool). if b && not (is_running (T8 set destination) n.parts.timers || is_own_point n.parts.told set destination) then prohibit whole c set destination n else n) (below (whole.managements n.queues) may.few)
-      ∙ ap (λ (b : Bool). if not (b || is_own_point n.parts.told set destination) then prohibit whole c set destination n else n) may.idle
-      ∙ ap (λ (b : Bool). if not b then prohibit whole c set destination n else n) may.other
+      ap (λ (b : Bool). if b && not (is_running (T8 set destination) n.parts.timers || is_own_point n.parts.told set destination) && is_led c tfp n.parts then prohibit whole c set destination n else n) (below (whole.managements n.queues) may.few)
+      ∙ ap (λ (b : Bool). if not (b || is_own_point n.parts.told set destination) && is_led c tfp n.parts then prohibit whole c set destination n else n) may.idle
+      ∙ ap (λ (b : Bool). if not b && is_led c tfp n.parts then prohibit whole c set destination n else n) may.other
+      ∙ ap (λ (its : Option ℕ). if is_some its then prohibit whole c set destination n else n) may.by
       ∙ ap (λ (cause : Option Cause). send whole c cause (link_of c n.parts (flow_of tfp)) tfp next) has-room
       ∙ ap (λ (its : Option ℕ). send whole c None its tfp next) may.by
 
