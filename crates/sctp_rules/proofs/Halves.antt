@@ -177,7 +177,7 @@ then-same count s t u c a = record {
 }
 
 -- the half before T3 is looked at
-abbrev unsettled : Sending → (now window count : ℕ) → (ℕ → Bool) → Sending
+abbrev pub unsettled : Sending → (now window count : ℕ) → (ℕ → Bool) → Sending
 unsettled s now window count names =
     let full = nat_le s.congestion.window (under_way s) in
     let left = confirmed s count now in
@@ -187,7 +187,7 @@ unsettled s now window count names =
     let measured = is_timed_named passing.out left.timed in
     let after = record left {
       out = passing.out;
-      congestion = congestion_by left.congestion passing.any left.went count octets full;
+      congestion = congestion_by left.congestion passing.any left.went octets full;
       burst = if passing.any then burst_octets else left.burst;
       round_trips = if measured then measured_in left.round_trips left.timed left.went now else left.round_trips;
       timed = if measured then None else left.timed;

@@ -126,6 +126,10 @@ abbrev pub running : Option ℕ → ℕ → Option ℕ
 running None moment = Some moment
 running (Some t) moment = Some t
 
+-- the first of all that isn't confirmed goes out again: T3 restarts (§7.2.4, 5)
+abbrev pub running_anew : Option ℕ → (place moment : ℕ) → Option ℕ
+running_anew timer place moment = if place == 0 then Some moment else running timer moment
+
 -- a lost message goes out again
 unfoldable pub gone_again : Sending → (place now : ℕ) → Sending
 gone_again s place now = record s {
@@ -133,7 +137,7 @@ gone_again s place now = record s {
   peer_window = s.peer_window - octets_of (outgoing_at s.out place);
   burst = burst_left s.burst (chunk_octets (octets_of (outgoing_at s.out place)));
   timed = timed_without s.timed place;
-  t3 = running s.t3 (now + s.round_trips.timeout);
+  t3 = running_anew s.t3 place (now + s.round_trips.timeout);
 }
 
 -- the first new one goes out
@@ -262,10 +266,10 @@ with_named_measured s now =
 
 -- ---- a SACK comes
 
--- what it makes of the congestion window: a message was lost, or some were confirmed
-abbrev pub congestion_by : Congestion → (lost : Bool) (under_way count octets : ℕ) (full : Bool) → Congestion
-congestion_by c lost went count octets full =
-    if lost then after_loss c went else if nat_lt 0 count then grown c octets full else c
+-- what it makes of the congestion window: a message was lost, or octets were confirmed or named for the first time
+-- (§7.2.1, §7.2.2)
+abbrev pub congestion_by : Congestion → (lost : Bool) (under_way octets : ℕ) (full : Bool) → Congestion
+congestion_by c lost went octets full = if lost then after_loss c went else grown c octets full
 
 -- the messages that are left after it: named or not, and those before the last one named again passed over
 abbrev pub naming_of : (ℕ → Bool) → Sending → Naming
@@ -285,7 +289,7 @@ acknowledged s now window count names =
     let measured = is_timed_named passing.out left.timed in
     let after = record left {
       out = passing.out;
-      congestion = congestion_by left.congestion passing.any left.went count octets full;
+      congestion = congestion_by left.congestion passing.any left.went octets full;
       burst = if passing.any then burst_octets else left.burst;
       round_trips = if measured then measured_in left.round_trips left.timed left.went now else left.round_trips;
       timed = if measured then None else left.timed;
@@ -314,6 +318,11 @@ after_t3 s now =
       timed = None;
       t3 = Some (now + waited.timeout);
     }
+
+-- T3 runs out at these moments, one after another
+abbrev pub after_each_t3 : List ℕ → Sending → Sending
+after_each_t3 [] s = s
+after_each_t3 (now ∷ more) s = after_each_t3 more (after_t3 s now)
 
 -- ---- which messages there are
 

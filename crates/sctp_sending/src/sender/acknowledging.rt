@@ -61,25 +61,25 @@ impl Sender {
         let confirmed = self.take_off(count, now);
         let named = self.outbox.name_by(blocks);
         let any_lost = self.outbox.pass_over_first(named.reach);
-        self.congest(any_lost, count, confirmed + named.octets, full);
+        self.congest(any_lost, confirmed + named.octets, full);
         self.measure_named(now);
         self.peer_window = window.saturating_sub(self.outbox.under_way());
         self.settle(count, now);
         count > 0 || named.octets > 0
     }
 
-    /// What a SACK makes of the congestion window, if a message was lost by it, or it confirmed some.
-    fn congest(&mut self, any_lost: bool, count: usize, octets: u32, full: bool)
+    /// What a SACK makes of the congestion window: a message was lost by it, or it confirmed or named these octets.
+    fn congest(&mut self, any_lost: bool, octets: u32, full: bool)
         requires { octets ≤ most_window }
         ensures { self.new ≡ record self.old {
-          congestion = congestion_by self.old.congestion any_lost self.old.went count octets full;
+          congestion = congestion_by self.old.congestion any_lost self.old.went octets full;
           burst = if any_lost then burst_octets else self.old.burst;
         } }
     {
         if any_lost {
             self.burst = BURST_OCTETS;
             self.congestion.lose(self.outbox.went());
-        } else if count > 0 {
+        } else {
             self.congestion.grow(octets, full);
         }
     }

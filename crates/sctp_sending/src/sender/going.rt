@@ -14,6 +14,7 @@ ghost use Rattle.sctp_sending.specs.Sending.{
   timed_without,
   timed_from,
   running,
+  running_anew,
 };
 
 use crate::sender::Sender;
@@ -106,7 +107,7 @@ impl Sender {
         self.peer_window = self.peer_window.saturating_sub(octets);
         self.burst = burst_left(self.burst, chunk_octets(octets));
         self.timed = timed_without(self.timed, place);
-        self.t3 = running(self.t3, now + u64::from(self.round_trips.timeout()));
+        self.t3 = running_anew(self.t3, place, now + u64::from(self.round_trips.timeout()));
     }
 
     /// The first new message goes out.
@@ -163,6 +164,18 @@ fn running(timer: Option<u64>, moment: u64) -> Option<u64>
     match timer {
         Some(earlier) => Some(earlier),
         None => Some(moment),
+    }
+}
+
+/// The same when the message at an index goes out again: it restarts for the first of all that isn't confirmed
+/// (RFC 9260 §7.2.4, 5).
+fn running_anew(timer: Option<u64>, place: usize, moment: u64) -> Option<u64>
+    ensures { result ≡ running_anew timer place moment }
+{
+    if place == 0 {
+        Some(moment)
+    } else {
+        running(timer, moment)
     }
 }
 
