@@ -8,3 +8,4 @@ pub mod ComingUp
 pub mod Rising
 pub mod GoingOut
 pub mod Filling
+pub mod Doubling

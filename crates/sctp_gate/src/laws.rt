@@ -4,6 +4,8 @@ ghost use Rattle.exchange.specs.KeptQueues.{kept};
 ghost use Rattle.exchange_rules.specs.Queues.{whole};
 ghost use Rattle.sctp_gate.specs.Laws.{frames_have_their_streams, settling_agrees};
 ghost use Rattle.sctp_gate.specs.Laws.{taken_frames_are_given, taken_frames_go_out};
+ghost use Rattle.sctp_gate.specs.Laws.{WaitsDouble, waits_double_from_up};
+ghost use Rattle.sctp_gate.specs.Standing.{first_standing};
 ghost use Rattle.sctp_gate.specs.Rising.{associations_come_up, calls_are_seen};
 
 /// After each settling, with which each datagram and each tick ends: if an association is up, the link asks for
@@ -43,4 +45,11 @@ pub fn frames_that_are_taken_go_out()
 /// Link Status goes out on stream 0, and User Data on stream 1 (RFC 4165 §4.1.2).
 pub fn frames_go_out_on_their_streams()
     ensures { frames_have_their_streams }
+{}
+
+/// After the first try that fails the next one may begin a second later, and after each further one in a row twice as
+/// late, up to 30 seconds. Once an association was up the waits start over.
+pub fn waits_double()
+    ensures first { WaitsDouble first_standing }
+    ensures again { waits_double_from_up }
 {}

@@ -6,3 +6,4 @@ pub mod Sack
 pub mod Room
 pub mod Reading
 pub mod Courses
+pub mod Rows

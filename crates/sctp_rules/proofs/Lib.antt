@@ -3,6 +3,7 @@ pub mod Telling
 pub mod GoingTogether
 pub mod Wishing
 pub mod GivenMessages
+pub mod Lively
 pub mod Halves
 pub mod KeptMessages
 pub mod Passing

@@ -1,6 +1,6 @@
 -- How often associations open, by the pass over all rules; and packets with another tag.
 use Rattle.std.proofs.Common.{◌≡◌, ◌≢◌, ◌≤◌, ℕ, ◌+◌, ◌-◌, Bool, true, false, List, [], ◌∷◌, ◌++◌, refl, ap, ◌∙◌}
-use Rattle.std.proofs.Common.{arith, nat_eq, nat_lt}
+use Rattle.std.proofs.Common.{arith, nat_eq, nat_lt, sym}
 use Rattle.std.specs.Prelude.{◌&&◌, ◌||◌, not, if◌then◌else◌}
 use Rattle.std.proofs.lemmas.Bool.Decides.{nat_tests}
 use Rattle.sctp_receiving.specs.Consuming as consuming
@@ -8,9 +8,10 @@ use Rattle.sctp_receiving.specs.Receiver.{received}
 use Rattle.sctp_receiving.specs.Receiver as receiving
 use Rattle.sctp_receiving.specs.declared.violation.Violation.{Violation}
 use Rattle.sctp_receiving.specs.declared.violation.Violation.TheVariants as violations
-use Rattle.sctp_codec.specs.Packets.{ChunkValue, DataValue, PacketValue}
+use Rattle.sctp_codec.specs.Packets.{ChunkValue, DataValue, PacketValue, InitValue, InitAckChunk}
 use Rattle.sctp_codec.specs.Packets as packets
 use Rattle.sctp_rules.specs.declared.phase.Phase.{Phase}
+use Rattle.sctp_rules.specs.declared.phase.Phase.TheVariants.{CookieWait}
 use Rattle.sctp_rules.specs.declared.loss.Loss.{Loss}
 use Rattle.sctp_rules.specs.declared.loss.Loss.TheVariants as losses
 use Rattle.sctp_rules.specs.Settings.{Settings, Secrets, Address}
@@ -22,7 +23,7 @@ use Rattle.sctp_rules.specs.Data as data_rules
 use Rattle.sctp_rules.specs.Packets as arriving
 use Rattle.sctp_rules.specs.Endpoint.{Happening, after, after_all}
 use Rattle.sctp_rules.specs.Openings.{openings, generations_grow, cookies_open_in_their_generation, other_tags_are_dropped}
-use Rattle.sctp_rules.specs.Openings.{has_own_rule}
+use Rattle.sctp_rules.specs.Openings.{has_own_rule, answers_come_from_anywhere}
 use Rattle.sctp_rules.proofs.Passing.{AreSteps, Passes, Right, happens, none-right, answer-alike}
 use Rattle.sctp_rules.proofs.Telling.{anything, any-happening}
 
@@ -207,3 +208,35 @@ other-tags c k now source p first more s chunks o e f g =
     (arriving.heard_all c k now source p.tag p.chunks s) (silent s)
     (ap (λ (l : List ChunkValue). arriving.heard_all c k now source p.tag l s) chunks
     ∙ first-dropped c k now source p.tag first more s o e f g)
+
+-- ---- an INIT ACK that comes from anywhere
+
+module _ (c : Settings) (k : Secrets) (now tag : ℕ) (init : InitValue) (s : State) (e : s.association.phase ≡ CookieWait) where
+  source-stays : (source : Address) → arriving.from_source source s ≡ s
+  source-stays source =
+      ap (λ (b : Bool). if b then s else state.with_association s (record s.association { address = source }))
+      (ap opening.is_waiting e)
+
+  -- what it does without its source
+  abbrev plain : Done
+  plain =
+      if arriving.has_tag s.association tag (InitAckChunk init)
+      then arriving.heard_chunks c k now tag (InitAckChunk init ∷ []) s
+      else silent s
+
+  without-source : (source : Address) → arriving.heard_otherwise c k now source tag (InitAckChunk init) [] s ≡ plain
+  without-source source =
+      ap (λ (b : Bool). if b then arriving.out_of_the_blue c source tag (InitAckChunk init) [] s
+      else (if arriving.has_tag s.association tag (InitAckChunk init)
+      then arriving.heard_by_tag c k now source tag (InitAckChunk init ∷ []) s
+      else silent s)) (ap opening.is_closed e)
+      ∙ ap (λ (t : State). if arriving.has_tag s.association tag (InitAckChunk init)
+      then arriving.heard_chunks c k now tag (InitAckChunk init ∷ []) t
+      else silent s) (source-stays source)
+
+pub from-anywhere : answers_come_from_anywhere
+from-anywhere c k now source other p init s e chunks =
+    let here : (from : Address) → arriving.heard_all c k now from p.tag p.chunks s ≡ plain c k now p.tag init s e =
+    λ from. ap (λ (l : List ChunkValue). arriving.heard_all c k now from p.tag l s) chunks ∙ without-source c k now p.tag init s e from in
+    ap (λ (d : Done). if nat_eq p.destination c.own_port && nat_eq p.source c.far_port then d else silent s)
+    (here source ∙ sym (here other))

@@ -392,3 +392,31 @@ restart_behind_shutdown_ends_it = record { phase_is = refl; sent_is = refl; told
 pub abort_behind_shutdown_ends_it : rows.abort_behind_shutdown_ends_it
 unfolding after going drained run_from blocks_from lost_from named_below passed_below given next_place gone_again gone_first confirmation confirmed settled acknowledged after_t3 stopped
 abort_behind_shutdown_ends_it = record { phase_is = refl; sent_is = refl; told_is = refl }
+
+pub cookie_is_stale_by_a_second : rows.cookie_is_stale_by_a_second
+unfolding after going drained run_from blocks_from lost_from named_below passed_below given next_place gone_again gone_first confirmation confirmed settled acknowledged after_t3 stopped
+cookie_is_stale_by_a_second = refl
+
+pub cookie_is_stale_by_a_millisecond : rows.cookie_is_stale_by_a_millisecond
+unfolding after going drained run_from blocks_from lost_from named_below passed_below given next_place gone_again gone_first confirmation confirmed settled acknowledged after_t3 stopped
+cookie_is_stale_by_a_millisecond = refl
+
+pub cookie_lives_to_the_last : rows.cookie_lives_to_the_last
+unfolding after going drained run_from blocks_from lost_from named_below passed_below given next_place gone_again gone_first confirmation confirmed settled acknowledged after_t3 stopped
+cookie_lives_to_the_last = record { phase_is = refl; sent_is = refl; told_is = refl }
+
+pub answer_from_elsewhere_is_echoed : rows.answer_from_elsewhere_is_echoed
+unfolding after going drained run_from blocks_from lost_from named_below passed_below given next_place gone_again gone_first confirmation confirmed settled acknowledged after_t3 stopped
+answer_from_elsewhere_is_echoed = record { phase_is = refl; sent_is = refl; told_is = refl }
+
+pub echo_goes_where_init_went : rows.echo_goes_where_init_went
+unfolding after going drained run_from blocks_from lost_from named_below passed_below given next_place gone_again gone_first confirmation confirmed settled acknowledged after_t3 stopped
+echo_goes_where_init_went = refl
+
+pub acknowledgement_from_elsewhere_opens : rows.acknowledgement_from_elsewhere_opens
+unfolding after going drained run_from blocks_from lost_from named_below passed_below given next_place gone_again gone_first confirmation confirmed settled acknowledged after_t3 stopped
+acknowledgement_from_elsewhere_opens = record { phase_is = refl; sent_is = refl; told_is = refl }
+
+pub association_goes_on_elsewhere : rows.association_goes_on_elsewhere
+unfolding after going drained run_from blocks_from lost_from named_below passed_below given next_place gone_again gone_first confirmation confirmed settled acknowledged after_t3 stopped
+association_goes_on_elsewhere = refl

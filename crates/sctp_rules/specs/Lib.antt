@@ -14,6 +14,7 @@ pub mod Rows
 pub mod Telling
 pub mod Wishing
 pub mod GivenMessages
+pub mod Lively
 pub mod SentMessages
 pub mod ReceivedMessages
 pub mod Openings

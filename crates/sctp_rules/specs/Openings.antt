@@ -1,7 +1,8 @@
 -- How often associations open, with any peer; and packets with another tag.
 use Rattle.std.specs.Prelude.{◌≡◌, ◌≢◌, ◌≤◌, ℕ, ◌+◌, Bool, true, false, List, [], ◌∷◌}
 use Rattle.sctp_cookie.specs.declared.cookie.Cookie.{Cookie}
-use Rattle.sctp_codec.specs.Packets.{ChunkValue, PacketValue, InitChunk, CookieEchoChunk}
+use Rattle.sctp_codec.specs.Packets.{ChunkValue, PacketValue, InitValue, InitChunk, InitAckChunk, CookieEchoChunk}
+use Rattle.sctp_rules.specs.declared.phase.Phase.TheVariants.{CookieWait}
 use Rattle.sctp_rules.specs.Settings.{Settings, Secrets, Address}
 use Rattle.sctp_rules.specs.State.{State, Told, Up, Heard, Down, Failed, silent, first_state}
 use Rattle.sctp_rules.specs.Opening.{is_there, heard_cookie}
@@ -44,3 +45,10 @@ other_tags_are_dropped =
     (more : List ChunkValue) (s : State) →
     p.chunks ≡ first ∷ more → has_own_rule first ≡ false → has_peer_tag first ≡ false →
     is_there s.association.phase ≡ true → p.tag ≢ s.association.own_tag → heard c k now source p s ≡ silent s
+
+-- in COOKIE-WAIT a peer may answer from any address: where an INIT ACK comes from changes nothing
+abbrev pub answers_come_from_anywhere : Type 0
+answers_come_from_anywhere =
+    (c : Settings) (k : Secrets) (now : ℕ) (source other : Address) (p : PacketValue) (init : InitValue) (s : State) →
+    s.association.phase ≡ CookieWait → p.chunks ≡ InitAckChunk init ∷ [] →
+    heard c k now source p s ≡ heard c k now other p s

@@ -6,7 +6,7 @@ use Rattle.sctp_cookie.specs.declared.cookie.Cookie.{Cookie}
 use Rattle.sctp_codec.specs.Packets.{ChunkValue, PacketValue, kind_of, SackChunk, HeartbeatChunk, CookieAckChunk}
 use Rattle.sctp_codec.specs.Packets.{AbortChunk, ShutdownAckChunk, InitChunk, InitAckChunk, HeartbeatAckChunk}
 use Rattle.sctp_codec.specs.Packets.{InitValue}
-use Rattle.sctp_codec.specs.Packets.{UnknownChunk, DataChunk, ShutdownChunk, ShutdownCompleteChunk}
+use Rattle.sctp_codec.specs.Packets.{UnknownChunk, DataChunk, ErrorChunk, ShutdownChunk, ShutdownCompleteChunk}
 use Rattle.sctp_codec.specs.Parameters.{information_of, state_cookie}
 use Rattle.sctp_rules.specs.declared.phase.Phase.TheVariants.{Closed, CookieWait, CookieEchoed, Established}
 use Rattle.sctp_rules.specs.declared.phase.Phase.TheVariants.{ShutdownPending, ShutdownSent, ShutdownReceived}
@@ -154,6 +154,32 @@ cookie_is_acknowledged = Does acknowledges Established ((11 ∷ []) ∷ []) []
 
 abbrev pub acknowledgement_opens : Type 0
 acknowledgement_opens = Does opens_second Established [] (Up ∷ [])
+
+-- the peer answers from another address than the one that INIT went to, here one with another port (RFC 6951 §5.4):
+-- COOKIE ECHO goes to where INIT went, and with the COOKIE ACK the association goes on there
+abbrev pub elsewhere : Address
+elsewhere = record { host = 1 ∷ []; port = 40000 }
+
+abbrev pub echoes_elsewhere : Done
+echoes_elsewhere = near (Came 2 elsewhere (packet answers)) tries.left
+
+abbrev pub answer_from_elsewhere_is_echoed : Type 0
+answer_from_elsewhere_is_echoed = Does echoes_elsewhere CookieEchoed ((10 ∷ []) ∷ []) []
+
+abbrev pub address_to : Datagram → Address
+address_to d = d.to
+
+abbrev pub echo_goes_where_init_went : Type 0
+echo_goes_where_init_went = map address_to echoes_elsewhere.sent ≡ address ∷ []
+
+abbrev pub opens_elsewhere : Done
+opens_elsewhere = near (Came 4 elsewhere (packet acknowledges)) echoes_elsewhere.left
+
+abbrev pub acknowledgement_from_elsewhere_opens : Type 0
+acknowledgement_from_elsewhere_opens = Does opens_elsewhere Established [] (Up ∷ [])
+
+abbrev pub association_goes_on_elsewhere : Type 0
+association_goes_on_elsewhere = opens_elsewhere.left.association.address ≡ elsewhere
 
 -- in a packet with another tag than its own a cookie opens nothing (§5.1.5)
 abbrev pub cookie_with_another_tag_is_dropped : Type 0
@@ -460,6 +486,22 @@ cookie_is_too_old = Does (far (comes 60002 (packet echoes)) answers.left) Closed
 
 abbrev pub refuses_old_cookie : Done
 refuses_old_cookie = far (comes 60002 (packet echoes)) answers.left
+
+-- cause 3 says by how much, in microseconds (§3.3.10.3): made at 1 ms, it was good until 60,001 ms. A second later that
+-- is 1,000,000, or F4240 in hexadecimal
+abbrev pub stale_by : (octets : List ℕ) → List ChunkValue
+stale_by octets = ErrorChunk (record { kind = 3; value = octets } ∷ []) ∷ []
+
+abbrev pub cookie_is_stale_by_a_second : Type 0
+cookie_is_stale_by_a_second =
+    (packet (far (comes 61001 (packet echoes)) answers.left)).chunks ≡ stale_by (0 ∷ 15 ∷ 66 ∷ 64 ∷ [])
+
+abbrev pub cookie_is_stale_by_a_millisecond : Type 0
+cookie_is_stale_by_a_millisecond = (packet refuses_old_cookie).chunks ≡ stale_by (0 ∷ 0 ∷ 3 ∷ 232 ∷ [])
+
+-- at 60,001 ms it is still good
+abbrev pub cookie_lives_to_the_last : Type 0
+cookie_lives_to_the_last = Does (far (comes 60001 (packet echoes)) answers.left) Established [] (Up ∷ [])
 
 abbrev pub stale_cookie_begins_anew : Type 0
 stale_cookie_begins_anew =

@@ -1,7 +1,9 @@
 //! Laws of the abstract endpoint, with any peer.
 
 ghost use Rattle.sctp_rules.specs.GivenMessages.{given_messages_go_out};
+ghost use Rattle.sctp_rules.specs.Lively.{halves_are_lively, idle_halves_put_out, messages_go_out_as_data};
 ghost use Rattle.sctp_rules.specs.Openings.{generations_grow, cookies_open_in_their_generation, other_tags_are_dropped};
+ghost use Rattle.sctp_rules.specs.Openings.{answers_come_from_anywhere};
 ghost use Rattle.sctp_rules.specs.ReceivedMessages.{messages_are_received};
 ghost use Rattle.sctp_rules.specs.SentMessages.{given_messages_are_sent, given_messages_are_kept};
 ghost use Rattle.sctp_rules.specs.Telling.{told_in_turn};
@@ -56,4 +58,19 @@ pub fn packets_with_other_tags_are_dropped()
 pub fn what_goes_out_reads_back()
     ensures written { packets_are_written }
     ensures read { packets_are_read }
+{}
+
+/// In COOKIE-WAIT the peer may answer from any address: an INIT ACK does the same wherever it comes from.
+pub fn answers_may_come_from_anywhere()
+    ensures { answers_come_from_anywhere }
+{}
+
+/// A sending half under any list of calls: while nothing is under way and a message waits, one goes out, however small
+/// the peer's window is (RFC 9260 §6.1 A); in the states in which DATA may go, as DATA in the next packets. T3 runs
+/// while something is outstanding (§6.3.2 R1). A message that went out twice is never timed (Karn's rule, §6.3.1 C5).
+/// The congestion window is a packet at least.
+pub fn something_may_always_go()
+    ensures halves { halves_are_lively }
+    ensures idle { idle_halves_put_out }
+    ensures data { messages_go_out_as_data }
 {}

@@ -5,3 +5,5 @@ pub mod Timing
 pub mod Naming
 pub mod Rooms
 pub mod Together
+pub mod Expiring
+pub mod Rows

@@ -15,3 +15,4 @@ pub mod Gaps
 pub mod Naming
 pub mod Acknowledging
 pub mod Inside
+pub mod Rows

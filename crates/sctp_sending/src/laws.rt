@@ -1,6 +1,7 @@
 //! Laws of what an end sends. Each function states its law in its contract, and does nothing.
 
-ghost use Rattle.std.specs.Prelude.{◌≡◌, ◌≤◌, ◌+◌, ℕ, ◌∷◌, ◌++◌, [], drop, length, Bool, true, Option, Some};
+ghost use Rattle.std.specs.Prelude.{◌≡◌, ◌<◌, ◌≤◌, ◌+◌, ◌*◌, ◌^◌, ℕ, List, ◌∷◌, ◌++◌, [], drop, length, min};
+ghost use Rattle.std.specs.Prelude.{Bool, true, Option, Some, None};
 ghost use Rattle.sctp_sending.specs.declared.confirmation.Confirmation.{Confirmation};
 ghost use Rattle.sctp_sending.specs.Outgoing.{Message};
 ghost use Rattle.sctp_sending.specs.Sending.{
@@ -10,6 +11,9 @@ ghost use Rattle.sctp_sending.specs.Sending.{
   after_cumulative,
   after_sack,
   after_t3,
+  after_each_t3,
+  acknowledged,
+  gone_again,
   messages_of,
   count_of,
   most_octets,
@@ -42,4 +46,25 @@ pub fn messages_that_find_room_behind_others_go_out_with_them()
     ensures { (s : Sending) (m : Message) (octets now place : ℕ) → waiting_octets s ≤ octets
         → has_room_behind s octets ≡ true → length m.octets ≤ most_octets → s.went + place ≤ length s.out
         → next_place (after_going place now (given s m)) ≡ Some (s.went + place) }
+{}
+
+/// Each time that T3 runs out the timeout doubles, up to RTO.Max, and T3 runs for that long (RFC 9260 §6.3.3 E2).
+pub fn timeouts_double()
+    ensures doubles { (s : Sending) (moments : List ℕ) → s.round_trips.timeout ≤ s.round_trips.bounds.most
+        → (after_each_t3 moments s).round_trips.timeout
+        ≡ min (2 ^ length moments * s.round_trips.timeout) s.round_trips.bounds.most }
+    ensures runs { (s : Sending) (now : ℕ) → (after_t3 s now).t3 ≡ Some (now + (after_t3 s now).round_trips.timeout) }
+{}
+
+/// T3 starts anew when the earliest outstanding message is confirmed (RFC 9260 §6.3.2 R3), and when that one goes out
+/// again (§7.2.4, 5). It stops when nothing is outstanding (§6.3.2 R2). A SACK that confirms nothing leaves it.
+pub fn t3_waits_for_the_earliest()
+    ensures confirmed { (s : Sending) (now window count : ℕ) (names : ℕ → Bool) → 0 < count → count < s.went
+        → (acknowledged s now window count names).t3
+        ≡ Some (now + (acknowledged s now window count names).round_trips.timeout) }
+    ensures again { (s : Sending) (now : ℕ) → (gone_again s 0 now).t3 ≡ Some (now + s.round_trips.timeout) }
+    ensures none { (s : Sending) (now window count : ℕ) (names : ℕ → Bool) → s.went ≤ count
+        → (acknowledged s now window count names).t3 ≡ None }
+    ensures other { (s : Sending) (now window : ℕ) (names : ℕ → Bool) → 0 < s.went
+        → (acknowledged s now window 0 names).t3 ≡ s.t3 }
 {}
