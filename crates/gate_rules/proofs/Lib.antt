@@ -8,3 +8,8 @@ pub mod Lawful
 pub mod Running
 pub mod Reading
 pub mod Possible
+pub mod RunSteps
+pub mod SettingsStay
+pub mod RunEvents
+pub mod RunStates
+pub mod RunShown

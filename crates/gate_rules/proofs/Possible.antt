@@ -1,5 +1,5 @@
 -- What may be done at a node with gates.
-use Rattle.std.proofs.Common.{◌≡◌, ◌≤◌, ◌+◌, ◌*◌, ℕ, refl, arith}
+use Rattle.std.proofs.Common.{◌≤◌, ◌+◌, ◌*◌, ℕ, refl, arith}
 use Rattle.sctp_moves.specs.Numbers.{modulus, window}
 use Rattle.gate_rules.specs.Possible.{steps_are_possible}
 

@@ -1,7 +1,9 @@
-//! Laws of gates. The statements are those of `specs/Calls.antt`, `Promises.antt`, `Octets.antt` and `Possible.antt`.
+//! Laws of gates. The statements are those of `specs/Calls.antt`, `Promises.antt`, `Octets.antt`, `Possible.antt` and
+//! `FallAndReturn.antt`.
 
 ghost use Rattle.gate_rules.specs.Calls.{calls_are_steps, new_gates_show};
 ghost use Rattle.gate_rules.specs.Octets.{packets_are_read};
+ghost use Rattle.gate_rules.specs.FallAndReturn.{FallsAndReturns};
 ghost use Rattle.gate_rules.specs.Possible.{steps_are_possible};
 ghost use Rattle.gate_rules.specs.Promises.{runs_are_runs_of_nodes, each_message_once, each_flow_in_order};
 ghost use Rattle.gate_rules.specs.Promises.{alone_is_special};
@@ -54,4 +56,13 @@ pub fn steps_of_gates_are_possible()
 /// that octets aren't changed; whose packet it is, and its age, is required as before.
 pub fn octets_of_gates_read_back()
     ensures { packets_are_read }
+{}
+
+/// Nor are they of nodes to which nothing comes. Of two nodes with two links, whose gates have keys of their own: both
+/// links open and enter service, and a message comes. The first link falls at both nodes, since nobody answers; the
+/// next message, which went out on it and was lost, comes by the second, and the first one doesn't come again. Then the
+/// first link opens and enters service again, takes its flow back, and the last message comes by it: each once, in
+/// order. All that the promises ask of the two holds, and no flag is raised.
+pub fn a_link_falls_and_returns()
+    ensures { FallsAndReturns }
 {}

@@ -7,7 +7,6 @@ pub mod TwoNodes
 pub mod Reached
 pub mod Worlds
 pub mod PointsStay
-pub mod SettingsStay
 pub mod Ends
 pub mod FirstPoints
 pub mod OneByOne

@@ -1,9 +1,10 @@
 use Rattle.std.proofs.Common.{ap, ◌∙◌}
 use Rattle.exchange.specs.Calls.{Kept}
+use Rattle.exchange.specs.KeptQueues.{kept}
+use Rattle.gate_rules.proofs.SettingsStay.{called-stays}
 use Rattle.node_world.specs.declared.call.Call.TheVariants.{Hear, Tick, Settle, Fill, Close}
 use Rattle.node_world.specs.Calls.{told}
 use Rattle.node_world.proofs.Logs.{calls-as}
-use Rattle.node_world.proofs.SettingsStay.{called-stays}
 use Rattle.node_world.proofs.port.Port.call.Goals as goal
 
 pub returns-in-Hear-clause-calls : goal.returns-in-Hear-clause-calls
@@ -33,20 +34,20 @@ returns-in-Close-clause-calls c =
 
 pub returns-in-Hear-clause-settings : goal.returns-in-Hear-clause-settings
 returns-in-Hear-clause-settings c =
-    ap (λ (x : Kept). x.settings) c.hear.ensures.kept.exchange_is ∙ called-stays (told (Hear c.in-Hear.field-0 c.in-Hear.source) c.args.octets.now c.args.now) c.self.inside.gate c.args.exchange.now
+    ap (λ (x : Kept). x.settings) c.hear.ensures.kept.exchange_is ∙ called-stays kept (told (Hear c.in-Hear.field-0 c.in-Hear.source) c.args.octets.now c.args.now) c.self.inside.gate c.args.exchange.now
 
 pub returns-in-Tick-clause-settings : goal.returns-in-Tick-clause-settings
 returns-in-Tick-clause-settings c =
-    ap (λ (x : Kept). x.settings) c.tick.ensures.kept.exchange_is ∙ called-stays (told Tick c.args.octets.now c.args.now) c.self.inside.gate c.args.exchange.now
+    ap (λ (x : Kept). x.settings) c.tick.ensures.kept.exchange_is ∙ called-stays kept (told Tick c.args.octets.now c.args.now) c.self.inside.gate c.args.exchange.now
 
 pub returns-in-Settle-clause-settings : goal.returns-in-Settle-clause-settings
 returns-in-Settle-clause-settings c =
-    ap (λ (x : Kept). x.settings) c.settle.ensures.kept.exchange_is ∙ called-stays (told Settle c.args.octets.now c.args.now) c.self.inside.gate c.args.exchange.now
+    ap (λ (x : Kept). x.settings) c.settle.ensures.kept.exchange_is ∙ called-stays kept (told Settle c.args.octets.now c.args.now) c.self.inside.gate c.args.exchange.now
 
 pub returns-in-Fill-clause-settings : goal.returns-in-Fill-clause-settings
 returns-in-Fill-clause-settings c =
-    ap (λ (x : Kept). x.settings) c.fill.ensures.kept.exchange_is ∙ called-stays (told Fill c.args.octets.now c.args.now) c.self.inside.gate c.args.exchange.now
+    ap (λ (x : Kept). x.settings) c.fill.ensures.kept.exchange_is ∙ called-stays kept (told Fill c.args.octets.now c.args.now) c.self.inside.gate c.args.exchange.now
 
 pub returns-in-Close-clause-settings : goal.returns-in-Close-clause-settings
 returns-in-Close-clause-settings c =
-    ap (λ (x : Kept). x.settings) c.close.ensures.kept.exchange_is ∙ called-stays (told Close c.args.octets.now c.args.now) c.self.inside.gate c.args.exchange.now
+    ap (λ (x : Kept). x.settings) c.close.ensures.kept.exchange_is ∙ called-stays kept (told Close c.args.octets.now c.args.now) c.self.inside.gate c.args.exchange.now
