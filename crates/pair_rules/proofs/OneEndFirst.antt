@@ -12,6 +12,7 @@ use Rattle.flow_hold.proofs.Numbers.{same, same-itself}
 use Rattle.exchange_rules.specs.Messages.{offer}
 use Rattle.exchange_rules.specs.Telling.{tell_owed}
 use Rattle.pair_rules.proofs.RunSettings.{joined}
+use Rattle.pair_rules.specs.Promises.{of_flow}
 use Rattle.pair_rules.specs.OneEndFirst.{answering, completed, near_settings, ordering, served, submitted, the_message}
 use Rattle.pair_rules.specs.OneEndFirst as run
 
@@ -193,6 +194,10 @@ fallen_from p = after_steps (AtNear (Loses 0) ∷ []) (opened_from p)
 abbrev come_from : PairState → PairState
 come_from p = after_steps (run.sends_far 1) (fallen_from p)
 
+come-received : run.come.far.received ≡ the_message ∷ []
+unfolding apply tell_owed first_sets links_below status_of set_timer clear_timer start_unless_running clear_set due_name after_due due_count names_of choice_among link_by changes_of changes take_back_each owes_nothing any_flow flows
+come-received = completed-so (λ p. (come_from p).far.received) (the_message ∷ []) refl
+
 pub comes-once : run.ComesOnce
 unfolding apply tell_owed first_sets links_below status_of set_timer clear_timer start_unless_running clear_set due_name after_due due_count names_of choice_among link_by changes_of changes take_back_each owes_nothing any_flow flows
 comes-once = record {
@@ -206,7 +211,8 @@ comes-once = record {
   fell = completed-so (λ p. is_down_at (fallen_from p).near 0) true refl;
   unfollowed = completed-so (λ p. may_follow (fallen_from p).far 0) true refl;
   missing = completed-so (λ p. (fallen_from p).far.received) [] refl;
-  received = completed-so (λ p. (come_from p).far.received) (the_message ∷ []) refl;
+  received = come-received;
+  of_its_flow = ap (of_flow (flow_of the_message)) come-received;
   lost_nothing = record {
     near = completed-so (λ p. lost_any (come_from p).near.exchange.node.parts) false refl;
     far = completed-so (λ p. lost_any (come_from p).far.exchange.node.parts) false refl;

@@ -1,12 +1,12 @@
 -- A run of two exchanges: their only message is on a link that fails with it. The link opens again at one end, and
 -- falls there before the other follows. The message comes by the other link, once.
 use Rattle.std.specs.Prelude.{◌≡◌, ℕ, true, false, None, List, [], ◌∷◌, ◌++◌}
-use Rattle.signalling_types.specs.Message.{Message}
+use Rattle.signalling_types.specs.Message.{Message, flow_of}
 use Rattle.settings_rows.specs.Configuration.{Configuration}
 use Rattle.settings_rows.specs.declared.timer_ticks.TimerTicks.{TimerTicks}
 use Rattle.pair_rules.specs.Pairs.{PairState, Step, AtNear, AtFar, Submits, Takes, Delivers, DeliversStatus, Loses, Ticks}
 use Rattle.pair_rules.specs.Pairs.{OpensFirst, OpensSecond, after_steps, first_pair, may_follow}
-use Rattle.pair_rules.specs.Promises.{AreJoined, IsPunctual, LostNothing, waiting_on}
+use Rattle.pair_rules.specs.Promises.{AreJoined, IsPunctual, LostNothing, of_flow, waiting_on}
 use Rattle.pair_rules.specs.Laws.{is_down_at}
 
 -- proving takes one tick, and no other timer runs out in the run
@@ -141,7 +141,8 @@ pub record ComesOnce : Type 0 where
   pub fell : is_down_at fallen.near 0 ≡ true
   pub unfollowed : may_follow fallen.far 0 ≡ true
   pub missing : fallen.far.received ≡ []
-  -- the message comes, and no flag is raised
+  -- the message comes, as all that its flow has, and no flag is raised
   pub received : come.far.received ≡ the_message ∷ []
+  pub of_its_flow : of_flow (flow_of the_message) come.far.received ≡ the_message ∷ []
   pub lost_nothing : LostNothing come
   pub punctual : IsPunctual come
