@@ -13,3 +13,4 @@ pub mod SettingsStay
 pub mod RunEvents
 pub mod RunStates
 pub mod RunShown
+pub mod Late

@@ -2,6 +2,7 @@
 //! `FallAndReturn.antt`.
 
 ghost use Rattle.gate_rules.specs.Calls.{calls_are_steps, new_gates_show};
+ghost use Rattle.gate_rules.specs.Late.{packets_may_come_late};
 ghost use Rattle.gate_rules.specs.Octets.{packets_are_read};
 ghost use Rattle.gate_rules.specs.FallAndReturn.{FallsAndReturns};
 ghost use Rattle.gate_rules.specs.Possible.{steps_are_possible};
@@ -46,9 +47,10 @@ pub fn nodes_alone_are_the_special_case()
 /// These laws aren't empty. Whatever was done before, at a node a tick may pass and a message may be handed over; each
 /// gate of a link between the two may be called in each way, a packet may come to it that was put out at the other end
 /// of the link and after which no message passed there, and so may what is no packet; and a link that leads elsewhere
-/// may open and send.
+/// may open and send. A packet may come as late as nearly 2^32 messages after it was made.
 pub fn steps_of_gates_are_possible()
-    ensures { steps_are_possible }
+    ensures steps { steps_are_possible }
+    ensures late { packets_may_come_late }
 {}
 
 /// What a gate puts out is octets on its way (`sent_as`), and a gate that hears these octets hears the packet that was
