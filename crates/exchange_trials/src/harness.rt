@@ -13,4 +13,5 @@ mod waiting;
 pub(crate) use arrival::Arrival;
 pub(crate) use became::Became;
 pub(crate) use doing::Doing;
+pub(crate) use joining::{Link, Place};
 pub(crate) use network::Network;

@@ -1,23 +1,27 @@
-//! `exchange_trials [SECTION [N]]`: exchanges that are tried from outside. What comes of them is judged by marks in their
-//! messages and by the outcomes of their steps, and by no contract.
+//! `exchange_trials [SECTION [N]]`: exchanges that are tried from outside. What comes of them is judged by marks in
+//! their messages and by the outcomes of their steps, and by no contract.
 //!
-//! Without a SECTION it runs all of them. N is how many runs of each shape the section `networks` makes.
+//! Without a SECTION it runs all of them; it fails if there is none of this name. N is how many runs of each shape the
+//! section `networks` makes.
 #![tactic(auto)]
 
 mod dice;
 mod harness;
 mod networks;
 mod node;
+mod node_settings;
 mod octets;
 mod pairs;
 mod settings_text;
+mod shape;
 
+use std::process::ExitCode;
 use std::{env, io};
 
 /// So many runs of each shape of networks there are where no N says it.
 const RUNS: u64 = 50;
 
-fn main(rt: HostRuntime) -> io::Result<()> {
+fn main(rt: HostRuntime) -> io::Result<ExitCode> {
     let words: Vec<String> = env::args(&rt)?.skip(1).collect(rt.alloc())?;
     match words.first() {
         Some(section) => run_section(&rt, section.as_str(), count_of(words.get(1))),
@@ -34,18 +38,23 @@ fn count_of(word: Option<&String>) -> u64 {
 }
 
 /// Runs each section.
-fn run_all(rt: &HostRuntime) -> io::Result<()> {
+fn run_all(rt: &HostRuntime) -> io::Result<ExitCode> {
     pairs::run(rt)?;
     networks::run(rt, RUNS)?;
-    octets::run(rt)
+    octets::run(rt)?;
+    Ok(ExitCode::SUCCESS)
 }
 
-/// Runs one section.
-fn run_section(rt: &HostRuntime, section: &str, runs: u64) -> io::Result<()> {
+/// Runs one section. Fails if there is none of this name.
+fn run_section(rt: &HostRuntime, section: &str, runs: u64) -> io::Result<ExitCode> {
     match section {
-        "pairs" => pairs::run(rt),
-        "networks" => networks::run(rt, runs),
-        "octets" => octets::run(rt),
-        _ => println!(rt; "no section {section}"),
+        "pairs" => pairs::run(rt)?,
+        "networks" => networks::run(rt, runs)?,
+        "octets" => octets::run(rt)?,
+        _ => {
+            println!(rt; "no section {section}")?;
+            return Ok(ExitCode::FAILURE);
+        }
     }
+    Ok(ExitCode::SUCCESS)
 }

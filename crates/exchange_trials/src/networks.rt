@@ -57,17 +57,15 @@
 mod book;
 mod deliberate;
 mod judge;
-mod node_settings;
 mod rounds;
 mod schedule;
 mod seen;
-mod shape;
 mod total;
 mod world;
 
+use crate::shape::Shape;
 use deliberate::make_wrong;
 use schedule::schedules;
-use shape::Shape;
 use std::io;
 
 /// The four shapes, and what they are called.

@@ -3,7 +3,7 @@
 use crate::settings_text::settings_of;
 use exchange::{
     BUFFER_OCTETS, DraftFault, Event, Exchange, FrameText, LinkId, LinkView, NoMemory, Outcome,
-    Settings, Wants,
+    Settings,
 };
 use settings_file::SettingsFault;
 use std::alloc::Global;
@@ -57,21 +57,6 @@ impl Node {
     /// Fetches the next frame of a link, as a text of its own.
     pub(crate) fn fetch(&mut self, link: LinkId) -> Option<FrameText> {
         fetch(&mut self.exchange, link)
-    }
-
-    /// What a link wants.
-    pub(crate) fn wants(&self, link: LinkId) -> Wants {
-        self.exchange.wants(link)
-    }
-
-    /// Whether a link may open as far as its changeover goes.
-    pub(crate) fn may_restart(&self, link: LinkId) -> bool {
-        self.exchange.may_restart(link)
-    }
-
-    /// Whether nothing is in Held.
-    pub(crate) fn holds_nothing(&self) -> bool {
-        self.exchange.count_held() == 0
     }
 
     /// A link, as it is shown.

@@ -22,13 +22,8 @@ pub(crate) enum Doing {
     Lose(LinkId),
     /// A tick passes.
     Tick,
-    /// The operator lets a link open.
-    Activate {
-        /// The link.
-        link: LinkId,
-        /// Whether emergency proving is asked for.
-        emergency: bool,
-    },
+    /// The operator lets a link open, and asks for no emergency proving.
+    Activate(LinkId),
     /// The operator keeps a link from opening; it fails if it isn't down.
     Deactivate(LinkId),
     /// The operator adds a translation row.

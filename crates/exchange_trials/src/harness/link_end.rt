@@ -11,13 +11,15 @@ const MESSAGE_TYPE_PLACE: usize = 3;
 /// The message type of Link Status (RFC 4165 §2.1.4).
 const LINK_STATUS: u8 = 2;
 
-/// One end of a link: its number, the link statuses and the User Data in flight to it, each in the order in which they
-/// went out, and whether it may follow the other end.
+/// One end of a link, and the link statuses and the User Data in flight to it, each in the order in which they went
+/// out.
 pub(crate) struct LinkEnd {
-    link: LinkId,
+    /// The link's number.
+    pub link: LinkId,
     statuses: VecDeque<FrameText>,
     user_data: VecDeque<FrameText>,
-    may_follow: bool,
+    /// Whether it may follow the other end.
+    pub may_follow: bool,
 }
 
 impl Model for LinkEnd {
@@ -47,16 +49,6 @@ impl LinkEnd {
             user_data: VecDeque::new(alloc),
             may_follow: false,
         }
-    }
-
-    /// The link's number.
-    pub(crate) fn link(&self) -> LinkId {
-        self.link
-    }
-
-    /// Whether it may follow the other end.
-    pub(crate) fn may_follow(&self) -> bool {
-        self.may_follow
     }
 
     /// A frame is in flight to it, behind the others of its stream.
@@ -102,6 +94,15 @@ impl LinkEnd {
         self.may_follow = false;
         might
     }
+}
+
+/// The ends of this many links, with nothing in flight to them.
+pub(crate) fn ends_of(alloc: Global, links: usize) -> Result<Vec<LinkEnd>, NoMemory> {
+    let mut ends = Vec::new(alloc);
+    for link in 0..u8::try_from(links).unwrap_or(u8::MAX) {
+        ends.push(LinkEnd::new(alloc, LinkId::new(link)))?;
+    }
+    Ok(ends)
 }
 
 /// Whether a frame is a link status.

@@ -2,11 +2,14 @@
 
 use super::arrival::Arrival;
 use super::doing::Doing;
-use super::joining::{FarEnd, adjacent_point, far_end};
+use super::joining::{Link, Place, adjacent_point, far_end};
 use super::site::Site;
 use super::waiting::{PickedTo, count_waiting};
 use crate::node::Node;
-use exchange::{Exchange, FrameText, LinkId, Msu, NoMemory, Outcome, Pick, PointCode, Settings};
+use exchange::{
+    Exchange, FrameText, LinkId, LinkStanding, Msu, NoMemory, Outcome, Pick, PointCode, SetId,
+    Settings,
+};
 use std::alloc::Global;
 use std::marker::Model;
 
@@ -56,7 +59,7 @@ impl Network {
     /// The messages that the node at a point queued or held, as they were handed in or came, in order.
     pub(crate) fn accepted(&self, at: PointCode) -> &[Msu] {
         match self.site(at) {
-            Some(site) => site.accepted(),
+            Some(site) => site.accepted.as_slice(),
             None => &[],
         }
     }
@@ -64,7 +67,7 @@ impl Network {
     /// All messages that frames newly brought to the node at a point, in order, each with the link by which it came.
     pub(crate) fn arrived(&self, at: PointCode) -> &[Arrival] {
         match self.site(at) {
-            Some(site) => site.arrived(),
+            Some(site) => site.arrived.as_slice(),
             None => &[],
         }
     }
@@ -73,7 +76,7 @@ impl Network {
     /// order.
     pub(crate) fn refused(&self, at: PointCode) -> &[Msu] {
         match self.site(at) {
-            Some(site) => site.refused(),
+            Some(site) => site.refused.as_slice(),
             None => &[],
         }
     }
@@ -90,9 +93,33 @@ impl Network {
     /// The exchange of the node at a point. None where no node is there.
     pub(crate) fn at(&self, at: PointCode) -> Option<&Exchange> {
         match self.site(at) {
-            Some(site) => Some(site.node().shown()),
+            Some(site) => Some(site.node.shown()),
             None => None,
         }
+    }
+
+    /// How a link stands at one end; Down if there is none.
+    fn standing(&self, place: Place) -> LinkStanding {
+        match self.site(place.point()) {
+            Some(site) => site.standing(place.link()),
+            None => LinkStanding::Down,
+        }
+    }
+
+    /// Whether a link is down at one end.
+    pub(crate) fn is_down(&self, place: Place) -> bool {
+        self.standing(place) == LinkStanding::Down
+    }
+
+    /// Whether a link is in service at both ends.
+    pub(crate) fn serves(&self, link: Link) -> bool {
+        self.standing(link.here) == LinkStanding::InService
+            && self.standing(link.there) == LinkStanding::InService
+    }
+
+    /// The first set that messages of the node at a point take for a destination, by the destination's number.
+    pub(crate) fn first_set(&self, at: PointCode, destination: usize) -> Option<SetId> {
+        self.at(at)?.route(destination)?.sets.first().copied()
     }
 
     /// The node at the point of these settings, which are its own, starts again: its exchange is as they boot it, and
@@ -111,17 +138,10 @@ impl Network {
         }
     }
 
-    /// The node at a point may not follow the other end of a link any more, as when its transport has seen that nobody
-    /// answers. Ignored where it might not.
-    pub(crate) fn give_up(&mut self, at: PointCode, link: LinkId) -> Outcome {
-        let might = match self.site_mut(at) {
-            Some(site) => site.give_up(link),
-            None => false,
-        };
-        if might {
-            Outcome::Handled
-        } else {
-            Outcome::Ignored
+    /// An end may not follow the other end of its link any more, as when its transport has seen that nobody answers.
+    pub(crate) fn give_up(&mut self, end: Place) {
+        if let Some(site) = self.site_mut(end.point()) {
+            site.give_up(end.link());
         }
     }
 
@@ -140,7 +160,7 @@ impl Network {
 
 impl Network {
     /// The other end of a link. None where none of the nodes has it.
-    fn far(&self, at: PointCode, link: LinkId) -> Option<FarEnd> {
+    fn far(&self, at: PointCode, link: LinkId) -> Option<Place> {
         let near = self.at(at)?.settings();
         let far = self.at(adjacent_point(near, link)?)?.settings();
         far_end(near, link, far)
@@ -164,12 +184,12 @@ impl Network {
     }
 
     /// A frame is in flight to an end of a link, if that is there.
-    fn push(&mut self, end: Option<FarEnd>, text: FrameText) -> Result<(), NoMemory> {
+    fn push(&mut self, end: Option<Place>, text: FrameText) -> Result<(), NoMemory> {
         let Some(end) = end else {
             return Ok(());
         };
-        match self.site_mut(end.point) {
-            Some(site) => site.push(end.link, text),
+        match self.site_mut(end.point()) {
+            Some(site) => site.push(end.link(), text),
             None => Ok(()),
         }
     }
@@ -179,45 +199,33 @@ impl Network {
         let Some(far) = self.far(at, link) else {
             return Outcome::Ignored;
         };
-        if !self.wants_open(at, link) || !self.may_restart(&far) {
+        if !self.may_open_first(at, link, far) {
             return Outcome::Ignored;
         }
-        self.open_at(at, link);
-        self.let_follow(&far);
-        Outcome::Handled
-    }
-
-    fn wants_open(&self, at: PointCode, link: LinkId) -> bool {
-        match self.site(at) {
-            Some(site) => site.wants_open(link),
-            None => false,
-        }
-    }
-
-    fn may_restart(&self, end: &FarEnd) -> bool {
-        match self.site(end.point) {
-            Some(site) => site.node().may_restart(end.link),
-            None => false,
-        }
-    }
-
-    fn open_at(&mut self, at: PointCode, link: LinkId) {
         if let Some(site) = self.site_mut(at) {
             site.open_first(link);
         }
+        if let Some(site) = self.site_mut(far.point()) {
+            site.clear(far.link(), true);
+        }
+        Outcome::Handled
     }
 
-    fn let_follow(&mut self, end: &FarEnd) {
-        if let Some(site) = self.site_mut(end.point) {
-            site.clear(end.link, true);
+    /// Whether one end wants a link to open, and it may open at the other.
+    fn may_open_first(&self, at: PointCode, link: LinkId, far: Place) -> bool {
+        match (self.site(at), self.site(far.point())) {
+            (Some(near), Some(other)) => {
+                near.wants_open(link) && other.node.shown().may_restart(far.link())
+            }
+            (Some(_), None) | (None, _) => false,
         }
     }
 
     fn site(&self, at: PointCode) -> Option<&Site> {
-        self.sites.iter().find(|site| site.point() == at)
+        self.sites.iter().find(|site| site.point == at)
     }
 
     fn site_mut(&mut self, at: PointCode) -> Option<&mut Site> {
-        self.sites.iter_mut().find(|site| site.point() == at)
+        self.sites.iter_mut().find(|site| site.point == at)
     }
 }

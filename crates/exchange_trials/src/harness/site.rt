@@ -1,25 +1,30 @@
 //! One node of a network: its exchange, what is in flight to it, and its books.
 
 use super::arrival::Arrival;
+use super::became::Became;
 use super::doing::Doing;
-use super::link_end::LinkEnd;
+use super::link_end::{LinkEnd, ends_of};
 use crate::node::Node;
 use exchange::{
-    Event, Frame, FrameText, Label, LinkId, LinkView, Msu, NoMemory, Order, Outcome, PointCode,
-    Settings, Wants, decode,
+    Event, Frame, FrameText, Label, LinkId, LinkStanding, LinkView, Msu, NoMemory, Order, Outcome,
+    PointCode, Settings, Wants, decode,
 };
 use std::alloc::Global;
 use std::marker::Model;
 
-/// One node, the ends of its links, and what it booked: what it accepted, all that came to it, and the user messages
-/// for other points that came and were refused.
+/// One node, the ends of its links, and what it booked.
 pub(crate) struct Site {
-    point: PointCode,
-    node: Node,
+    /// Its point.
+    pub point: PointCode,
+    /// Its exchange.
+    pub node: Node,
     ends: Vec<LinkEnd>,
-    accepted: Vec<Msu>,
-    arrived: Vec<Arrival>,
-    refused: Vec<Msu>,
+    /// The messages that it queued or held, as they were handed in or came, in order.
+    pub accepted: Vec<Msu>,
+    /// All that came to it.
+    pub arrived: Vec<Arrival>,
+    /// The user messages for other points that came and were refused.
+    pub refused: Vec<Msu>,
 }
 
 impl Model for Site {
@@ -58,44 +63,27 @@ impl Site {
         })
     }
 
-    /// Its point.
-    pub(crate) fn point(&self) -> PointCode {
-        self.point
-    }
-
-    /// Its exchange.
-    pub(crate) fn node(&self) -> &Node {
-        &self.node
-    }
-
-    /// The messages that it queued or held, as they were handed in, in order.
-    pub(crate) fn accepted(&self) -> &[Msu] {
-        self.accepted.as_slice()
-    }
-
-    /// All that came to it.
-    pub(crate) fn arrived(&self) -> &[Arrival] {
-        self.arrived.as_slice()
-    }
-
-    /// The user messages for other points that came and were refused.
-    pub(crate) fn refused(&self) -> &[Msu] {
-        self.refused.as_slice()
-    }
-
     /// Whether it wants a link to open.
     pub(crate) fn wants_open(&self, link: LinkId) -> bool {
-        self.node.wants(link) == Wants::Open
+        self.node.shown().wants(link) == Wants::Open
+    }
+
+    /// How a link stands; Down if there is none.
+    pub(crate) fn standing(&self, link: LinkId) -> LinkStanding {
+        match self.node.link(link) {
+            Some(view) => view.standing,
+            None => LinkStanding::Down,
+        }
     }
 
     /// Whether each of its links may open, it may follow on none, and nothing is in Held.
     pub(crate) fn is_quiet(&self) -> bool {
-        self.node.holds_nothing() && self.ends.iter().all(|end| self.does_rest(end))
+        self.node.shown().count_held() == 0 && self.ends.iter().all(|end| self.does_rest(end))
     }
 
     /// Whether a link may open, and it may not follow there.
     fn does_rest(&self, end: &LinkEnd) -> bool {
-        self.node.may_restart(end.link()) && !end.may_follow()
+        self.node.shown().may_restart(end.link) && !end.may_follow
     }
 
     /// Its books begin anew.
@@ -125,9 +113,10 @@ impl Site {
             Doing::DoubleStatus(link) => self.double_status(link),
             Doing::Lose(link) => Ok(self.node.step(&Event::AssociationDown(link))),
             Doing::Tick => Ok(self.node.step(&Event::Tick)),
-            Doing::Activate { link, emergency } => {
-                Ok(self.order(Order::Activate { link, emergency }))
-            }
+            Doing::Activate(link) => Ok(self.order(Order::Activate {
+                link,
+                emergency: false,
+            })),
             Doing::Deactivate(link) => Ok(self.order(Order::Deactivate(link))),
             Doing::AddTitle(row) => Ok(self.order(Order::AddTitle(row))),
             Doing::RemoveTitle(key, digits) => Ok(self.order(Order::RemoveTitle(key, digits))),
@@ -204,12 +193,11 @@ impl Site {
         let Some(message) = carried(octets) else {
             return Ok(());
         };
-        self.arrived.push(Arrival::new(link, message))?;
-        if is_accepted(outcome) {
-            self.accepted.push(message)?;
-        }
-        if is_refused(outcome) && goes_onward(self.point, &message) {
-            self.refused.push(message)?;
+        self.arrived.push(Arrival { link, message })?;
+        match Became::of(*outcome) {
+            Became::Accepted => self.accepted.push(message)?,
+            Became::Refused if goes_onward(self.point, &message) => self.refused.push(message)?,
+            _ => (),
         }
         Ok(())
     }
@@ -262,15 +250,6 @@ impl Site {
     }
 }
 
-/// The ends of this many links, with nothing in flight to them.
-fn ends_of(alloc: Global, links: usize) -> Result<Vec<LinkEnd>, NoMemory> {
-    let mut ends = Vec::new(alloc);
-    for link in 0..u8::try_from(links).unwrap_or(u8::MAX) {
-        ends.push(LinkEnd::new(alloc, LinkId::new(link)))?;
-    }
-    Ok(ends)
-}
-
 /// Whether a link accepted another message between two looks at it.
 fn accepted_another(before: Option<LinkView>, after: Option<LinkView>) -> bool {
     match (before, after) {
@@ -292,15 +271,6 @@ fn is_accepted(outcome: &Outcome) -> bool {
     match outcome {
         Outcome::Queued(_) | Outcome::Held => true,
         Outcome::Local | Outcome::Handled | Outcome::Ignored | Outcome::Refused(_) => false,
-    }
-}
-
-/// Whether an outcome is a refusal.
-fn is_refused(outcome: &Outcome) -> bool {
-    match outcome {
-        Outcome::Refused(_) => true,
-        Outcome::Queued(_) | Outcome::Held => false,
-        Outcome::Local | Outcome::Handled | Outcome::Ignored => false,
     }
 }
 

@@ -41,7 +41,7 @@ fn count_on_link<P: Pick>(near: &Exchange, far: &Exchange, link: LinkId, pick: &
     let Some(end) = far_end(near.settings(), link, far.settings()) else {
         return 0;
     };
-    match far.link(end.link) {
+    match far.link(end.link()) {
         Some(view) => near.count_behind(link, view.last_accepted, pick),
         None => 0,
     }

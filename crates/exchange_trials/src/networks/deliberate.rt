@@ -2,9 +2,9 @@
 
 use super::book::Entry;
 use super::rounds::{bring_up, come_to_rest, fall_to_rest};
-use super::shape::Shape;
 use super::total::Totals;
 use super::world::{Tally, World};
+use crate::shape::Shape;
 use std::alloc::Global;
 
 /// The point of a node on the way, which starts again.
@@ -55,24 +55,18 @@ fn bring_up_and_count(world: &mut World) {
 /// submitted the other way round than the book has them. Says whether frames came to rest behind it.
 fn submit_wrongly(world: &mut World) -> bool {
     world.note_entry(ENTRY);
-    submit_twice(world, Entry { flow: 1, ..ENTRY });
-    submit_turned(world, Entry { flow: 2, ..ENTRY });
+    note_and_hand_over(world, Entry { flow: 1, ..ENTRY }, 1, &[0, 0]);
+    note_and_hand_over(world, Entry { flow: 2, ..ENTRY }, 2, &[1, 0]);
     come_to_rest(world)
 }
 
-/// A message that is submitted twice.
-fn submit_twice(world: &mut World, entry: Entry) {
+/// So many messages are noted, and those at these places among them are submitted, one after another.
+fn note_and_hand_over(world: &mut World, entry: Entry, count: usize, places: &[u32]) {
     let mark = world.book.next_mark();
-    world.note_entry(entry);
-    world.hand_over(entry, mark);
-    world.hand_over(entry, mark);
-}
-
-/// Two messages of a flow that are submitted the other way round.
-fn submit_turned(world: &mut World, entry: Entry) {
-    let mark = world.book.next_mark();
-    world.note_entry(entry);
-    world.note_entry(entry);
-    world.hand_over(entry, mark.wrapping_add(1));
-    world.hand_over(entry, mark);
+    for _ in 0..count {
+        world.note_entry(entry);
+    }
+    for place in places {
+        world.hand_over(entry, mark.wrapping_add(*place));
+    }
 }

@@ -1,9 +1,9 @@
 //! What was accepted, compared with what came and with what was refused on its way, by the marks alone.
 
 use super::book::{Entry, is_marked};
-use super::shape::Shape;
 use super::total::{Total, count};
 use super::world::World;
+use crate::shape::{Shape, code_of};
 use exchange::{Limits, Msu};
 use std::marker::Model;
 
@@ -28,8 +28,8 @@ impl Promise {
         let mut whole = true;
         let mut steady = world.tally.reroutings == 0;
         for seen in world.seen.as_slice() {
-            whole &= !seen.lost_any();
-            steady &= !seen.late_any();
+            whole &= !seen.lost_any;
+            steady &= !seen.late_any;
         }
         Promise {
             whole,
@@ -109,8 +109,8 @@ impl Fates {
 
     /// Reads what came to a node.
     fn read_arrived(&mut self, world: &World, promise: Promise, point: u16, total: &mut Total) {
-        for (number, arrival) in world.arrived(point).iter().enumerate() {
-            match world.book.find(arrival.message()) {
+        for (number, arrival) in world.network.arrived(code_of(point)).iter().enumerate() {
+            match world.book.find(&arrival.message) {
                 Some((place, entry)) if entry.to == point => {
                     self.come(place);
                     count(&mut total.made_up, !entry.accepted as u64);
@@ -120,7 +120,7 @@ impl Fates {
                     }
                 }
                 Some(_) => (),
-                None => count(&mut total.made_up, is_marked(arrival.message()) as u64),
+                None => count(&mut total.made_up, is_marked(&arrival.message) as u64),
             }
         }
     }
@@ -144,7 +144,7 @@ impl Fates {
 
     /// Reads what a node refused on its way.
     fn read_refused(&mut self, world: &World, point: u16) {
-        for message in world.refused(point) {
+        for message in world.network.refused(code_of(point)) {
             if let Some(fate) = self.fate_of(world, message) {
                 fate.refused = fate.refused.saturating_add(1);
             }

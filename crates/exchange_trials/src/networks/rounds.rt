@@ -1,8 +1,8 @@
 //! Frames that are carried in rounds until nothing moves, and links that come into service.
 
-use super::shape::{Link, Place};
 use super::world::World;
-use crate::harness::Doing;
+use crate::harness::{Doing, Link, Place};
+use crate::shape::code_of;
 
 /// So many rounds at most carry what is left.
 const MOST_ROUNDS: usize = 500;
@@ -49,11 +49,8 @@ fn do_one(world: &mut World, each: Each, link: Link) -> bool {
     let Link { here, there } = link;
     match each {
         Each::Drain => deliver(world, there),
-        Each::Carry => world.act(here.point, Doing::Take(here.link())) && deliver(world, there),
-        Each::Activate => {
-            world.activate(here);
-            true
-        }
+        Each::Carry => world.act(here.point(), Doing::Take(here.link())) && deliver(world, there),
+        Each::Activate => world.act(here.point(), Doing::Activate(here.link())),
         Each::LoseUnserved => lose_unserved(world, link),
         Each::Open => open_both(world, link),
         Each::Fall => {
@@ -70,17 +67,17 @@ fn deliver(world: &mut World, there: Place) -> bool {
 
 /// The next link status in flight to one end of a link comes. Says whether there was one.
 pub(super) fn hear_status(world: &mut World, there: Place) -> bool {
-    world.act(there.point, Doing::DeliverStatus(there.link()))
+    world.act(there.point(), Doing::DeliverStatus(there.link()))
 }
 
 /// The next User Data in flight to one end of a link comes. Says whether there was one.
 pub(super) fn hear_data(world: &mut World, there: Place) -> bool {
-    world.act(there.point, Doing::Deliver(there.link()))
+    world.act(there.point(), Doing::Deliver(there.link()))
 }
 
 /// A link that isn't in service at both ends is lost at both.
 fn lose_unserved(world: &mut World, link: Link) -> bool {
-    if world.serves(link) {
+    if world.network.serves(link) {
         return false;
     }
     world.lose(link.here);
@@ -90,8 +87,8 @@ fn lose_unserved(world: &mut World, link: Link) -> bool {
 
 /// A link opens at one end, where it may, and then at the other. Says whether it is open at both.
 pub(super) fn open_both(world: &mut World, Link { here, there }: Link) -> bool {
-    world.act(here.point, Doing::OpenFirst(here.link()))
-        && world.act(there.point, Doing::OpenSecond(there.link()))
+    world.act(here.point(), Doing::OpenFirst(here.link()))
+        && world.act(there.point(), Doing::OpenSecond(there.link()))
 }
 
 /// A frame is carried on each link each way.
@@ -127,7 +124,7 @@ fn pass_ticks(world: &mut World, count: usize) -> bool {
 /// A tick passes at each node.
 fn tick_all(world: &mut World) {
     for point in world.shape.points() {
-        world.act(*point, Doing::Tick);
+        world.act(code_of(*point), Doing::Tick);
     }
 }
 
@@ -169,10 +166,10 @@ pub(super) fn fall_to_rest(world: &mut World) -> bool {
     for _ in 0..RESTING_TICKS {
         tick_all(world);
     }
-    world.is_quiet()
+    world.network.is_quiet()
 }
 
 /// Whether each link is in service.
 fn all_serve(world: &World) -> bool {
-    world.links.iter().all(|link| world.serves(*link))
+    world.links.iter().all(|link| world.network.serves(*link))
 }

@@ -3,12 +3,12 @@
 use super::rounds::{
     bring_into_service, come_to_rest, fall_to_rest, hear_data, hear_status, open_both, pass_round,
 };
-use super::shape::{Link, Place, Shape, UNKNOWN};
 use super::total::Totals;
 use super::world::{Tally, World};
 use crate::dice::Dice;
-use crate::harness::Doing;
-use exchange::{Limits, LinkStanding};
+use crate::harness::{Doing, Link, Place};
+use crate::shape::{Shape, UNKNOWN};
+use exchange::{Limits, PointCode};
 use std::alloc::Global;
 
 /// So many times the dice are thrown in a schedule; each throw is one step at least, but for a few that find nothing.
@@ -86,7 +86,7 @@ fn pass_schedule(world: &mut World, dice: &mut Dice) -> bool {
 fn open_some(world: &mut World, dice: &mut Dice) {
     for number in 0..world.links.len() {
         if let Some(link) = world.links.get(number).copied() {
-            if !dice.one_in(3) && link.here.point < link.there.point {
+            if !dice.one_in(3) && link.here.code < link.there.code {
                 open_both(world, link);
             }
         }
@@ -119,7 +119,7 @@ fn throw_some(world: &mut World, dice: &mut Dice) {
 /// One end of a link sees that the other one is down, if it is: it loses the link, and gives up following.
 fn see(world: &mut World, dice: &mut Dice) {
     if let Some(link) = thrown_link(world.shape, dice) {
-        if is_down(world, link.there) {
+        if world.network.is_down(link.there) {
             world.fall(link.here);
         }
     }
@@ -133,16 +133,16 @@ fn throw(world: &mut World, dice: &mut Dice) {
     };
     let here = link.here;
     match chance {
-        0..=49 => submit(world, dice, here.point),
-        50..=129 => act(world, here.point, Doing::Take(here.link())),
+        0..=49 => submit(world, dice, here.code),
+        50..=129 => act(world, here.point(), Doing::Take(here.link())),
         130..=207 => deliver(world, dice, here),
-        208..=211 => act(world, here.point, Doing::LoseStatus(here.link())),
-        212..=215 => act(world, here.point, Doing::DoubleStatus(here.link())),
+        208..=211 => act(world, here.point(), Doing::LoseStatus(here.link())),
+        212..=215 => act(world, here.point(), Doing::DoubleStatus(here.link())),
         216..=221 => lose(world, dice, link),
-        222..=226 => act(world, here.point, Doing::Tick),
+        222..=226 => act(world, here.point(), Doing::Tick),
         227 => operate(world, dice, link),
         228..=236 => reopen(world, dice, link),
-        237..=244 => act(world, here.point, Doing::OpenSecond(here.link())),
+        237..=244 => act(world, here.point(), Doing::OpenSecond(here.link())),
         _ => pass_round(world),
     }
 }
@@ -161,7 +161,7 @@ fn thrown_point(shape: Shape, dice: &mut Dice) -> u16 {
 }
 
 /// Something is done at a node, whatever comes of it.
-fn act(world: &mut World, point: u16, doing: Doing) {
+fn act(world: &mut World, point: PointCode, doing: Doing) {
     world.act(point, doing);
 }
 
@@ -190,19 +190,16 @@ fn lose(world: &mut World, dice: &mut Dice, link: Link) {
 
 /// Whether another link of the same set is in service at both ends.
 fn has_another(world: &World, link: Link) -> bool {
-    world
-        .links
-        .iter()
-        .any(|other| other.is_beside(link) && world.serves(*other))
+    world.links.iter().any(|other| other.is_beside(link) && world.network.serves(*other))
 }
 
 /// An operator keeps a link from opening, or lets it open.
 fn operate(world: &mut World, dice: &mut Dice, link: Link) {
     let here = link.here;
     if dice.one_in(2) && has_another(world, link) {
-        world.act(here.point, Doing::Deactivate(here.link()));
+        world.act(here.point(), Doing::Deactivate(here.link()));
     } else {
-        world.activate(here);
+        world.act(here.point(), Doing::Activate(here.link()));
     }
 }
 
@@ -212,17 +209,15 @@ fn reopen(world: &mut World, dice: &mut Dice, link: Link) {
         lose_half(world, link);
         lose_half(world, link.reversed());
     }
-    world.act(link.here.point, Doing::OpenFirst(link.here.link()));
+    world.act(link.here.point(), Doing::OpenFirst(link.here.link()));
 }
 
 /// A link is lost at one end if it is down at the other.
 fn lose_half(world: &mut World, link: Link) {
-    if is_down(world, link.there) && !is_down(world, link.here) && has_another(world, link) {
+    if world.network.is_down(link.there)
+        && !world.network.is_down(link.here)
+        && has_another(world, link)
+    {
         world.lose(link.here);
     }
-}
-
-/// Whether a link is down at one end.
-fn is_down(world: &World, place: Place) -> bool {
-    world.standing(place) == LinkStanding::Down
 }

@@ -19,8 +19,10 @@ pub(super) struct Seen {
     lost: u64,
     /// and that one may be late.
     late: u64,
-    lost_any: bool,
-    late_any: bool,
+    /// Whether it counted since that one may be lost,
+    pub lost_any: bool,
+    /// or that one may be late.
+    pub late_any: bool,
     /// How many messages came to each node while this one hadn't counted since that one may be late.
     in_time: Vec<usize>,
 }
@@ -78,17 +80,7 @@ impl Seen {
         self.in_time.fill(0);
     }
 
-    /// Whether it counted since the books began that a message may be lost.
-    pub(super) fn lost_any(&self) -> bool {
-        self.lost_any
-    }
-
-    /// Whether it counted since the books began that a message may be late.
-    pub(super) fn late_any(&self) -> bool {
-        self.late_any
-    }
-
-    /// Whether it hadn't counted so when the message of this number came to the node at this place.
+    /// Whether it hadn't counted that one may be late when the message of this number came to the node at this place.
     pub(super) fn is_in_time(&self, place: usize, number: usize) -> bool {
         number < self.in_time.get(place).copied().unwrap_or(0)
     }

@@ -1,11 +1,11 @@
 //! A network, what is done to it, what was submitted, and what is counted.
 
 use super::book::{Book, Entry, message_of};
-use super::node_settings::{settings_at, settings_of_all};
 use super::seen::{Seen, unseen};
-use super::shape::{Link, Place, Shape};
-use crate::harness::{Arrival, Became, Doing, Network};
-use exchange::{Exchange, LinkStanding, Msu, PointCode};
+use crate::harness::{Became, Doing, Link, Network, Place};
+use crate::node_settings::{settings_at, settings_of_all};
+use crate::shape::{Shape, code_of};
+use exchange::PointCode;
 use std::alloc::Global;
 use std::marker::Model;
 
@@ -37,7 +37,8 @@ pub(super) struct World {
     pub links: Vec<Link>,
     /// What was seen of each node.
     pub seen: Vec<Seen>,
-    network: Network,
+    /// The nodes.
+    pub network: Network,
 }
 
 impl Model for World {
@@ -64,38 +65,6 @@ impl World {
         })
     }
 
-    /// The messages that came to a node, whomever they are for.
-    pub(super) fn arrived(&self, point: u16) -> &[Arrival] {
-        self.network.arrived(code_of(point))
-    }
-
-    /// The messages for other points that came to a node, and that it refused.
-    pub(super) fn refused(&self, point: u16) -> &[Msu] {
-        self.network.refused(code_of(point))
-    }
-
-    /// Whether the network is quiet: each link may open, no end may follow, and nothing is held.
-    pub(super) fn is_quiet(&self) -> bool {
-        self.network.is_quiet()
-    }
-
-    /// How a link stands at one end; Down if there is none.
-    pub(super) fn standing(&self, place: Place) -> LinkStanding {
-        match self
-            .exchange(place.point)
-            .and_then(|exchange| exchange.link(place.link()))
-        {
-            Some(view) => view.standing,
-            None => LinkStanding::Down,
-        }
-    }
-
-    /// Whether a link is in service at both ends.
-    pub(super) fn serves(&self, link: Link) -> bool {
-        self.standing(link.here) == LinkStanding::InService
-            && self.standing(link.there) == LinkStanding::InService
-    }
-
     /// Whether a node hadn't counted since the books began that a message may be late when this one, of those that came
     /// to a point, came there.
     pub(super) fn is_in_time(&self, from: u16, to: u16, number: usize) -> bool {
@@ -104,21 +73,17 @@ impl World {
             None => false,
         }
     }
-
-    fn exchange(&self, point: u16) -> Option<&Exchange> {
-        self.network.at(code_of(point))
-    }
 }
 
 impl World {
     /// Something is done at a node. Says whether something came of it.
-    pub(super) fn act(&mut self, point: u16, doing: Doing) -> bool {
+    pub(super) fn act(&mut self, point: PointCode, doing: Doing) -> bool {
         self.turn(point, doing).is_something()
     }
 
     /// The same, but says what came of it.
-    fn turn(&mut self, point: u16, doing: Doing) -> Became {
-        let became = Became::of_result(self.network.turn(code_of(point), doing));
+    fn turn(&mut self, point: PointCode, doing: Doing) -> Became {
+        let became = Became::of_result(self.network.turn(point, doing));
         self.tally.steps = self.tally.steps.wrapping_add(1);
         self.starved |= became == Became::Starved;
         if became.is_something() {
@@ -128,15 +93,15 @@ impl World {
     }
 
     /// A node is looked at, and how many messages have come to it.
-    fn look(&mut self, point: u16) {
-        let place = place_of(point);
-        if let Some(exchange) = self.network.at(code_of(point)) {
+    fn look(&mut self, point: PointCode) {
+        let place = place_of(point.code());
+        if let Some(exchange) = self.network.at(point) {
             if let Some(seen) = self.seen.get_mut(place) {
                 let changes = seen.look(exchange);
                 self.tally.reroutings = self.tally.reroutings.wrapping_add(changes);
             }
         }
-        let count = self.arrived(point).len();
+        let count = self.network.arrived(point).len();
         for seen in self.seen.as_mut_slice() {
             seen.note_arrivals(place, count);
         }
@@ -164,14 +129,16 @@ impl World {
     /// A node submits the message of a mark. Says whether it accepted it.
     pub(super) fn hand_over(&mut self, entry: Entry, mark: u32) -> bool {
         match message_of(entry, mark) {
-            Some(message) => self.turn(entry.from, Doing::Submit(message)).is_accepted(),
+            Some(message) => self
+                .turn(code_of(entry.from), Doing::Submit(message))
+                .is_accepted(),
             None => false,
         }
     }
 
     /// A node loses a link.
     pub(super) fn lose(&mut self, place: Place) {
-        if self.act(place.point, Doing::Lose(place.link())) {
+        if self.act(place.point(), Doing::Lose(place.link())) {
             self.tally.failures = self.tally.failures.wrapping_add(1);
         }
     }
@@ -179,14 +146,7 @@ impl World {
     /// A node loses a link, and may not follow the other end then.
     pub(super) fn fall(&mut self, place: Place) {
         self.lose(place);
-        self.network.give_up(code_of(place.point), place.link());
-    }
-
-    /// An operator lets a link open.
-    pub(super) fn activate(&mut self, place: Place) {
-        let link = place.link();
-        let emergency = false;
-        self.act(place.point, Doing::Activate { link, emergency });
+        self.network.give_up(place);
     }
 
     /// A node starts again.
@@ -209,11 +169,6 @@ impl World {
             }
         }
     }
-}
-
-/// The code of a point.
-fn code_of(point: u16) -> PointCode {
-    PointCode::of_low_bits(point as u32)
 }
 
 /// The place of a point's node among all: points are 1, 2, 3 and so on.

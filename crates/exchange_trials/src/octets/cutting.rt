@@ -16,9 +16,9 @@ pub(crate) struct Cutter {
     /// How many octets of the stream came as frames,
     given: usize,
     /// and how many each frame has, in order.
-    lengths: ArrayVec<usize, MOST_FRAMES>,
+    pub lengths: ArrayVec<usize, MOST_FRAMES>,
     /// Whether the stream broke after them.
-    broken: bool,
+    pub broken: bool,
     /// Whether a frame wasn't the next octets of the stream, or not all octets were taken.
     torn: bool,
 }
@@ -30,16 +30,6 @@ impl Model for Cutter {
 }
 
 impl Cutter {
-    /// How many octets each frame has, in order.
-    pub(crate) fn lengths(&self) -> &[usize] {
-        self.lengths.as_slice()
-    }
-
-    /// Whether the stream broke after the frames.
-    pub(crate) fn is_broken(&self) -> bool {
-        self.broken
-    }
-
     /// Cuts a stream into frames, in pieces of random sizes.
     pub(crate) fn of(dice: &mut Dice, octets: &[u8]) -> Cutter {
         let mut cutter = Cutter {

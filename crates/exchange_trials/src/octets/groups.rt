@@ -134,8 +134,8 @@ fn add_stream(dice: &mut Dice, far: FarEnd, links: Links, stream: &mut Octets) {
 /// cut alike.
 fn try_stream(target: &mut Target, dice: &mut Dice, link: LinkId, octets: &[u8]) -> bool {
     let cutter = Cutter::of(dice, octets);
-    try_pieces(target, link, octets, cutter.lengths());
-    if cutter.is_broken() {
+    try_pieces(target, link, octets, cutter.lengths.as_slice());
+    if cutter.broken {
         target.lose(link);
     } else {
         target.tend(link);

@@ -125,15 +125,10 @@ impl Target {
     /// This many ticks pass, before each of which all that waits is taken and acknowledged.
     pub(crate) fn tend_and_tick(&mut self, ticks: usize) {
         for _ in 0..ticks {
-            self.tend_all();
+            for link in 0..LINKS {
+                self.tend(LinkId::new(link));
+            }
             self.tick();
-        }
-    }
-
-    /// Takes all that is to go out on any link, and acknowledges it.
-    fn tend_all(&mut self) {
-        for link in 0..LINKS {
-            self.tend(LinkId::new(link));
         }
     }
 
@@ -210,30 +205,20 @@ impl Target {
     /// All links lose their associations and come into service again, and a good message of each of the 16 selections
     /// comes on each. Returns how many of these 64 went out as they came.
     pub(crate) fn count_through(&mut self) -> u64 {
-        self.lose_all();
+        for link in 0..LINKS {
+            self.lose(LinkId::new(link));
+        }
         // In eight ticks all timers of a changeover, a changeback and a rerouting run out.
         self.tend_and_tick(8);
-        self.restore_all();
+        for link in 0..LINKS {
+            self.restore(LinkId::new(link));
+        }
         self.tend_and_tick(8);
         let mut count = 0u64;
         for link in 0..LINKS {
             count = count.wrapping_add(self.count_from(LinkId::new(link)));
         }
         count
-    }
-
-    /// All links lose their associations.
-    fn lose_all(&mut self) {
-        for link in 0..LINKS {
-            self.lose(LinkId::new(link));
-        }
-    }
-
-    /// All links come into service.
-    fn restore_all(&mut self) {
-        for link in 0..LINKS {
-            self.restore(LinkId::new(link));
-        }
     }
 
     /// How many messages of ISUP that come on a link go through: from point 2 to point 300, or from point 3 to point 2.

@@ -1,15 +1,11 @@
-//! Random schedules. A link between two nodes and nothing else has the same number at both ends.
+//! Random schedules.
 
 use super::end::End;
-use super::group::Group;
 use super::mark::FLOWS;
 use super::rounds::{Clock, bring_up, open_all, prove_links, settle};
-use super::two_nodes::two_nodes;
 use super::world::World;
 use crate::dice::Dice;
-use crate::harness::Doing;
-use exchange::LinkId;
-use std::alloc::Global;
+use crate::harness::{Doing, Link, Place};
 
 /// How many steps a schedule has.
 const STEPS: usize = 400;
@@ -17,107 +13,80 @@ const STEPS: usize = 400;
 /// How many times the links come back after it, so that all that is waiting arrives.
 const RETURNS: usize = 3;
 
-/// Schedules over some links, each by the dice of its number.
-#[derive(Clone, Copy)]
-pub(crate) struct Schedules {
-    /// How many links there are.
-    pub links: u8,
-    /// How many schedules there are.
-    pub count: u16,
-}
-
-impl Group for Schedules {
-    fn runs(&self) -> u16 {
-        self.count
+/// A schedule by the dice of its number. Says whether all ended as it should.
+pub(crate) fn throw_steps(world: &mut World, run: u16) -> bool {
+    let mut dice = Dice::new(run as u64);
+    let up = bring_up(world);
+    for _ in 0..STEPS {
+        step(world, &mut dice);
     }
-
-    fn world(&self, alloc: Global) -> Option<World> {
-        two_nodes(alloc, self.links)
-    }
-
-    fn play(&self, run: u16, world: &mut World) -> bool {
-        let mut dice = Dice::new(run as u64);
-        let up = bring_up(world);
-        for _ in 0..STEPS {
-            step(world, &mut dice);
-        }
-        settle(world, Clock::STILL);
-        bring_back(world) && up
-    }
+    settle(world, Clock::STILL);
+    bring_back(world) && up
 }
 
 /// A step of a schedule.
 fn step(world: &mut World, dice: &mut Dice) {
     let chance = dice.octet() % 200;
-    let link = LinkId::new(dice.octet() % world.links().max(1));
-    let end = if dice.octet() % 2 == 0 {
-        End::One
-    } else {
-        End::Two
-    };
+    let number = dice.octet() % world.links().max(1);
+    let end = End::numbered(dice.octet());
+    let place = world.place(end, number);
     match chance {
         0..=38 => world.submit(end, dice.octet() % FLOWS),
         39 => world.translate(end),
-        40..=109 => world.take(end, link),
-        110..=176 => deliver(world, dice, end, link),
-        177..=180 => world.act(end, Doing::LoseStatus(link)),
-        181..=184 => world.act(end, Doing::DoubleStatus(link)),
-        185..=187 => world.lose(end, link),
-        188..=190 => world.act(end, Doing::Tick),
-        191 => operate(world, dice, end, link),
-        192..=196 => reopen(world, dice, end, link),
-        _ => world.follow(end, link),
+        40..=109 => world.take(place),
+        110..=176 => deliver(world, dice, place),
+        177..=180 => world.act(place.point(), Doing::LoseStatus(place.link())),
+        181..=184 => world.act(place.point(), Doing::DoubleStatus(place.link())),
+        185..=187 => world.lose(place),
+        188..=190 => world.act(place.point(), Doing::Tick),
+        191 => operate(world, dice, place),
+        192..=196 => reopen(world, dice, end, number),
+        _ => world.follow(place),
     };
 }
 
 /// The next frame of one of the two streams comes, as the dice say; if there is none, of the other.
-fn deliver(world: &mut World, dice: &mut Dice, end: End, link: LinkId) -> bool {
+fn deliver(world: &mut World, dice: &mut Dice, place: Place) -> bool {
     if dice.one_in(2) {
-        world.deliver(end, link)
+        world.deliver(place)
     } else {
-        world.deliver_data_first(end, link)
+        world.deliver_data_first(place)
     }
 }
 
 /// An operator keeps a link from opening, or lets it open.
-fn operate(world: &mut World, dice: &mut Dice, end: End, link: LinkId) -> bool {
+fn operate(world: &mut World, dice: &mut Dice, place: Place) -> bool {
     if dice.one_in(2) {
-        world.act(end, Doing::Deactivate(link))
+        world.act(place.point(), Doing::Deactivate(place.link()))
     } else {
-        activate(world, end, link)
+        world.act(place.point(), Doing::Activate(place.link()))
     }
-}
-
-/// An operator lets a link open.
-fn activate(world: &mut World, end: End, link: LinkId) -> bool {
-    let emergency = false;
-    world.act(end, Doing::Activate { link, emergency })
 }
 
 /// A link opens at an end, if it may. As the dice say, if it is down at one end it is lost at the other before.
-fn reopen(world: &mut World, dice: &mut Dice, end: End, link: LinkId) -> bool {
+fn reopen(world: &mut World, dice: &mut Dice, end: End, number: u8) -> bool {
     if dice.one_in(2) {
-        lose_halves(world, link);
+        let Link { here, there } = world.link(End::One, number);
+        lose_half(world, here, there);
+        lose_half(world, there, here);
     }
-    world.open_first(end, link)
+    world.open_first(world.place(end, number))
 }
 
 /// A link that is down at one end is lost at the other.
-fn lose_halves(world: &mut World, link: LinkId) {
-    if world.is_down(End::One, link) {
-        world.lose(End::Two, link);
-    }
-    if world.is_down(End::Two, link) {
-        world.lose(End::One, link);
+fn lose_half(world: &mut World, down: Place, other: Place) {
+    if world.network.is_down(down) {
+        world.lose(other);
     }
 }
 
 /// Each operator lets all links open, and all that can come back do, several times. Says whether all came to rest after
 /// that.
 fn bring_back(world: &mut World) -> bool {
-    for link in 0..world.links() {
-        activate(world, End::One, LinkId::new(link));
-        activate(world, End::Two, LinkId::new(link));
+    for number in 0..world.links() {
+        let Link { here, there } = world.link(End::One, number);
+        world.act(here.point(), Doing::Activate(here.link()));
+        world.act(there.point(), Doing::Activate(there.link()));
     }
     let mut settled = false;
     for _ in 0..RETURNS {
@@ -138,9 +107,9 @@ fn bring_back_once(world: &mut World) -> bool {
 
 /// Each link that isn't in service at both ends is lost at both.
 fn lose_unserved(world: &mut World) {
-    for link in 0..world.links() {
-        let link = LinkId::new(link);
-        if !world.serves(link) {
+    for number in 0..world.links() {
+        let link = world.link(End::One, number);
+        if !world.network.serves(link) {
             world.lose_both(link);
         }
     }

@@ -1,21 +1,16 @@
 //! A link that stops at each place while both ends have a third neighbour: routes there fail and return, and messages
 //! pass through the two.
 
-use super::end::End;
-use super::four_nodes::{LINKS_EACH, four_nodes, point_beside, unknown_point};
-use super::group::Group;
+use super::end::{ENDS, End};
 use super::mark::{FLOWS, Mark};
-use super::neighbours::{
-    carry_elsewhere, lose_across, lose_beside, open_across, open_beside, tick_beside,
-};
 use super::rounds::{
-    Clock, MOST_ROUNDS, PROVING_TICKS, bring_up, come_back, pass_round, prove_links,
+    Clock, MOST_ROUNDS, PROVING_TICKS, bring_up, carry, come_back, pass_round, prove_links,
 };
-use super::stop::{ROUNDS, Stop, round_with, stops};
+use super::stop::{ROUNDS, Stop, round_with};
 use super::world::World;
-use crate::harness::Doing;
-use exchange::{LinkId, PointCode};
-use std::alloc::Global;
+use crate::harness::Link;
+use crate::shape::{Shape, UNKNOWN, code_of};
+use exchange::PointCode;
 
 /// Before this round the third neighbours lose the link between them,
 const LOST_ACROSS: u8 = 2;
@@ -29,34 +24,41 @@ const OUTLASTING_TICKS: u8 = 4;
 /// The flows from there on are those of the third neighbours.
 const NEIGHBOURS_FLOW: u8 = FLOWS / 2;
 
-/// One run for each link between the ends that stops, while routes fail, and all come back.
-#[derive(Clone, Copy)]
-pub(crate) struct StopInRing;
+/// A link of a third neighbour: its point, and the link's number there.
+type Beside = (u16, u8);
 
-impl Group for StopInRing {
-    fn runs(&self) -> u16 {
-        stops(LINKS_EACH)
-    }
+/// The link between the third neighbours,
+const ACROSS: [Beside; 1] = [(3, 2)];
 
-    fn world(&self, alloc: Global) -> Option<World> {
-        four_nodes(alloc)
-    }
+/// a link of each to its end,
+const FIRST_BESIDE: [Beside; 2] = [(3, 0), (4, 0)];
 
-    fn play(&self, run: u16, world: &mut World) -> bool {
-        let stop = Stop::numbered(run, LINKS_EACH);
-        let stopped = stop_in_ring(world, &stop);
-        let back = return_all(world, stop.link);
-        stopped && back
-    }
+/// and all links but those between the two ends.
+const ELSEWHERE: [Beside; 5] = [(3, 0), (3, 1), (4, 0), (4, 1), (3, 2)];
+
+/// The places of the point behind the other end's third neighbour, among the destinations of either end.
+const POINTS_ACROSS: (usize, usize) = (2, 1);
+
+/// A link stops while routes fail, and all come back. Says whether all ended as it should.
+pub(crate) fn stop_in_ring(world: &mut World, run: u16) -> bool {
+    let stop = Stop::numbered(run, world.links());
+    let stopped = stop_and_fail(world, &stop);
+    let link = world.link(End::One, stop.link);
+    return_all(world, link) && stopped
 }
 
 /// All links come up, and the link stops while routes fail. Says whether all went well, and all came meanwhile.
-fn stop_in_ring(world: &mut World, stop: &Stop) -> bool {
-    let up = bring_up(world) && bring_up_elsewhere(world);
+fn stop_and_fail(world: &mut World, stop: &Stop) -> bool {
+    let up = bring_up(world) && open_each(world, &ELSEWHERE) && serve_everywhere(world);
     world.count_anew();
     let submitted = submit_everywhere(world, 1);
     for round in 0..ROUNDS {
-        fail_before(world, round);
+        if round == LOST_ACROSS {
+            lose_each(world, &ACROSS);
+        }
+        if round == LOST_BESIDE {
+            lose_each(world, &FIRST_BESIDE);
+        }
         round_with(world, stop, round);
         carry_elsewhere(world);
     }
@@ -65,7 +67,7 @@ fn stop_in_ring(world: &mut World, stop: &Stop) -> bool {
 }
 
 /// All is submitted again, the link comes back, and then the routes; and once more. Says whether all went well.
-fn return_all(world: &mut World, link: LinkId) -> bool {
+fn return_all(world: &mut World, link: Link) -> bool {
     let submitted = submit_everywhere(world, 2);
     let back = come_back(world, link, Clock::STILL) && settle_everywhere(world);
     let routes = return_routes(world);
@@ -77,18 +79,19 @@ fn pass_again(world: &mut World) -> bool {
     let submitted = submit_everywhere(world, 3);
     let settled = settle_everywhere(world);
     // The holds of controlled reroutings end.
-    world.tick(End::One, OUTLASTING_TICKS);
-    world.tick(End::Two, OUTLASTING_TICKS);
+    for end in ENDS {
+        world.tick(end.point(), OUTLASTING_TICKS);
+    }
     settle_everywhere(world) && submitted && settled && world.has_brought_all()
 }
 
-/// The links to and between the third neighbours come up. Says whether all did.
-fn bring_up_elsewhere(world: &mut World) -> bool {
-    let mut opened = open_across(world);
-    for link in 0..LINKS_EACH {
-        opened &= open_beside(world, LinkId::new(link));
-    }
-    opened && serve_everywhere(world)
+/// The links that were lost come back: between the third neighbours, and from each end to its own. Says whether they
+/// did.
+fn return_routes(world: &mut World) -> bool {
+    tick_beside(world, OUTLASTING_TICKS);
+    let across = open_each(world, &ACROSS);
+    let beside = open_each(world, &FIRST_BESIDE);
+    across && beside && serve_everywhere(world)
 }
 
 /// Links that are open come into service. Says whether all came to rest.
@@ -99,23 +102,49 @@ fn serve_everywhere(world: &mut World) -> bool {
     settle_everywhere(world) && told
 }
 
-/// The links that were lost come back: between the third neighbours, and from each end to its own. Says whether they
-/// did.
-fn return_routes(world: &mut World) -> bool {
-    tick_beside(world, OUTLASTING_TICKS);
-    let across = open_across(world);
-    let beside = open_beside(world, LinkId::new(0));
-    across && beside && serve_everywhere(world)
+/// This many ticks pass at both neighbours.
+fn tick_beside(world: &mut World, count: u8) {
+    for end in ENDS {
+        world.tick(end.point_beside(), count);
+    }
 }
 
-/// What fails before a round does.
-fn fail_before(world: &mut World, round: u8) {
-    if round == LOST_ACROSS {
-        lose_across(world);
+/// Links open at a third neighbour, and then at their other end. Says whether all did.
+fn open_each(world: &mut World, links: &[Beside]) -> bool {
+    let mut opened = true;
+    for link in links {
+        opened &= match at(*link) {
+            Some(link) => world.open(link),
+            None => false,
+        };
     }
-    if round == LOST_BESIDE {
-        lose_beside(world, LinkId::new(0));
+    opened
+}
+
+/// Links are lost at both ends.
+fn lose_each(world: &mut World, links: &[Beside]) {
+    for link in links {
+        if let Some(link) = at(*link) {
+            world.lose_both(link);
+        }
     }
+}
+
+/// A frame is carried each way on all links but those between the two ends, and whether one was.
+fn carry_elsewhere(world: &mut World) -> bool {
+    let mut moved = false;
+    for link in ELSEWHERE {
+        if let Some(link) = at(link) {
+            moved |= carry(world, link.reversed());
+            moved |= carry(world, link);
+        }
+    }
+    world.note_first_sets(POINTS_ACROSS.0, POINTS_ACROSS.1);
+    moved
+}
+
+fn at((point, number): Beside) -> Option<Link> {
+    Shape::Ring.link(point, number)
 }
 
 /// Rounds pass on all links until one does nothing. Says whether one did nothing.
@@ -136,7 +165,7 @@ fn settle_everywhere(world: &mut World) -> bool {
 fn submit_everywhere(world: &mut World, number: u16) -> bool {
     let mut accepted = true;
     for flow in 0..NEIGHBOURS_FLOW {
-        for end in [End::One, End::Two] {
+        for end in ENDS {
             accepted &= submit_at(world, end, Mark { flow, number });
         }
     }
@@ -148,27 +177,16 @@ fn submit_at(world: &mut World, end: End, mark: Mark) -> bool {
         flow: mark.flow.wrapping_add(NEIGHBOURS_FLOW),
         number: mark.number,
     };
+    let (beside, far) = (end.point_beside(), end.other());
     let straight = world.submit(end, mark.flow);
-    let past = submit_past(world, end, mark);
-    let through = submit_beside(world, end, theirs, end.other().point());
-    let unknown = mark.flow != 0 || submit_beside(world, end, theirs, unknown_point());
+    let past = submit_from(world, end, end.point(), mark, far.point_beside());
+    let through = submit_from(world, end, beside, theirs, far.point());
+    let unknown = mark.flow != 0 || submit_from(world, end, beside, theirs, code_of(UNKNOWN));
     straight && past && through && unknown
 }
 
-/// An end submits a message for the third neighbour of the other.
-fn submit_past(world: &mut World, end: End, mark: Mark) -> bool {
-    match mark.message(end.point(), point_beside(end.other())) {
-        Some(message) => world.submit_message(end, message),
-        None => false,
-    }
-}
-
-/// The third neighbour of an end submits the message of a mark for some point. Says whether it was accepted.
-fn submit_beside(world: &mut World, end: End, mark: Mark, point: PointCode) -> bool {
-    match mark.message(end.point(), point) {
-        Some(message) => world
-            .act_beside(point_beside(end), Doing::Submit(message))
-            .is_accepted(),
-        None => false,
-    }
+/// A node submits the message of a mark from an end to some point. Says whether it was accepted.
+fn submit_from(world: &mut World, end: End, at: PointCode, mark: Mark, to: PointCode) -> bool {
+    let message = mark.message(end.point(), to);
+    world.submit_message(at, message)
 }

@@ -3,7 +3,7 @@
 use super::end::End;
 use super::mark::FLOWS;
 use super::world::World;
-use exchange::LinkId;
+use crate::harness::Link;
 
 /// The most rounds that carry what is left.
 pub(crate) const MOST_ROUNDS: usize = 200;
@@ -33,8 +33,8 @@ impl Clock {
 
     /// The ticks between two rounds pass.
     pub(crate) fn pass(self, world: &mut World) {
-        world.tick(End::One, self.one);
-        world.tick(End::Two, self.two);
+        world.tick(End::One.point(), self.one);
+        world.tick(End::Two.point(), self.two);
     }
 }
 
@@ -48,12 +48,12 @@ pub(crate) fn steps_over(links: u8) -> u8 {
 pub(crate) fn step_of_round(world: &mut World, step: u8) -> bool {
     let links = world.links().max(1);
     let carried = step / 2;
-    let link = LinkId::new(carried % links);
     let from = if carried < links { End::One } else { End::Two };
+    let link = world.link(from, carried % links);
     if step % 2 == 0 {
-        world.take(from, link)
+        world.take(link.here)
     } else {
-        world.deliver(from.other(), link)
+        world.deliver(link.there)
     }
 }
 
@@ -89,20 +89,20 @@ pub(crate) fn bring_up(world: &mut World) -> bool {
 /// All links open. Says whether all did.
 pub(crate) fn open_all(world: &mut World) -> bool {
     let mut opened = true;
-    for link in 0..world.links() {
-        opened &= world.open(LinkId::new(link));
+    for number in 0..world.links() {
+        opened &= world.open(world.link(End::One, number));
     }
     opened
 }
 
 /// The ticks pass in which links are proved.
 pub(crate) fn prove_links(world: &mut World) {
-    world.tick(End::One, PROVING_TICKS);
-    world.tick(End::Two, PROVING_TICKS);
+    world.tick(End::One.point(), PROVING_TICKS);
+    world.tick(End::Two.point(), PROVING_TICKS);
 }
 
 /// A link that is lost at both ends comes back. Says whether it opened.
-pub(crate) fn come_back(world: &mut World, link: LinkId, clock: Clock) -> bool {
+pub(crate) fn come_back(world: &mut World, link: Link, clock: Clock) -> bool {
     world.lose_both(link);
     if world.links() == 1 {
         outlast_t1(world, clock);
@@ -113,7 +113,7 @@ pub(crate) fn come_back(world: &mut World, link: LinkId, clock: Clock) -> bool {
 }
 
 /// A link that is open at both ends comes into service.
-pub(crate) fn serve(world: &mut World, link: LinkId) {
+pub(crate) fn serve(world: &mut World, link: Link) {
     carry_statuses(world, link);
     prove_links(world);
     carry_statuses(world, link);
@@ -127,17 +127,18 @@ fn outlast_t1(world: &mut World, clock: Clock) {
 }
 
 /// The statuses of a link are carried.
-pub(crate) fn carry_statuses(world: &mut World, link: LinkId) {
+pub(crate) fn carry_statuses(world: &mut World, link: Link) {
     for _ in 0..STATUSES {
-        carry(world, End::One, link);
-        carry(world, End::Two, link);
+        carry(world, link);
+        carry(world, link.reversed());
     }
 }
 
-/// The next frame of a link is carried from an end to the other.
-pub(crate) fn carry(world: &mut World, from: End, link: LinkId) {
-    world.take(from, link);
-    world.deliver(from.other(), link);
+/// The next frame of a link is carried from one end to the other. Says whether there was one.
+pub(crate) fn carry(world: &mut World, link: Link) -> bool {
+    let taken = world.take(link.here);
+    world.deliver(link.there);
+    taken
 }
 
 /// Each end submits a message on each flow.

@@ -1,10 +1,9 @@
-//! A link that stops at some place of a busy exchange.
+//! A link that stops at some place of a busy exchange, and comes back.
 
 use super::end::End;
 use super::group::Choices;
-use super::rounds::{Clock, bring_up, settle, step_of_round, steps_over, submit_all};
+use super::rounds::{Clock, bring_up, come_back, settle, step_of_round, steps_over, submit_all};
 use super::world::World;
-use exchange::LinkId;
 
 /// How many rounds pass in which a link may stop.
 pub(crate) const ROUNDS: u8 = 8;
@@ -26,8 +25,8 @@ pub(crate) enum Stopped {
 pub(crate) struct Stop {
     /// The place, by the steps of all rounds.
     pub place: u8,
-    /// The link.
-    pub link: LinkId,
+    /// The link, by its number.
+    pub link: u8,
     /// Where it stops.
     pub ends: Stopped,
 }
@@ -54,7 +53,7 @@ impl Stop {
         };
         Stop {
             ends,
-            link: LinkId::new(choices.below(links)),
+            link: choices.below(links),
             place: choices.below(places(ROUNDS, links)),
         }
     }
@@ -66,9 +65,9 @@ impl Stop {
         }
         match self.ends {
             Stopped::At(end) => {
-                world.lose(end, self.link);
+                world.lose(world.place(end, self.link));
             }
-            Stopped::AtBoth => world.lose_both(self.link),
+            Stopped::AtBoth => world.lose_both(world.link(End::One, self.link)),
         }
     }
 
@@ -103,4 +102,52 @@ pub(crate) fn stop_and_settle(world: &mut World, stop: &Stop, clock: Clock) -> b
 /// Whether all came that could: over a single link nothing does while it is down.
 fn brought_all_it_can(world: &World) -> bool {
     world.links() == 1 || world.has_brought_all()
+}
+
+/// The link stops and comes back. All messages are submitted again before it comes back, so some wait on the other
+/// links then, and once more after that. Says whether all went well: if another link is left, what was submitted first
+/// came while this one was down.
+fn stop_and_return(world: &mut World, stop: &Stop, clock: Clock) -> bool {
+    let stopped = stop_and_settle(world, stop, clock);
+    submit_all(world);
+    let link = world.link(End::One, stop.link);
+    let back = come_back(world, link, clock);
+    submit_all(world);
+    stopped && back
+}
+
+/// A link stops once. Says whether all ended as it should.
+pub(crate) fn stop_once(world: &mut World, run: u16, clock: Clock) -> bool {
+    let stop = Stop::numbered(run, world.links());
+    let back = stop_and_return(world, &stop, clock);
+    settle(world, clock) && back
+}
+
+/// How many rounds pass after the return of a link that stopped before, in which another may stop.
+const ROUNDS_AGAIN: u8 = 1;
+
+/// One run for each place of these rounds, and each of this many links that the first end loses there.
+pub(crate) fn stops_again(links: u8) -> u16 {
+    (links as u16).saturating_mul(places(ROUNDS_AGAIN, links) as u16)
+}
+
+/// A link stops at both ends and at the first place. While it takes its flows back, the first end loses one. Says
+/// whether all ended as it should.
+pub(crate) fn stop_again(world: &mut World, run: u16) -> bool {
+    let links = world.links();
+    let mut choices = Choices::of(run);
+    let first = Stop {
+        place: 0,
+        link: 1,
+        ends: Stopped::AtBoth,
+    };
+    let stop = Stop {
+        link: choices.below(links),
+        place: choices.below(places(ROUNDS_AGAIN, links)),
+        ends: Stopped::At(End::One),
+    };
+    let back = stop_and_return(world, &first, Clock::STILL);
+    round_with(world, &stop, 0);
+    stop.strike_behind(world, ROUNDS_AGAIN);
+    settle(world, Clock::STILL) && back
 }

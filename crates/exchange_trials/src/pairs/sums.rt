@@ -54,10 +54,9 @@ impl Pick for SameMessage {
 /// Compares the sums of the messages from an end to the other: of all of them, of one flow, and of one message, if
 /// there is one and it goes as it was handed in. The number of this comparison chooses these.
 pub(crate) fn compare(network: &Network, traffic: &Traffic, number: u32, relays: bool) -> Tally {
-    let all = compare_all(network, traffic);
-    let both = all.and(compare_flow(network, traffic, Sls::of_low_bits(number)));
-    let count = traffic.accepted().len().max(1);
-    match traffic.accepted().get(number as usize % count) {
+    let both = compare_all(network, traffic).and(compare_flow(network, traffic, number));
+    let count = traffic.accepted.len().max(1);
+    match traffic.accepted.get(number as usize % count) {
         Some(mark) if !relays => both.and(compare_one(network, traffic, *mark)),
         Some(_) | None => both,
     }
@@ -65,47 +64,41 @@ pub(crate) fn compare(network: &Network, traffic: &Traffic, number: u32, relays:
 
 /// The sum of all messages.
 fn compare_all(network: &Network, traffic: &Traffic) -> Tally {
-    let (accepted, received) = (traffic.accepted().len(), traffic.received().len());
-    sum(accepted, received, waiting(network, traffic, &AllMessages))
+    let counts = (traffic.accepted.len(), traffic.received.len());
+    sum(network, traffic, counts, &AllMessages)
 }
 
 /// The sum of those on a flow.
-fn compare_flow(network: &Network, traffic: &Traffic, sls: Sls) -> Tally {
-    let flow = sls.number();
-    let accepted = count_on_flow(flow, traffic.accepted());
-    let received = count_on_flow(flow, traffic.received());
-    sum(
-        accepted,
-        received,
-        waiting(network, traffic, &OnFlow { sls }),
-    )
+fn compare_flow(network: &Network, traffic: &Traffic, number: u32) -> Tally {
+    let sls = Sls::of_low_bits(number);
+    let accepted = count_on_flow(sls.number(), traffic.accepted.as_slice());
+    let received = count_on_flow(sls.number(), traffic.received.as_slice());
+    sum(network, traffic, (accepted, received), &OnFlow { sls })
 }
 
 /// The sum of the message of a mark.
 fn compare_one(network: &Network, traffic: &Traffic, mark: Mark) -> Tally {
     let Some(message) = mark.message(traffic.from(), traffic.to()) else {
-        return Tally::NOTHING;
+        return Tally::default();
     };
-    let accepted = count_of(mark, traffic.accepted());
-    let received = count_of(mark, traffic.received());
-    sum(
-        accepted,
-        received,
-        waiting(network, traffic, &SameMessage { message }),
-    )
+    let counts = (
+        count_of(mark, traffic.accepted.as_slice()),
+        count_of(mark, traffic.received.as_slice()),
+    );
+    sum(network, traffic, counts, &SameMessage { message })
 }
 
-/// How many messages that a choice takes wait at the one end for the other.
-fn waiting<P: Pick>(network: &Network, traffic: &Traffic, pick: &P) -> usize {
-    network.waiting(traffic.from(), traffic.to(), pick)
-}
-
-/// One sum.
-fn sum(accepted: usize, received: usize, waiting: usize) -> Tally {
-    let is_right = accepted == received.wrapping_add(waiting);
+/// One sum: of the messages that a choice takes, so many were accepted and received.
+fn sum<P: Pick>(
+    network: &Network,
+    traffic: &Traffic,
+    (accepted, received): (usize, usize),
+    pick: &P,
+) -> Tally {
+    let waiting = network.waiting(traffic.from(), traffic.to(), pick);
     Tally {
         compared: 1,
-        wrong: if is_right { 0 } else { 1 },
-        ..Tally::NOTHING
+        wrong: (accepted != received.wrapping_add(waiting)) as u64,
+        ..Tally::default()
     }
 }

@@ -1,7 +1,7 @@
 //! What is counted of runs.
 
 /// What is counted of runs. Each is a count but the last.
-#[derive(Clone, Copy)]
+#[derive(Clone, Copy, Default)]
 pub(crate) struct Tally {
     /// Runs.
     pub runs: u64,
@@ -43,33 +43,13 @@ pub(crate) struct Tally {
 }
 
 impl Tally {
-    /// Nothing was done.
-    pub(crate) const NOTHING: Tally = Tally {
-        runs: 0,
-        frames: 0,
-        messages: 0,
-        once: 0,
-        in_order: 0,
-        lost: 0,
-        doubled: 0,
-        turned: 0,
-        lost_any: 0,
-        late_any: 0,
-        unended: 0,
-        compared: 0,
-        wrong: 0,
-        failures: 0,
-        reroutings: 0,
-        refused: 0,
-        passed: 0,
-        starved: false,
-    };
-
     /// Memory ran out.
-    pub(crate) const STARVED: Tally = Tally {
-        starved: true,
-        ..Tally::NOTHING
-    };
+    pub(crate) fn starved() -> Tally {
+        Tally {
+            starved: true,
+            ..Tally::default()
+        }
+    }
 
     /// This and another.
     pub(crate) fn and(self, other: Tally) -> Tally {
@@ -94,4 +74,9 @@ impl Tally {
             starved: self.starved || other.starved,
         }
     }
+}
+
+/// One more, if it is so.
+pub(crate) fn count(counted: &mut u64, one: bool) {
+    *counted = counted.wrapping_add(one as u64);
 }

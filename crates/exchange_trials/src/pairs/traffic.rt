@@ -2,9 +2,9 @@
 
 use super::end::End;
 use super::mark::{FLOWS, Mark, goes_to};
-use super::shape::Shape;
 use super::tally::Tally;
-use crate::harness::Arrival;
+use crate::harness::{Arrival, Network, Place};
+use crate::shape::Shape;
 use exchange::{Msu, PointCode};
 use std::alloc::Global;
 
@@ -15,9 +15,9 @@ use std::alloc::Global;
 pub(crate) struct Traffic {
     from: End,
     /// The messages that were accepted, in order.
-    accepted: Vec<Mark>,
+    pub accepted: Vec<Mark>,
     /// Those that came, in order.
-    received: Vec<Mark>,
+    pub received: Vec<Mark>,
     /// This many had come when neither end had yet said that one may be lost.
     once: usize,
     /// This many had come when, furthermore, the accepting end hadn't yet said that one may be late.
@@ -61,22 +61,20 @@ impl Traffic {
         }
     }
 
-    /// The messages that were accepted.
-    pub(crate) fn accepted(&self) -> &[Mark] {
-        self.accepted.as_slice()
+    /// The next message on a flow.
+    pub(crate) fn next_message(&self, flow: u8) -> Option<Msu> {
+        self.next_mark(flow).message(self.from(), self.to())
     }
 
-    /// The messages that came.
-    pub(crate) fn received(&self) -> &[Mark] {
-        self.received.as_slice()
+    /// Looks at what the one end accepted and what came to the other since the last look. Says whether there was memory
+    /// for it.
+    pub(crate) fn look_at(&mut self, network: &Network, shape: Shape) -> bool {
+        self.look_at_accepted(network.accepted(self.from()))
+            && self.look_at_arrived(network.arrived(self.to()), shape)
     }
 
-    /// Looks at what the one end accepted since the last look. Says whether there was memory for it.
-    pub(crate) fn look_at_accepted(&mut self, accepted: &[Msu]) -> bool {
-        let Some(new) = accepted.get(self.seen_accepted..) else {
-            return true;
-        };
-        for message in new {
+    fn look_at_accepted(&mut self, accepted: &[Msu]) -> bool {
+        for message in accepted.get(self.seen_accepted..).unwrap_or(&[]) {
             self.seen_accepted = self.seen_accepted.wrapping_add(1);
             if goes_to(self.to(), message) && !note(&mut self.accepted, message) {
                 return false;
@@ -85,14 +83,10 @@ impl Traffic {
         true
     }
 
-    /// Looks at what came to the other end since the last look. Says whether there was memory for it.
-    pub(crate) fn look_at_arrived(&mut self, arrived: &[Arrival], shape: Shape) -> bool {
-        let Some(new) = arrived.get(self.seen_arrived..) else {
-            return true;
-        };
-        for arrival in new {
+    fn look_at_arrived(&mut self, arrived: &[Arrival], shape: Shape) -> bool {
+        for arrival in arrived.get(self.seen_arrived..).unwrap_or(&[]) {
             self.seen_arrived = self.seen_arrived.wrapping_add(1);
-            if self.is_between(arrival, shape) && !note(&mut self.received, arrival.message()) {
+            if self.is_between(arrival, shape) && !note(&mut self.received, &arrival.message) {
                 return false;
             }
         }
@@ -101,17 +95,14 @@ impl Traffic {
 
     /// Whether a message came to the other end for it, and by a link between the two.
     fn is_between(&self, arrival: &Arrival, shape: Shape) -> bool {
-        let there = self.from.other();
-        goes_to(self.to(), arrival.message()) && shape.is_between(there, arrival.link())
+        let place = Place::new(self.to(), arrival.link);
+        goes_to(self.to(), &arrival.message) && shape.is_between(place, self.from())
     }
 
     /// The one end accepts a message for each that came to it, as one that returns them does. Says whether there was
     /// memory for it.
     pub(crate) fn answer_each(&mut self, came: &[Mark]) -> bool {
-        let Some(new) = came.get(self.accepted.len()..) else {
-            return true;
-        };
-        for mark in new {
+        for mark in came.get(self.accepted.len()..).unwrap_or(&[]) {
             if self.accepted.push(*mark).is_err() {
                 return false;
             }
@@ -144,7 +135,7 @@ impl Traffic {
             lost: if all { missing as u64 } else { 0 },
             doubled: self.once.saturating_sub(found) as u64,
             turned: self.turned_flows(),
-            ..Tally::NOTHING
+            ..Tally::default()
         })
     }
 

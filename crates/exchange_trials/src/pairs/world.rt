@@ -4,35 +4,33 @@ mod acting;
 mod noting;
 
 use super::end::End;
-use super::shape::Shape;
 use super::tally::Tally;
 use super::traffic::Traffic;
-use crate::harness::Network;
-use exchange::{Exchange, LinkId, LinkStanding, SetId, Settings};
+use crate::harness::{Link, Network, Place};
+use crate::node_settings::settings_of_all;
+use crate::shape::Shape;
+use exchange::SetId;
 use std::alloc::Global;
 use std::marker::Model;
 
 /// Two ends with some links between them, the neighbours that they may have besides, and what was accepted and came.
 /// Most of what changes it says whether something came of it.
 pub(crate) struct World {
-    network: Network,
+    /// The nodes.
+    pub(super) network: Network,
     shape: Shape,
+    /// Whether end 1 hands over SCCP for its own point, which it relays to end 2, and that returns it.
+    relays: bool,
     /// What goes from end 1 to end 2.
     there: Traffic,
     /// What goes back.
     back: Traffic,
-    first_sets: FirstSets,
+    /// The first set that messages for some point took at either end when last looked at.
+    first_sets: (Option<SetId>, Option<SetId>),
     steps: u32,
     tally: Tally,
     /// Whether each step about a translation row added or removed it.
     kept_titles: bool,
-}
-
-/// The first set that messages for some point took at either end when last looked at.
-#[derive(Clone, Copy)]
-struct FirstSets {
-    one: Option<SetId>,
-    two: Option<SetId>,
 }
 
 impl Model for World {
@@ -47,6 +45,7 @@ impl Drop for World {
         let World {
             network: _,
             shape: _,
+            relays: _,
             there: _,
             back: _,
             first_sets: _,
@@ -58,27 +57,43 @@ impl Drop for World {
 }
 
 impl World {
-    /// Nodes with these settings, before their first step. None if memory ran out.
-    pub(crate) fn new(alloc: Global, settings: Vec<Settings>, shape: Shape) -> Option<World> {
-        let network = Network::new(alloc, settings).ok()?;
+    /// The nodes of a pair or of a ring, before their first step. None if memory ran out.
+    pub(crate) fn new(alloc: Global, shape: Shape) -> Option<World> {
+        let network = Network::new(alloc, settings_of_all(alloc, shape)?).ok()?;
         Some(World {
             network,
             shape,
+            relays: false,
             there: Traffic::new(alloc, End::One),
             back: Traffic::new(alloc, End::Two),
-            first_sets: FirstSets {
-                one: None,
-                two: None,
-            },
+            first_sets: (None, None),
             steps: 0,
-            tally: Tally::NOTHING,
+            tally: Tally::default(),
             kept_titles: true,
         })
     }
 
     /// How many links there are between the two.
     pub(crate) fn links(&self) -> u8 {
-        self.shape.links
+        self.shape.links_between(1, 2)
+    }
+
+    /// A link between the two, by its number among these, as an end sees it.
+    pub(crate) fn link(&self, from: End, number: u8) -> Link {
+        Link {
+            here: self.place(from, number),
+            there: self.place(from.other(), number),
+        }
+    }
+
+    /// One end of it.
+    pub(crate) fn place(&self, end: End, number: u8) -> Place {
+        let (code, far) = (end.point().code(), end.other().point().code());
+        let first = self.shape.links_before(code, far);
+        Place {
+            code,
+            number: first.wrapping_add(number),
+        }
     }
 
     /// From now on failures and messages that pass through are counted.
@@ -95,28 +110,26 @@ impl World {
     }
 
     fn has_lost(&self, end: End) -> bool {
-        lost_any(self.network.at(end.point()))
+        match self.network.at(end.point()) {
+            Some(exchange) => exchange.lost_any(),
+            None => false,
+        }
     }
 
     /// Whether an end says that a message may be late.
     fn is_late(&self, end: End) -> bool {
-        late_any(self.network.at(end.point()))
+        match self.network.at(end.point()) {
+            Some(exchange) => exchange.late_any(),
+            None => false,
+        }
     }
 
-    /// The state of a link between the two at an end.
-    fn standing(&self, end: End, link: LinkId) -> LinkStanding {
-        standing(self.network.at(end.point()), self.shape.at(end, link))
-    }
-
-    /// Whether a link between the two is down at an end.
-    pub(crate) fn is_down(&self, end: End, link: LinkId) -> bool {
-        self.standing(end, link) == LinkStanding::Down
-    }
-
-    /// Whether a link between the two is in service at both ends.
-    pub(crate) fn serves(&self, link: LinkId) -> bool {
-        self.standing(End::One, link) == LinkStanding::InService
-            && self.standing(End::Two, link) == LinkStanding::InService
+    /// Whether an end has a translation row.
+    fn has_title(&self, end: End) -> bool {
+        match self.network.at(end.point()) {
+            Some(exchange) => exchange.title_count() != 0,
+            None => false,
+        }
     }
 
     /// Whether as many messages came as were accepted, or an end says that one may be lost.
@@ -129,7 +142,7 @@ impl World {
         let all = !self.may_have_lost();
         match (self.there.judge(alloc, all), self.back.judge(alloc, all)) {
             (Some(there), Some(back)) => self.tally.and(there).and(back).and(self.flags(ended)),
-            (None, _) | (Some(_), None) => Tally::STARVED,
+            (None, _) | (Some(_), None) => Tally::starved(),
         }
     }
 
@@ -137,55 +150,10 @@ impl World {
     fn flags(&self, ended: bool) -> Tally {
         Tally {
             runs: 1,
-            lost_any: plus(0, self.may_have_lost()),
-            late_any: plus(0, self.is_late(End::One) || self.is_late(End::Two)),
-            unended: plus(0, !(ended && self.kept_titles)),
-            ..Tally::NOTHING
+            lost_any: self.may_have_lost() as u64,
+            late_any: (self.is_late(End::One) || self.is_late(End::Two)) as u64,
+            unended: !(ended && self.kept_titles) as u64,
+            ..Tally::default()
         }
-    }
-}
-
-/// One more, if it is so.
-fn plus(count: u64, one: bool) -> u64 {
-    if one { count.wrapping_add(1) } else { count }
-}
-
-fn lost_any(exchange: Option<&Exchange>) -> bool {
-    match exchange {
-        Some(exchange) => exchange.lost_any(),
-        None => false,
-    }
-}
-
-fn late_any(exchange: Option<&Exchange>) -> bool {
-    match exchange {
-        Some(exchange) => exchange.late_any(),
-        None => false,
-    }
-}
-
-fn standing(exchange: Option<&Exchange>, link: LinkId) -> LinkStanding {
-    match exchange {
-        Some(exchange) => standing_in(exchange, link),
-        None => LinkStanding::Down,
-    }
-}
-
-fn standing_in(exchange: &Exchange, link: LinkId) -> LinkStanding {
-    match exchange.link(link) {
-        Some(view) => view.standing,
-        None => LinkStanding::Down,
-    }
-}
-
-fn first_set(exchange: Option<&Exchange>, destination: usize) -> Option<SetId> {
-    let route = exchange?.route(destination)?;
-    route.sets.first().copied()
-}
-
-fn has_title(exchange: Option<&Exchange>) -> bool {
-    match exchange {
-        Some(exchange) => exchange.title_count() != 0,
-        None => false,
     }
 }

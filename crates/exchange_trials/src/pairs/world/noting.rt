@@ -1,8 +1,9 @@
 //! What is noted of each step.
 
-use super::{FirstSets, World, first_set, plus};
+use super::World;
 use crate::pairs::end::End;
 use crate::pairs::sums::compare;
+use crate::pairs::tally::count;
 
 /// Before one of this many steps the sums are compared.
 const COMPARED_EVERY: u32 = 16;
@@ -13,9 +14,8 @@ impl World {
         self.steps = self.steps.wrapping_add(1);
         if self.steps % COMPARED_EVERY == 0 && !self.may_have_lost() {
             let number = self.steps / COMPARED_EVERY;
-            let relays = self.shape.relays;
-            let there = compare(&self.network, &self.there, number, relays);
-            let back = compare(&self.network, &self.back, number, relays);
+            let there = compare(&self.network, &self.there, number, self.relays);
+            let back = compare(&self.network, &self.back, number, self.relays);
             self.tally = self.tally.and(there).and(back);
         }
     }
@@ -23,7 +23,9 @@ impl World {
     /// Notes what the ends accepted and received by a step, and how much came while each message is promised to come
     /// once.
     pub(super) fn note(&mut self) {
-        let noted = self.look() && self.answer();
+        let noted = self.there.look_at(&self.network, self.shape)
+            && self.back.look_at(&self.network, self.shape)
+            && self.answer();
         self.tally.starved |= !noted;
         if !self.may_have_lost() {
             let (one, two) = (self.is_late(End::One), self.is_late(End::Two));
@@ -32,31 +34,19 @@ impl World {
         }
     }
 
-    /// Looks at what the ends accepted and received. Says whether there was memory for it.
-    fn look(&mut self) -> bool {
-        let (one, two) = (End::One.point(), End::Two.point());
-        self.there.look_at_accepted(self.network.accepted(one))
-            && self.back.look_at_accepted(self.network.accepted(two))
-            && self
-                .there
-                .look_at_arrived(self.network.arrived(two), self.shape)
-            && self
-                .back
-                .look_at_arrived(self.network.arrived(one), self.shape)
-    }
-
     /// End 2 has no translation row, so if end 1 relays it accepts a UDTS for each UDT that came. Says whether there
     /// was memory for it.
     fn answer(&mut self) -> bool {
-        !self.shape.relays || self.back.answer_each(self.there.received())
+        !self.relays || self.back.answer_each(self.there.received.as_slice())
     }
 
-    /// Notes whether messages for a destination take another first set at either end, by the destination's number.
-    pub(crate) fn note_first_sets(&mut self, destination: usize) {
-        let one = first_set(self.network.at(End::One.point()), destination);
-        let two = first_set(self.network.at(End::Two.point()), destination);
-        self.tally.reroutings = plus(self.tally.reroutings, one != self.first_sets.one);
-        self.tally.reroutings = plus(self.tally.reroutings, two != self.first_sets.two);
-        self.first_sets = FirstSets { one, two };
+    /// Notes whether messages for a destination take another first set at either end, by the destination's number
+    /// there.
+    pub(crate) fn note_first_sets(&mut self, one: usize, two: usize) {
+        let one = self.network.first_set(End::One.point(), one);
+        let two = self.network.first_set(End::Two.point(), two);
+        count(&mut self.tally.reroutings, one != self.first_sets.0);
+        count(&mut self.tally.reroutings, two != self.first_sets.1);
+        self.first_sets = (one, two);
     }
 }

@@ -1,18 +1,18 @@
 //! The settings of the nodes of a shape.
 
-use super::shape::{Shape, UNKNOWN};
 use crate::settings_text::settings_of;
+use crate::shape::{Shape, UNKNOWN};
 use exchange::Settings;
 use std::alloc::{AllocError, Global};
 
-/// What isn't as built in. L7, T1, T2 and T4 are longer than most schedules, so that a changeover or a changeback waits
-/// for the other node rather than for time: what is given up by time is named as lost.
+/// What isn't as built in, but in a pair and a ring. L7, T1, T2 and T4 are longer than most schedules, so that a
+/// changeover or a changeback waits for the other node rather than for time: what is given up by time is named as lost.
 const COMMON: &str = "version = 2\n\
     timers = { l1 = 10, l2 = 10, l3 = 10, l4 = 3, l6 = 20, l7 = 12, \
     t1 = 12, t2 = 12, t3 = 4, t4 = 12, t6 = 4, t8 = 3, t10 = 8 }\n";
 
 /// The settings of all nodes. None where memory ran out.
-pub(super) fn settings_of_all(alloc: Global, shape: Shape) -> Option<Vec<Settings>> {
+pub(crate) fn settings_of_all(alloc: Global, shape: Shape) -> Option<Vec<Settings>> {
     let mut settings = Vec::new(alloc);
     for point in shape.points() {
         settings.push(settings_at(alloc, shape, *point)?).ok()?;
@@ -21,8 +21,12 @@ pub(super) fn settings_of_all(alloc: Global, shape: Shape) -> Option<Vec<Setting
 }
 
 /// The settings of a node. None where memory ran out.
-pub(super) fn settings_at(alloc: Global, shape: Shape, point: u16) -> Option<Settings> {
-    let mut text = String::from_str(alloc, COMMON).ok()?;
+pub(crate) fn settings_at(alloc: Global, shape: Shape, point: u16) -> Option<Settings> {
+    let common = match shape {
+        Shape::Pair(_) | Shape::Ring => "",
+        Shape::Line | Shape::Triangle | Shape::Square | Shape::MatedPair => COMMON,
+    };
+    let mut text = String::from_str(alloc, common).ok()?;
     write_sets(&mut text, shape, point).ok()?;
     write_links(&mut text, shape, point).ok()?;
     write_destinations(&mut text, shape, point).ok()?;
@@ -42,7 +46,7 @@ fn write_sets(text: &mut String, shape: Shape, point: u16) -> Result<(), AllocEr
 fn write_links(text: &mut String, shape: Shape, point: u16) -> Result<(), AllocError> {
     text.push_str("link = [")?;
     for far in shape.neighbours(point) {
-        for code in 0..shape.links_each() {
+        for code in 0..shape.links_between(point, *far) {
             write!(
                 text,
                 "{{ name = \"l{far}-{code}\", set = \"n{far}\", slc = {code} }}, "
@@ -52,14 +56,15 @@ fn write_links(text: &mut String, shape: Shape, point: u16) -> Result<(), AllocE
     text.push_str("]\n")
 }
 
-/// A destination for each point to which the node leads: one set alone for an adjacent one.
+/// A destination for each point to which the node leads.
 fn write_destinations(text: &mut String, shape: Shape, point: u16) -> Result<(), AllocError> {
     text.push_str("destination = [")?;
     for to in shape.points() {
-        if shape.are_adjacent(point, *to) {
+        let ways = shape.ways(point, *to);
+        if ways.is_empty() && shape.are_adjacent(point, *to) {
             write_destination(text, *to, &[*to], false)?;
         } else {
-            write_destination(text, *to, shape.ways(point, *to), shape.shares(point, *to))?;
+            write_destination(text, *to, ways, shape.shares(point, *to))?;
         }
     }
     write_destination(text, UNKNOWN, shape.ways(point, UNKNOWN), false)?;
@@ -80,5 +85,9 @@ fn write_destination(
     for way in ways {
         write!(text, "\"n{way}\", ")?;
     }
-    write!(text, "], joined = {joined} }}, ")
+    text.push_str(if joined {
+        "], joined = true }, "
+    } else {
+        "] }, "
+    })
 }
