@@ -92,7 +92,7 @@ fn report_group(
         Kind::Streams => report_streams(rt, target, &mut dice, links)?,
     }
     let through = target.count_through();
-    let changed = target.found().changed;
+    let changed = target.found.changed;
     println!(rt; "; {changed} changed what they may not; {through} of 64 messages through")
 }
 
@@ -104,7 +104,7 @@ fn report_frames(
     links: Links,
 ) -> io::Result<()> {
     try_frames(target, dice, links, FRAMES);
-    let found = target.found();
+    let found = target.found;
     print!(rt;
         "frames on links {}: {} of {FRAMES} returned, {} kinds of outcome of {KINDS}",
         links.name(),

@@ -107,8 +107,14 @@ impl Site {
     pub(crate) fn act(&mut self, what: Doing) -> Result<Outcome, NoMemory> {
         match what {
             Doing::Submit(message) => self.submit(message),
-            Doing::Deliver(link) => self.deliver(link),
-            Doing::DeliverStatus(link) => self.deliver_status(link),
+            Doing::Deliver(link) => {
+                let text = self.next_data(link);
+                self.hear(link, text)
+            }
+            Doing::DeliverStatus(link) => {
+                let text = self.next_status(link);
+                self.hear(link, text)
+            }
             Doing::LoseStatus(link) => Ok(self.lose_status(link)),
             Doing::DoubleStatus(link) => self.double_status(link),
             Doing::Lose(link) => Ok(self.node.step(&Event::AssociationDown(link))),
@@ -137,18 +143,6 @@ impl Site {
             self.accepted.push(message)?;
         }
         Ok(outcome)
-    }
-
-    /// The first User Data in flight on a link comes.
-    fn deliver(&mut self, link: LinkId) -> Result<Outcome, NoMemory> {
-        let text = self.next_data(link);
-        self.hear(link, text)
-    }
-
-    /// The first link status in flight on a link comes.
-    fn deliver_status(&mut self, link: LinkId) -> Result<Outcome, NoMemory> {
-        let text = self.next_status(link);
-        self.hear(link, text)
     }
 
     /// The first link status in flight on a link is lost.

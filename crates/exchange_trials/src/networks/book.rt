@@ -22,7 +22,8 @@ pub(super) struct Entry {
 /// All messages that were submitted since the books of the nodes began, in order.
 #[derive(Drop)]
 pub(super) struct Book {
-    entries: Vec<Entry>,
+    /// Each of them.
+    pub entries: Vec<Entry>,
     /// The mark of the first one.
     first: u32,
 }
@@ -34,11 +35,6 @@ impl Book {
             entries: Vec::new(alloc),
             first: 0,
         }
-    }
-
-    /// All of them.
-    pub(super) fn entries(&self) -> &[Entry] {
-        self.entries.as_slice()
     }
 
     /// The mark of the next one.

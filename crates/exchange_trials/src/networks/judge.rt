@@ -72,7 +72,7 @@ impl Model for Fates {
 
 /// Adds what became of the messages of a run. Says whether there was memory for it.
 pub(super) fn judge(world: &World, promise: Promise, total: &mut Total) -> bool {
-    let entries = world.book.entries();
+    let entries = world.book.entries.as_slice();
     let Some(mut fates) = Fates::new(world, entries.len()) else {
         return false;
     };

@@ -149,7 +149,7 @@ pub(super) fn come_to_rest(world: &mut World) -> bool {
     for _ in 0..RETURNS {
         settled = bring_back(world);
     }
-    settled && all_serve(world)
+    settled && world.links.iter().all(|link| world.network.serves(*link))
 }
 
 /// All links come back that aren't in service at both ends. Says whether nothing moves then.
@@ -167,9 +167,4 @@ pub(super) fn fall_to_rest(world: &mut World) -> bool {
         tick_all(world);
     }
     world.network.is_quiet()
-}
-
-/// Whether each link is in service.
-fn all_serve(world: &World) -> bool {
-    world.links.iter().all(|link| world.network.serves(*link))
 }

@@ -25,11 +25,6 @@ impl Found {
         }
     }
 
-    /// A frame changed what it may not.
-    pub(crate) fn note_change(&mut self) {
-        self.changed = self.changed.wrapping_add(1);
-    }
-
     /// How many kinds of outcome there were.
     pub(crate) fn kinds(&self) -> usize {
         self.kinds.iter().filter(|had| **had).count()

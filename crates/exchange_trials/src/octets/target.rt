@@ -36,12 +36,13 @@ title = [
 /// Where the SIO of a message is in its frame, after both headers and the priority octet (RFC 4165 §2.3.1).
 const MESSAGE_AT: usize = 17;
 
-/// A node, the frame that was taken last, and what became of the frames that were handed in.
+/// A node, and the frame that was taken last.
 #[derive(Drop)]
 pub(crate) struct Target {
     node: Node,
     taken: [u8; BUFFER_OCTETS],
-    found: Found,
+    /// What became of the frames.
+    pub found: Found,
 }
 
 impl Model for Target {
@@ -58,11 +59,6 @@ impl Target {
             taken: [0; BUFFER_OCTETS],
             found: Found::default(),
         })
-    }
-
-    /// What became of the frames.
-    pub(crate) fn found(&self) -> Found {
-        self.found
     }
 
     /// Where a link stands.
@@ -100,7 +96,7 @@ impl Target {
         let outcome = self.node.step(&Event::Frame(link, octets));
         let changed = before != Shown::of(self.node.shown(), !message);
         if changed && !enters && matches!(outcome, Outcome::Ignored | Outcome::Refused(_)) {
-            self.found.note_change();
+            self.found.changed = self.found.changed.wrapping_add(1);
         }
         outcome
     }

@@ -105,7 +105,9 @@ pub(crate) fn prove_links(world: &mut World) {
 pub(crate) fn come_back(world: &mut World, link: Link, clock: Clock) -> bool {
     world.lose_both(link);
     if world.links() == 1 {
-        outlast_t1(world, clock);
+        for _ in 0..T1_PASSES {
+            clock.pass(world);
+        }
     }
     let opened = world.open(link);
     serve(world, link);
@@ -117,13 +119,6 @@ pub(crate) fn serve(world: &mut World, link: Link) {
     carry_statuses(world, link);
     prove_links(world);
     carry_statuses(world, link);
-}
-
-/// Time passes until T1 has run out.
-fn outlast_t1(world: &mut World, clock: Clock) {
-    for _ in 0..T1_PASSES {
-        clock.pass(world);
-    }
 }
 
 /// The statuses of a link are carried.

@@ -88,6 +88,7 @@ pub(crate) fn round_with(world: &mut World, stop: &Stop, round: u8) {
 }
 
 /// All links come up, and the link stops. Says whether all went well: if another link is left, what was submitted came.
+/// Over a single link nothing does while it is down.
 pub(crate) fn stop_and_settle(world: &mut World, stop: &Stop, clock: Clock) -> bool {
     let up = bring_up(world);
     submit_all(world);
@@ -96,12 +97,7 @@ pub(crate) fn stop_and_settle(world: &mut World, stop: &Stop, clock: Clock) -> b
         clock.pass(world);
     }
     stop.strike_behind(world, ROUNDS);
-    up && settle(world, clock) && brought_all_it_can(world)
-}
-
-/// Whether all came that could: over a single link nothing does while it is down.
-fn brought_all_it_can(world: &World) -> bool {
-    world.links() == 1 || world.has_brought_all()
+    up && settle(world, clock) && (world.links() == 1 || world.has_brought_all())
 }
 
 /// The link stops and comes back. All messages are submitted again before it comes back, so some wait on the other

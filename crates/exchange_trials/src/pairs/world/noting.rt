@@ -21,23 +21,17 @@ impl World {
     }
 
     /// Notes what the ends accepted and received by a step, and how much came while each message is promised to come
-    /// once.
+    /// once. End 2 has no translation row, so if end 1 relays it accepts a UDTS for each UDT that came.
     pub(super) fn note(&mut self) {
         let noted = self.there.look_at(&self.network, self.shape)
             && self.back.look_at(&self.network, self.shape)
-            && self.answer();
+            && (!self.relays || self.back.answer_each(self.there.received.as_slice()));
         self.tally.starved |= !noted;
         if !self.may_have_lost() {
             let (one, two) = (self.is_late(End::One), self.is_late(End::Two));
             self.there.promise(one);
             self.back.promise(two);
         }
-    }
-
-    /// End 2 has no translation row, so if end 1 relays it accepts a UDTS for each UDT that came. Says whether there
-    /// was memory for it.
-    fn answer(&mut self) -> bool {
-        !self.relays || self.back.answer_each(self.there.received.as_slice())
     }
 
     /// Notes whether messages for a destination take another first set at either end, by the destination's number
