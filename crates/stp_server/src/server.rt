@@ -185,12 +185,13 @@ impl Server {
 
     /// Writes to the links and to the clients.
     fn write<W: Sink, U: Watch>(&mut self, log: &mut Log<'_, W>, user: &mut U) {
-        self.is_busy = self.tcp.write(&mut self.node, log, user) || self.is_busy;
+        self.is_busy |= self.tcp.write(&mut self.node, log, user);
         if let Some(sctp) = &mut self.sctp {
             sctp.write(&mut self.node, log, user);
-            self.is_busy = self.is_busy || sctp.is_busy();
+            self.is_busy |= sctp.is_busy();
         }
-        self.node.observers.clients.write(log);
-        self.is_busy = self.is_busy || self.node.observers.clients.is_busy();
+        let clients = &mut self.node.observers.clients;
+        clients.write(log);
+        self.is_busy |= clients.is_busy();
     }
 }

@@ -153,6 +153,6 @@ fn pass_tick<W: Sink>(
 }
 
 /// The whole milliseconds of a time.
-fn millis(time: Duration) -> u64 {
+pub(crate) fn millis(time: Duration) -> u64 {
     u64::try_from(time.as_millis()).unwrap_or(u64::MAX)
 }

@@ -3,10 +3,10 @@
 ghost use Rattle.std.specs.Prelude.{◌≤◌};
 
 use super::{Places, Server};
-use mio::{Events, Poll};
+use mio::{Events, Poll, Registry};
 use script::Sink;
 use sctp_links::{Keys, SctpSockets};
-use serve_settings::{ConsolePlace, Endpoint, SctpTimes};
+use serve_settings::{ConsolePlace, Endpoint, Remote, SctpTimes};
 use served_node::{ConsoleListener, Listener, Log, Node, OpenFault, SocketFile, SocketName};
 use settings::{LinkId, Settings};
 use status_page::NoticeLog;
@@ -115,14 +115,15 @@ impl Server {
         requires least { times.now.rto_min_ms ≤ times.now.rto_max_ms }
         requires most { times.now.rto_max_ms ≤ 60000 }
     {
-        match (endpoint, &mut self.sctp) {
-            (Endpoint::Remote(remote), Some(sctp)) => {
-                let Ok(keys) = Keys::draw(net) else {
-                    return Err(OpenFault::Random);
-                };
-                sctp.add(self.alloc, link, &remote, times, &keys, &self.node, log)
-            }
-            _ => {
+        match endpoint {
+            Endpoint::Remote(remote) => match &mut self.sctp {
+                Some(sctp) => {
+                    add_association(net, self.alloc, sctp, link, &remote, times, &self.node, log)
+                }
+                // There is no socket for its datagrams.
+                None => Ok(()),
+            },
+            Endpoint::Listen(_) | Endpoint::Connect(_) => {
                 let registry = self.poll.registry();
                 self.tcp.add(net, registry, link, endpoint, &self.node, log)
             }
@@ -136,40 +137,72 @@ impl Server {
         place: Option<ConsolePlace<'_>>,
         log: &mut Log<'_, W>,
     ) -> Result<(), OpenFault> {
-        let listener = match place {
-            Some(ConsolePlace::Tcp(address)) => self.console_at(net, address, log)?,
-            Some(ConsolePlace::Unix(path)) => self.console_socket(net, path, log)?,
-            None => return Ok(()),
-        };
-        self.node.observers.clients.listener = listener;
+        let registry = self.poll.registry();
+        if let Some(place) = place {
+            self.node.observers.clients.listener = console(net, self.alloc, registry, place, log)?;
+        }
         Ok(())
     }
+}
 
-    /// A console at an address.
-    fn console_at<N: Net, W: Sink>(
-        &self,
-        net: &N,
-        address: SocketAddr,
-        log: &mut Log<'_, W>,
-    ) -> Result<ConsoleListener, OpenFault> {
-        let registry = self.poll.registry();
-        let (listener, address) = Listener::open(net, registry, address, SocketName::Console)?;
-        log.tell(&format_args!("console {address}"));
-        Ok(ConsoleListener::Tcp(listener))
-    }
+/// Adds a link over SCTP, whose keys are drawn at random.
+fn add_association<N: RandomSource, W: Sink>(
+    net: &N,
+    alloc: Global,
+    sctp: &mut SctpSockets,
+    link: LinkId,
+    remote: &Remote,
+    times: &SctpTimes,
+    node: &Node,
+    log: &mut Log<'_, W>,
+) -> Result<(), OpenFault>
+    requires initial { times.now.rto_initial_ms ≤ times.now.rto_max_ms }
+    requires least { times.now.rto_min_ms ≤ times.now.rto_max_ms }
+    requires most { times.now.rto_max_ms ≤ 60000 }
+{
+    let Ok(keys) = Keys::draw(net) else {
+        return Err(OpenFault::Random);
+    };
+    sctp.add(alloc, link, remote, times, &keys, node, log)
+}
 
-    /// A console at the path of a Unix socket.
-    fn console_socket<N: Net + Files, W: Sink>(
-        &self,
-        net: &N,
-        path: &str,
-        log: &mut Log<'_, W>,
-    ) -> Result<ConsoleListener, OpenFault> {
-        let registry = self.poll.registry();
-        let socket = SocketFile::open(net, self.alloc, registry, path, SocketName::Console)?;
-        log.tell(&format_args!("console {path}"));
-        Ok(ConsoleListener::Unix(socket))
+/// The console at its place.
+fn console<N: Net + Files, W: Sink>(
+    net: &N,
+    alloc: Global,
+    registry: &Registry,
+    place: ConsolePlace<'_>,
+    log: &mut Log<'_, W>,
+) -> Result<ConsoleListener, OpenFault> {
+    match place {
+        ConsolePlace::Tcp(address) => console_at(net, registry, address, log),
+        ConsolePlace::Unix(path) => console_socket(net, alloc, registry, path, log),
     }
+}
+
+/// A console at an address.
+fn console_at<N: Net, W: Sink>(
+    net: &N,
+    registry: &Registry,
+    address: SocketAddr,
+    log: &mut Log<'_, W>,
+) -> Result<ConsoleListener, OpenFault> {
+    let (listener, address) = Listener::open(net, registry, address, SocketName::Console)?;
+    log.tell(&format_args!("console {address}"));
+    Ok(ConsoleListener::Tcp(listener))
+}
+
+/// A console at the path of a Unix socket.
+fn console_socket<N: Net + Files, W: Sink>(
+    net: &N,
+    alloc: Global,
+    registry: &Registry,
+    path: &str,
+    log: &mut Log<'_, W>,
+) -> Result<ConsoleListener, OpenFault> {
+    let socket = SocketFile::open(net, alloc, registry, path, SocketName::Console)?;
+    log.tell(&format_args!("console {path}"));
+    Ok(ConsoleListener::Unix(socket))
 }
 
 /// A poll, room for what it tells, and no links over TCP yet.

@@ -1,6 +1,7 @@
 //! The status page of a server.
 
 use super::{Places, Server};
+use crate::serving::millis;
 use script::Sink;
 use served_node::{Log, OpenFault};
 use served_page::ServedPage;
@@ -51,7 +52,7 @@ impl Server {
             uptime_ms: now_ms,
         };
         page.turn(self.poll.registry(), &content, now_ms);
-        self.is_busy = self.is_busy || page.is_busy(now_ms);
+        self.is_busy |= page.is_busy(now_ms);
     }
 
     /// How long it takes until something is due at the page, if there is one.
@@ -61,9 +62,4 @@ impl Server {
             None => Duration::MAX,
         }
     }
-}
-
-/// The whole milliseconds of a time.
-fn millis(time: Duration) -> u64 {
-    u64::try_from(time.as_millis()).unwrap_or(u64::MAX)
 }
