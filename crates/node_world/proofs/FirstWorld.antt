@@ -32,7 +32,13 @@ use Rattle.node_world.proofs.Places.{equal, node-found}
 -- ---- a gate
 
 first-port-stands : (link : ℕ) (m : GateMake) → PortStands (first_port link m) (new_port link m)
-first-port-stands link m = record { gate = refl; sent = All-nil (IsSentBy (new_port link m)); all = λ w one i. absurd (in-from [] one i) }
+first-port-stands link m = record {
+  gate = refl;
+  sent = All-nil (IsSentBy (new_port link m));
+  all = λ w one i. absurd (in-from [] one i);
+  few = omega arith;
+  fewer = λ f. absurd cc;
+}
 
 ports-from : (from : ℕ) (gates : List GateMaking) (link : ℕ) (port : KeptPort) → slice_get (first_ports from gates) link ≡ Some port
     → port ≡ first_port (link + from) (gate_make_of (slice_get gates link))

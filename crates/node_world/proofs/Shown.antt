@@ -1,5 +1,5 @@
 -- What a world in code shows is what the abstract one has.
-use Rattle.std.proofs.Common.{◌≡◌, ◌<◌, ℕ, zero, suc, true, List, [], ◌∷◌, Option, Some, None, refl, ap, sym, subst, length, arith}
+use Rattle.std.proofs.Common.{◌≡◌, ◌<◌, ℕ, zero, suc, true, false, List, [], ◌∷◌, Option, Some, None, refl, ap, sym, subst, length, arith}
 use Rattle.std.proofs.lemmas.Grind.{common_steps}
 use Rattle.std.proofs.lemmas.List.Elements.{All-nil}
 use Rattle.std.specs.Option.{option_map}
@@ -34,6 +34,13 @@ module _ (k : KeptNode) (n : Node) (h : NodeStands k n) (link : ℕ) where
 
   all-on : is_whole_on k link ≡ true → HasAll (n.ports link) (sent_on k link)
   all-on t = all-by (slice_get k.ports link) refl t
+
+  fewer-by : (o : Option KeptPort) → slice_get k.ports link ≡ o → link < length k.ports → whole_of o ≡ false → length (sent_of o) < length (n.ports link).packets
+  fewer-by None e l f = absurd (none-past k.ports link e l)
+  fewer-by (Some port) e l f = let p : PortStands port (n.ports link) = h.ports link port e in p.fewer f
+
+  fewer-on : link < length k.ports → is_whole_on k link ≡ false → length (sent_on k link) < length (n.ports link).packets
+  fewer-on l f = fewer-by (slice_get k.ports link) refl l f
 
   due-by : (o : Option KeptPort) → slice_get k.ports link ≡ o → link < length k.ports → due_of o ≡ due (n.ports link).gate
   due-by None e l = absurd (none-past k.ports link e l)
@@ -87,3 +94,13 @@ module _ (k : List KeptNode) (w : GateWorld) (s : StandsFor k w) (point : ℕ) w
 
   pub due-so : (link : ℕ) → link < length (w.node point).books.exchange.settings.links → due_at (node_at point k) link ≡ due ((w.node point).ports link).gate
   due-so link l = due-at link (node_at point k) refl (s.nodes point) l
+
+  fewer-at : (link : ℕ) (o : Option KeptNode) → node_at point k ≡ o → IsNodeAt point o (w.node point) → link < length (w.node point).books.exchange.settings.links → is_whole_at o link ≡ false
+      → length (sent_at o link) < length ((w.node point).ports link).packets
+  fewer-at link (Some n) e is l f =
+      fewer-on n (w.node point) is link (subst (λ (count : ℕ). link < count) (sym (s.gates point n e)) l) f
+  fewer-at link None e is l f = absurd (no-links is link l)
+
+  pub fewer-so : (link : ℕ) → link < length (w.node point).books.exchange.settings.links → is_whole_at (node_at point k) link ≡ false
+      → length (sent_at (node_at point k) link) < length ((w.node point).ports link).packets
+  fewer-so link l f = fewer-at link (node_at point k) refl (s.nodes point) l f

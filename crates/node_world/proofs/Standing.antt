@@ -1,7 +1,8 @@
 -- A node in code stands for the abstract one after a call, as it did before.
-use Rattle.std.proofs.Common.{◌≡◌, ◌≢◌, ◌⊎◌, inl, inr, ℕ, zero, suc, Bool, true, false, List, [], ◌∷◌, ◌++◌, Some, map, length, refl, ap, sym, subst, ◌∙◌, nat_eq, arith}
+use Rattle.std.proofs.Common.{◌≡◌, ◌≢◌, ◌<◌, ◌≤◌, ◌⊎◌, ◌+◌, inl, inr, ℕ, zero, suc, Bool, true, false, List, [], ◌∷◌, ◌++◌, Some, map, length, length-append, refl, ap, sym, subst, ◌∙◌, nat_eq, arith}
 use Rattle.std.proofs.lemmas.Bool.Decides.{nat_tests}
 use Rattle.std.proofs.lemmas.Grind.{common_steps}
+use Rattle.std.proofs.lemmas.List.{length-map}
 use Rattle.std.specs.Prelude.{All, slice_get, slice_set, if◌then◌else◌}
 use Rattle.std.specs.List.{Contains}
 use Rattle.std.proofs.lemmas.List.Elements.{All-nil, All-cons, All-append, All-weaker, All-contains, Contains-append_left, Contains-append_right}
@@ -65,6 +66,19 @@ module _ (call : Call) (was is : KeptPort) (exchange : Kept) (p : Port) (d : Did
       in-front (packet_text one.packet) (octets_in was.log.sent) (octets_in (map sent_as d.sent))
       (in-from (octets_in was.log.sent) (packet_text one.packet) (h.all (c.was_whole w) one (contains-from p.packets one i)))
 
+  more-packets : length q.packets ≡ length d.sent + length p.packets
+  more-packets = length-append new p.packets ∙ ap (λ (n : ℕ). n + length p.packets) (length-map d.sent (emitted p.mark))
+
+  more-sent : length (was.log.sent ++ map sent_as d.sent) ≡ length was.log.sent + length d.sent
+  more-sent = length-append was.log.sent (map sent_as d.sent) ∙ ap (λ (n : ℕ). length was.log.sent + n) (length-map d.sent sent_as)
+
+  few-kept : length is.log.sent ≤ length q.packets
+  few-kept = omega (arith, c.few, h.few, more-sent, more-packets)
+
+  fewer-kept : (b : Bool) → was.log.is_whole ≡ b → is.log.is_whole ≡ false → length is.log.sent < length q.packets
+  fewer-kept true e f = omega (arith, c.fewer e f, h.few, more-sent, more-packets)
+  fewer-kept false e f = omega (arith, c.few, h.fewer e, more-sent, more-packets)
+
   pub port-goes : PortStands is q
   port-goes = record {
     gate = c.gate_is;
@@ -73,6 +87,8 @@ module _ (call : Call) (was is : KeptPort) (exchange : Kept) (p : Port) (d : Did
     all = λ w one i. subst (λ (l : List (List ℕ)). Contains l (packet_text one.packet))
         (sym (octets-more was.log.sent (map sent_as d.sent)) ∙ ap octets_in (sym (c.all w)))
         (contains-from _ (packet_text one.packet) (is-text w one (in-either one new p.packets (in-from (new ++ p.packets) one i))));
+    few = few-kept;
+    fewer = λ f. fewer-kept was.log.is_whole refl f;
   }
 
 -- ---- a node

@@ -1,5 +1,5 @@
 -- What calls of gates in code mean, and what becomes of them.
-use Rattle.std.specs.Prelude.{◌≡◌, ℕ, Bool, true, false, ◌&&◌, not, nat_eq, nat_lt, All, List, [], ◌++◌, Option, Some, None, map, length, slice_get, slice_set}
+use Rattle.std.specs.Prelude.{◌≡◌, ◌<◌, ◌≤◌, ℕ, Bool, true, false, ◌&&◌, not, nat_eq, nat_lt, All, List, [], ◌++◌, Option, Some, None, map, length, slice_get, slice_set}
 use Rattle.std.specs.List.{Contains}
 use Rattle.sctp_codec.specs.Reading.{read_packet}
 use Rattle.sctp_bundling.specs.Settings.{address_of}
@@ -64,13 +64,16 @@ told Close octets now = Closes now
 -- ---- what becomes of a call, for an abstract exchange
 
 -- the gate is as it should be, the exchange stands for what it should, and each datagram that is kept was put out;
--- while memory never ran out, all are kept
+-- while memory never ran out, all are kept. The log stays whole unless one that this call put out isn't kept
 pub record PortCalls (was is : KeptPort) (exchange : Kept) (d : Did WholeQueues) : Type 0 where
   pub gate_is : is.gate ≡ d.gate
   pub stands : StandsFor exchange d.exchange
   pub part : All (Contains (was.log.sent ++ map sent_as d.sent)) is.log.sent
   pub was_whole : is.log.is_whole ≡ true → was.log.is_whole ≡ true
   pub all : is.log.is_whole ≡ true → is.log.sent ≡ was.log.sent ++ map sent_as d.sent
+  pub few : length is.log.sent ≤ length (was.log.sent ++ map sent_as d.sent)
+  pub fewer : was.log.is_whole ≡ true → is.log.is_whole ≡ false →
+      length is.log.sent < length (was.log.sent ++ map sent_as d.sent)
 
 -- the same gates, with another one for a single link
 pub record NodeCalls (link : ℕ) (call : calling.Call) (was is : KeptNode) (a : Abstract) : Type 0 where

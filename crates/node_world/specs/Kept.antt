@@ -1,5 +1,5 @@
 -- What is kept of nodes with gates.
-use Rattle.std.specs.Prelude.{◌≡◌, ℕ, Bool, true, false, nat_eq, All, List, [], map, position, Option, Some, None, is_some, slice_get}
+use Rattle.std.specs.Prelude.{◌≡◌, ◌<◌, ℕ, Bool, true, false, nat_eq, All, List, [], length, map, position, Option, Some, None, is_some, slice_get}
 use Rattle.std.specs.List.{Contains}
 use Rattle.std.specs.Option.{option_and_then, option_map}
 use Rattle.settings_rows.specs.Configuration.{Configuration, LinkEntry}
@@ -16,10 +16,11 @@ pub record KeptLog : Type 0 where
   pub sent : List Sent
   pub is_whole : Bool
 
--- these were sent: each that is kept is one of them, and while memory never ran out, all are kept
+-- these were sent: each that is kept is one of them. While memory never ran out, all are kept; once it did, fewer are
 pub record HasSent (log : KeptLog) (sent : List Sent) (seen : List Sight) : Type 0 where
   pub part : All (Contains sent) log.sent
   pub all : log.is_whole ≡ true → log.sent ≡ sent
+  pub fewer : log.is_whole ≡ false → length log.sent < length sent
 
 pub record KeptPort : Type 0 where
   pub gate : Gate

@@ -1,5 +1,5 @@
 -- When nodes in code stand for abstract ones, with all packets that these ever put out.
-use Rattle.std.specs.Prelude.{◌≡◌, ◌≤◌, ◌+◌, ◌*◌, ℕ, true, All, List, [], Option, Some, None, length, map, slice_get}
+use Rattle.std.specs.Prelude.{◌≡◌, ◌<◌, ◌≤◌, ◌+◌, ◌*◌, ℕ, true, false, All, List, [], Option, Some, None, length, map, slice_get}
 use Rattle.std.specs.List.{Contains}
 use Rattle.sctp_moves.specs.Numbers.{modulus, window}
 use Rattle.sctp_ends.specs.Worlds.{Emitted}
@@ -32,8 +32,10 @@ pub record PortStands (k : KeptPort) (p : Port) : Type 0 where
   pub gate : k.gate ≡ p.gate
   -- what is kept was put out,
   pub sent : All (IsSentBy p) k.log.sent
-  -- and while memory never ran out, all that was put out is kept
+  -- and while memory never ran out, all that was put out is kept; once it did, fewer than were put out
   pub all : k.log.is_whole ≡ true → HasAll p k.log.sent
+  pub few : length k.log.sent ≤ length p.packets
+  pub fewer : k.log.is_whole ≡ false → length k.log.sent < length p.packets
 
 pub record NodeStands (k : KeptNode) (n : Node) : Type 0 where
   pub exchange : exchanges.StandsFor k.exchange n.books.exchange

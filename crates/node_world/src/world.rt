@@ -32,7 +32,7 @@ use std::marker::Model;
 /// moment, any number of times, in any order, or never. The world stands for one of `network_gates` to which steps led
 /// from a new one (`StandsFor`). `new` makes it so, and each `step` and `call` keeps it so, except one by which a
 /// datagram comes that is too old (`MayComeFrom`). A datagram for which memory runs out isn't kept, as if the network
-/// had lost it.
+/// had lost it; only by this is a log no longer whole (`is_whole`).
 #[derive(Drop)]
 pub struct World {
     pub(crate) nodes: Vec<Node>,
@@ -134,6 +134,10 @@ impl World {
         ensures kept { result ≡ is_whole_at (node_at at self.now) link }
         ensures has_all { (w : GateWorld) → StandsFor self.now w → result ≡ true →
             HasAll ((w.node at).ports link) (sent_at (node_at at self.now) link) }
+        // Once it is false, fewer are kept than the abstract gate put out.
+        ensures fewer { (w : GateWorld) → StandsFor self.now w →
+            link < length (w.node at).books.exchange.settings.links → result ≡ false →
+            length (sent_at (node_at at self.now) link) < length ((w.node at).ports link).packets }
     {
         is_whole_at(&self.nodes, at, link)
     }
