@@ -1,4 +1,4 @@
-# Completion of the arguments of stp and stpd, for bash.
+# Completion of the arguments of stp, stpd and sctp-relay, for bash.
 
 _stp() {
     local word=${COMP_WORDS[COMP_CWORD]}
@@ -12,4 +12,4 @@ _stp() {
     fi
 }
 
-complete -o filenames -F _stp stp stpd
+complete -o filenames -F _stp stp stpd sctp-relay

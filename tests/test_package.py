@@ -130,10 +130,14 @@ class Package(unittest.TestCase):
         modes = {row[5].removeprefix("."): row[0] for row in rows}
         program, data = "-rwxr-xr-x", "-rw-r--r--"
         for path, mode in (("/usr/bin/stp", program), ("/usr/bin/stpd", program), ("/etc/sixhadobe/example.toml", data),
-                           ("/usr/lib/systemd/system/stp@.service", data), ("/usr/share/man/man1/stp.1.gz", data)):
+                           ("/usr/lib/systemd/system/stp@.service", data), ("/usr/share/man/man1/stp.1.gz", data),
+                           ("/usr/bin/sctp-relay", program), ("/etc/sixhadobe/example.relay.toml", data),
+                           ("/usr/lib/systemd/system/sctp-relay@.service", data),
+                           ("/usr/share/man/man8/sctp-relay.8.gz", data)):
             self.assertEqual(modes[path], mode, path)
 
     def test_its_version_and_libraries(self) -> None:
         version = run("--version", folder=ROOT).stdout.split()[1]
         self.assertEqual(self.told("--field", self.package, "Version").strip(), version)
         self.assertEqual(self.told("--field", self.package, "Depends").strip(), "libc6 (>= 2.34), libgcc-s1")
+        self.assertEqual(self.told("--field", self.package, "Suggests").strip(), "python3 (>= 3.11)")
