@@ -1,11 +1,26 @@
-"""Runs all tests of this folder, by `python3 tests`. The last line is 'N passed, M failed'."""
+"""Runs all tests of this folder, by `python3 tests`. The last line is 'N passed, M failed'; before it a line for each
+reason says how many tests were skipped for it, which count as neither."""
 
 import sys
 import unittest
+from collections import Counter
 from pathlib import Path
 
+
+class Result(unittest.TextTestResult):
+    """Counts the tests that passed."""
+
+    passed = 0
+
+    def addSuccess(self, test: unittest.TestCase) -> None:
+        super().addSuccess(test)
+        self.passed += 1
+
+
 suite = unittest.defaultTestLoader.discover(str(Path(__file__).parent))
-result = unittest.TextTestRunner(stream=sys.stdout, verbosity=2).run(suite)
+result = unittest.TextTestRunner(stream=sys.stdout, verbosity=2, resultclass=Result).run(suite)
 wrong = {str(getattr(test, "test_case", test)) for test, _ in [*result.failures, *result.errors]}
-print(f"{result.testsRun - len(wrong)} passed, {len(wrong)} failed")
+for reason, count in Counter(reason for _, reason in result.skipped).items():
+    print(f"{count} skipped: {reason}")
+print(f"{result.passed} passed, {len(wrong)} failed")
 sys.exit(not result.wasSuccessful())

@@ -46,12 +46,12 @@ def wait_until(condition: Callable[[], object], what: str) -> None:
 
 
 # The processes that were started. However this one ends, except by SIGKILL, it ends them.
-_started: list[subprocess.Popen] = []
+started: list[subprocess.Popen] = []
 
 
 @atexit.register
 def _end_all() -> None:
-    for process in _started:
+    for process in started:
         process.kill()
 
 
@@ -90,7 +90,8 @@ class Link:
 
 @dataclass(frozen=True)
 class SctpLink:
-    """A link over SCTP: its name, the adjacent point, its code, the UDP port of the peer, and the SCTP ports of both."""
+    """A link over SCTP: its name, the adjacent point, its code, the UDP port of the peer, the SCTP ports of both, and
+    where the peer is."""
 
     name: str
     adjacent: int
@@ -99,11 +100,12 @@ class SctpLink:
     own_port: int
     far_port: int
     tries: bool = True
+    host: str = HOST
 
     def text(self) -> str:
         return (
             f'[[link]]\nname = "{self.name}"\nset = "to-{self.adjacent}"\nslc = {self.code}\n'
-            f'remote = "{HOST}:{self.remote}"\nsctp_port = {self.own_port}\n'
+            f'remote = "{self.host}:{self.remote}"\nsctp_port = {self.own_port}\n'
             f"remote_sctp_port = {self.far_port}\ntries = {str(self.tries).lower()}\n"
         )
 
@@ -190,12 +192,13 @@ class Caller:
 
 
 class Node:
-    """A node that `stp serve` runs, in a folder of its own."""
+    """A node that `stp serve` runs, in a folder of its own; by other words before the program, if there are any."""
 
     def __init__(self, folder: Path, text: str, console: int | str, links: Sequence[Link | SctpLink]) -> None:
         folder.mkdir()
         self.folder, self.console, self.link_names = folder, console, [link.name for link in links]
         (folder / "node.toml").write_text(text)
+        self.within: Sequence[str] = ()
         self.process: subprocess.Popen | None = None
         self.operator: Caller | None = None
         self.callers: list[Caller] = []
@@ -204,8 +207,8 @@ class Node:
         """Starts the program, and calls its console. Its log goes to a new file, unless it is told otherwise."""
         with open(self.folder / "log", "wb") as log:
             words = {"stdin": subprocess.DEVNULL, "stdout": log, "stderr": subprocess.STDOUT, **how}
-            self.process = subprocess.Popen([STP, "serve", "node.toml"], cwd=self.folder, **words)
-        _started.append(self.process)
+            self.process = subprocess.Popen([*self.within, STP, "serve", "node.toml"], cwd=self.folder, **words)
+        started.append(self.process)
         wait_until(self._is_there, f"the console of the node in {self.folder}")
 
     def _is_there(self) -> bool:
