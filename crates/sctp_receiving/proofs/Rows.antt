@@ -31,3 +31,7 @@ fragment_narrows_the_window = refl
 pub repeated_is_reported : rows.repeated_is_reported
 unfolding drained run_from blocks_from
 repeated_is_reported = refl
+
+pub report_begins_anew : rows.report_begins_anew
+unfolding drained run_from blocks_from
+report_begins_anew = refl

@@ -3,7 +3,7 @@ use Rattle.std.specs.Prelude.{◌≡◌, ℕ, true, false, List, [], ◌∷◌, 
 use Rattle.sctp_receiving.specs.declared.block.Block.{Block}
 use Rattle.sctp_receiving.specs.Pieces.{Piece}
 use Rattle.sctp_receiving.specs.Receiver.{Receiver, first_receiver, received, window}
-use Rattle.sctp_receiving.specs.Sack.{blocks}
+use Rattle.sctp_receiving.specs.Sack.{blocks, reported}
 
 -- a message of this many octets, in one chunk
 abbrev pub of_octets : ℕ → Piece
@@ -62,3 +62,7 @@ fragment_narrows_the_window =
 -- what came again is reported, in the order in which it came: one that was consumed, and one that is kept (§6.2)
 abbrev pub repeated_is_reported : Type 0
 repeated_is_reported = (came (11 ∷ 15 ∷ []) 10 example).duplicates ≡ 11 ∷ 15 ∷ []
+
+-- each SACK reports what came again since the one before it (§3.3.4)
+abbrev pub report_begins_anew : Type 0
+report_begins_anew = (came (17 ∷ []) 10 (reported (came (11 ∷ 15 ∷ []) 10 example))).duplicates ≡ 17 ∷ []
