@@ -185,6 +185,14 @@ pub stale_cookie_begins_anew : rows.stale_cookie_begins_anew
 unfolding after going drained run_from blocks_from lost_from named_below passed_below given next_place gone_again gone_first confirmation confirmed settled acknowledged after_t3 stopped
 stale_cookie_begins_anew = record { phase_is = refl; sent_is = refl; told_is = refl }
 
+pub stale_cookie_ends_the_try : rows.stale_cookie_ends_the_try
+unfolding after going drained run_from blocks_from lost_from named_below passed_below given next_place gone_again gone_first confirmation confirmed settled acknowledged after_t3 stopped
+stale_cookie_ends_the_try = record { phase_is = refl; sent_is = refl; told_is = refl }
+
+pub failures_count_on : rows.failures_count_on
+unfolding after going drained run_from blocks_from lost_from named_below passed_below given next_place gone_again gone_first confirmation confirmed settled acknowledged after_t3 stopped
+failures_count_on = record { phase_is = refl; sent_is = refl; told_is = refl }
+
 pub former_try_opens_nothing : rows.former_try_opens_nothing
 unfolding after going drained run_from blocks_from lost_from named_below passed_below given next_place gone_again gone_first confirmation confirmed settled acknowledged after_t3 stopped
 former_try_opens_nothing = record { phase_is = refl; sent_is = refl; told_is = refl }

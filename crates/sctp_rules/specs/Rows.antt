@@ -14,7 +14,7 @@ use Rattle.sctp_rules.specs.declared.phase.Phase.TheVariants.{ShutdownAckSent}
 use Rattle.sctp_rules.specs.declared.phase.Phase.{Phase}
 use Rattle.sctp_rules.specs.declared.loss.Loss.TheVariants.{Local, Aborted, Shutdown, Restart, NoAnswer, Refused}
 use Rattle.sctp_rules.specs.declared.loss.Loss.TheVariants.{Protocol}
-use Rattle.sctp_rules.specs.declared.loss.Loss.TheVariants.{BadInitAck}
+use Rattle.sctp_rules.specs.declared.loss.Loss.TheVariants.{BadInitAck, StaleCookie}
 use Rattle.sctp_rules.specs.Settings.{Settings, Secrets, Address}
 use Rattle.sctp_rules.specs.State.{State, Datagram, Told, Up, Heard, Down, Failed, Done, first_state}
 use Rattle.sctp_rules.specs.Opening.{init_of}
@@ -478,8 +478,11 @@ cookie_of_another_peer_is_dropped =
 
 -- ---- T1 in COOKIE-ECHOED, and a stale cookie (§5.2.6)
 
+abbrev pub echoes_again : Done
+echoes_again = near (Ticked 302) echoes.left
+
 abbrev pub cookie_goes_out_again : Type 0
-cookie_goes_out_again = Does (near (Ticked 302) echoes.left) CookieEchoed ((10 ∷ []) ∷ []) []
+cookie_goes_out_again = Does echoes_again CookieEchoed ((10 ∷ []) ∷ []) []
 
 abbrev pub cookie_is_too_old : Type 0
 cookie_is_too_old = Does (far (comes 60002 (packet echoes)) answers.left) Closed ((9 ∷ []) ∷ []) []
@@ -503,9 +506,19 @@ cookie_is_stale_by_a_millisecond = (packet refuses_old_cookie).chunks ≡ stale_
 abbrev pub cookie_lives_to_the_last : Type 0
 cookie_lives_to_the_last = Does (far (comes 60001 (packet echoes)) answers.left) Established [] (Up ∷ [])
 
+abbrev pub begins_after_stale : Done
+begins_after_stale = near (comes 60003 (packet refuses_old_cookie)) echoes.left
+
 abbrev pub stale_cookie_begins_anew : Type 0
-stale_cookie_begins_anew =
-    Does (near (comes 60003 (packet refuses_old_cookie)) echoes.left) CookieWait ((1 ∷ []) ∷ []) []
+stale_cookie_begins_anew = Does begins_after_stale CookieWait ((1 ∷ []) ∷ []) []
+
+-- it is a failure of the try, as T1 is; here the second one ends it, whichever comes first
+abbrev pub stale_cookie_ends_the_try : Type 0
+stale_cookie_ends_the_try =
+    Does (near (comes 60003 (packet refuses_old_cookie)) echoes_again.left) Closed [] (Failed StaleCookie ∷ [])
+
+abbrev pub failures_count_on : Type 0
+failures_count_on = Does (near (Ticked 60303) begins_after_stale.left) Closed [] (Failed NoAnswer ∷ [])
 
 abbrev pub init_with_cookie : List ℕ → InitValue
 init_with_cookie cookie =
