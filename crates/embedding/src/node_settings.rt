@@ -37,6 +37,7 @@ pub(crate) fn draft(alloc: Global) -> Result<Draft, AllocError> {
         user_part_unavailable: false,
         processor_outage: false,
         out_of_service: false,
+        changeover_by_any_route: false,
         timers: timers(),
         sets,
         links,

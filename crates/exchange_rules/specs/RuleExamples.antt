@@ -65,6 +65,7 @@ settings = record {
   user_part_unavailable = false;
   processor_outage = false;
   out_of_service = false;
+  changeover_by_any_route = false;
   timers = ticks;
   sets = record { name = []; adjacent = 2 } ∷ [];
   links = record { name = []; set = 0; slc = 0; share = None } ∷ [];

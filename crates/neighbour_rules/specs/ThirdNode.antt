@@ -29,6 +29,7 @@ near_settings = record {
   user_part_unavailable = false;
   processor_outage = false;
   out_of_service = false;
+  changeover_by_any_route = false;
   timers = ticks;
   sets = record { name = 97 ∷ []; adjacent = 3 } ∷ record { name = 98 ∷ []; adjacent = 2 } ∷ [];
   links =

@@ -44,6 +44,7 @@ settings_of own adjacent = record {
   user_part_unavailable = false;
   processor_outage = false;
   out_of_service = false;
+  changeover_by_any_route = false;
   timers = ticks;
   sets = record { name = 97 ∷ []; adjacent = adjacent } ∷ [];
   links =

@@ -68,6 +68,7 @@ settings-meant d h =
       h.user_part_unavailable,
       h.processor_outage,
       h.out_of_service,
+      h.changeover_by_any_route,
       h.timers,
       sets-meant d.sets.items h.sets,
       links-meant d.sets.items d.links.items h.sets h.links,

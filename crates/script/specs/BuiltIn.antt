@@ -62,6 +62,7 @@ pub record IsBuiltIn (d : Draft) : Type 0 where
   pub user_part_unavailable : d.user_part_unavailable ≡ false
   pub processor_outage : d.processor_outage ≡ false
   pub out_of_service : d.out_of_service ≡ false
+  pub changeover_by_any_route : d.changeover_by_any_route ≡ false
   pub timers : d.timers ≡ built_in_ticks
   pub sets : IsSets d.sets.items
   pub links : IsLinks d.links.items
@@ -82,6 +83,7 @@ built_in_settings = record {
   user_part_unavailable = false;
   processor_outage = false;
   out_of_service = false;
+  changeover_by_any_route = false;
   timers = record {
     l1 = 10;
     l2 = 10;

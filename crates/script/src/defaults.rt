@@ -30,6 +30,7 @@ pub fn built_in(alloc: Global) -> Result<Draft, AllocError>
         user_part_unavailable: false,
         processor_outage: false,
         out_of_service: false,
+        changeover_by_any_route: false,
         timers: timers(),
         sets: sets(alloc)?,
         links: links(alloc)?,

@@ -12,6 +12,7 @@ services_in d = record {
   user_part_unavailable = d.user_part_unavailable;
   processor_outage = d.processor_outage;
   out_of_service = d.out_of_service;
+  changeover_by_any_route = d.changeover_by_any_route;
 }
 
 abbrev pub configuration_in : Checked → Configuration
@@ -27,6 +28,7 @@ configuration_in c = record {
   user_part_unavailable = c.services.user_part_unavailable;
   processor_outage = c.services.processor_outage;
   out_of_service = c.services.out_of_service;
+  changeover_by_any_route = c.services.changeover_by_any_route;
   timers = c.timers;
   sets = c.arrays.sets.items;
   links = c.arrays.links.items;

@@ -117,6 +117,7 @@ settings_of d = record {
   user_part_unavailable = d.user_part_unavailable;
   processor_outage = d.processor_outage;
   out_of_service = d.out_of_service;
+  changeover_by_any_route = d.changeover_by_any_route;
   timers = ticks_of d.timers;
   sets = map set_of d.sets.items;
   links = map (link_of d.sets.items) d.links.items;

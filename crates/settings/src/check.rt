@@ -104,7 +104,7 @@ fn checked_scalars(draft: &Draft) -> Result<Scalars, DraftFault>
     })
 }
 
-/// What settings ask for about subsystems, user parts and processors.
+/// What settings ask for about subsystems, user parts, processors and changeovers.
 #[derive(Clone, Copy)]
 pub struct Services {
     /// Whether extended unitdata (XUDT, XUDTS) are relayed.
@@ -117,6 +117,8 @@ pub struct Services {
     pub processor_outage: bool,
     /// Whether a link sends Out of Service before Alignment as its association comes up (RFC 4165 §5.1).
     pub out_of_service: bool,
+    /// Whether an order to change over goes out by any way to the adjacent point (Q.704 §5, Q.2210).
+    pub changeover_by_any_route: bool,
 }
 
 impl Services {
@@ -130,6 +132,7 @@ impl Services {
             user_part_unavailable: draft.user_part_unavailable,
             processor_outage: draft.processor_outage,
             out_of_service: draft.out_of_service,
+            changeover_by_any_route: draft.changeover_by_any_route,
         }
     }
 }

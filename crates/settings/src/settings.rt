@@ -147,6 +147,14 @@ impl Settings {
         self.checked.services.out_of_service
     }
 
+    /// Whether an order to change over goes out wherever there is a way to the adjacent point, or only by another link
+    /// of the same set (Q.704 §5, Q.2210).
+    pub fn changeover_by_any_route(&self) -> bool
+        ensures { result ≡ self.now.changeover_by_any_route }
+    {
+        self.checked.services.changeover_by_any_route
+    }
+
     /// How many ticks each timer runs: 1 to 65,535. A timer that is left out has none.
     pub fn timers(&self) -> TimerTicks
         ensures value { result ≡ self.now.timers }

@@ -1,6 +1,6 @@
 -- What a document says of settings. Its keys are read in their order, and the first fault among them is the
 -- document's; keys of other names are ignored.
-use Rattle.std.specs.Prelude.{ℤ, Bool, ◌&&◌, ◌||◌, Option, Some, None, is_some, Result, Ok, codes}
+use Rattle.std.specs.Prelude.{ℤ, Bool, false, ◌&&◌, ◌||◌, Option, Some, None, is_some, Result, Ok, codes}
 use Rattle.std.specs.Prelude.{if◌then◌else◌}
 use Rattle.toml.specs.Data.{Members, get_member}
 use Rattle.settings_file.specs.TimerNames.{timer_name}
@@ -142,6 +142,7 @@ document t =
         user_part_unavailable = services.user_part_unavailable;
         processor_outage = services.processor_outage;
         out_of_service = services.out_of_service;
+        changeover_by_any_route = false;
         timers = timers;
         sets = sets;
         links = links;

@@ -53,6 +53,7 @@ pub record Written : Type 0 where
   pub user_part_unavailable : Bool
   pub processor_outage : Bool
   pub out_of_service : Bool
+  pub changeover_by_any_route : Bool
   pub timers : TimersDraft
   pub sets : List WrittenSet
   pub links : List WrittenLink
@@ -101,6 +102,7 @@ written d = record {
   user_part_unavailable = d.user_part_unavailable;
   processor_outage = d.processor_outage;
   out_of_service = d.out_of_service;
+  changeover_by_any_route = d.changeover_by_any_route;
   timers = d.timers;
   sets = map set_written d.sets.items;
   links = map link_written d.links.items;

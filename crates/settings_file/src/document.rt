@@ -147,6 +147,7 @@ fn contents(alloc: Global, table: &Table) -> Result<Document, SettingsFault>
             user_part_unavailable: services.user_part_unavailable,
             processor_outage: services.processor_outage,
             out_of_service: services.out_of_service,
+            changeover_by_any_route: false,
             timers,
             sets,
             links,

@@ -106,6 +106,7 @@ fn lone_row(key: Key) -> KeyRow
         Key::UserPartUnavailable => lone_key("user_part_unavailable", TRUTH, ""),
         Key::ProcessorOutage => lone_key("processor_outage", TRUTH, ""),
         Key::OutOfService => lone_key("out_of_service", TRUTH, ""),
+        Key::ChangeoverByAnyRoute => lone_key("changeover_by_any_route", TRUTH, ""),
         Key::Timers => lone_key("timers", TABLE, ""),
         Key::Timer(timer) => lone_key(timer.path(), INTEGER, TICKS),
         Key::Set => lone_key("set", TABLES, "1 to 32"),

@@ -52,7 +52,8 @@ pub record TitleEntry : Type 0 where
 -- it relays extended unitdata (XUDT, XUDTS), whether it answers a test of a subsystem that it has (SST), and whether it
 -- tells the sender of a message for a user part that it doesn't have so (UPU, Q.704 §11.2.7); whether a link stays in
 -- service while its peer's processor is out (Q.703 §8), and whether it sends Out of Service before Alignment as its
--- association comes up (RFC 4165 §5.1)
+-- association comes up (RFC 4165 §5.1); and whether an order to change over goes out wherever there is a way to the
+-- adjacent point, not only by another link of the same set (Q.704 §5, Q.2210)
 pub record Configuration : Type 0 where
   pub own : ℕ
   pub network : ℕ
@@ -65,6 +66,7 @@ pub record Configuration : Type 0 where
   pub user_part_unavailable : Bool
   pub processor_outage : Bool
   pub out_of_service : Bool
+  pub changeover_by_any_route : Bool
   pub timers : TimerTicks
   pub sets : List SetEntry
   pub links : List LinkEntry

@@ -7,7 +7,7 @@ use Rattle.settings_rows.specs.declared.key.TimerKey.TheVariants.{Slt1, Slt2, L4
 use Rattle.settings_rows.specs.declared.key.Key.{Key}
 use Rattle.settings_rows.specs.declared.key.Key.TheVariants.{Version, Own, Network, Window, Pool, Users, Subsystems}
 use Rattle.settings_rows.specs.declared.key.Key.TheVariants.{ExtendedUnitdata, SubsystemTests, UserPartUnavailable}
-use Rattle.settings_rows.specs.declared.key.Key.TheVariants.{ProcessorOutage, OutOfService}
+use Rattle.settings_rows.specs.declared.key.Key.TheVariants.{ProcessorOutage, OutOfService, ChangeoverByAnyRoute}
 use Rattle.settings_rows.specs.declared.key.Key.TheVariants.{Timers, Timer, Set, SetEntry, SetName, SetAdjacent, Link}
 use Rattle.settings_rows.specs.declared.key.Key.TheVariants.{LinkEntry, LinkName, LinkSet, LinkSlc, LinkShare, Destination}
 use Rattle.settings_rows.specs.declared.key.Key.TheVariants.{DestinationEntry, DestinationPoint, DestinationSets}
@@ -51,6 +51,7 @@ key_front SubsystemTests = codes "subsystem_tests"
 key_front UserPartUnavailable = codes "user_part_unavailable"
 key_front ProcessorOutage = codes "processor_outage"
 key_front OutOfService = codes "out_of_service"
+key_front ChangeoverByAnyRoute = codes "changeover_by_any_route"
 key_front Timers = codes "timers"
 key_front (Timer timer) = timer_path timer
 key_front Set = codes "set"

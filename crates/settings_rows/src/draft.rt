@@ -29,6 +29,8 @@ pub struct Draft {
     pub processor_outage: bool,
     /// Whether a link sends Out of Service before Alignment as its association comes up (RFC 4165 §5.1).
     pub out_of_service: bool,
+    /// Whether an order to change over goes out by any way to the adjacent point, not only by another link of its set.
+    pub changeover_by_any_route: bool,
     /// How long each timer runs.
     pub timers: TimersDraft,
     /// The link sets.

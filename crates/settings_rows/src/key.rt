@@ -99,6 +99,8 @@ pub enum Key {
     ProcessorOutage,
     /// `out_of_service`.
     OutOfService,
+    /// `changeover_by_any_route`.
+    ChangeoverByAnyRoute,
     /// `timers`, the table itself.
     Timers,
     /// A key of `timers`.
@@ -181,6 +183,7 @@ impl Key {
             Key::UserPartUnavailable => "user_part_unavailable",
             Key::ProcessorOutage => "processor_outage",
             Key::OutOfService => "out_of_service",
+            Key::ChangeoverByAnyRoute => "changeover_by_any_route",
             Key::Timers => "timers",
             Key::Timer(timer) => timer.path(),
             Key::Set | Key::SetEntry(_) | Key::SetName(_) | Key::SetAdjacent(_) => "set",

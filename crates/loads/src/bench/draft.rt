@@ -148,6 +148,7 @@ pub(crate) fn draft_with(alloc: Global, shape: &Shape) -> Result<Draft, AllocErr
         user_part_unavailable: false,
         processor_outage: false,
         out_of_service: false,
+        changeover_by_any_route: false,
         timers: timers(),
         sets: set_drafts(alloc, set_count)?,
         links: link_drafts(alloc, shape.links, shape.sets)?,
