@@ -1,6 +1,6 @@
 -- What a document says of settings. Its keys are read in their order, and the first fault among them is the
 -- document's; keys of other names are ignored.
-use Rattle.std.specs.Prelude.{ℤ, Bool, false, ◌&&◌, ◌||◌, Option, Some, None, is_some, Result, Ok, codes}
+use Rattle.std.specs.Prelude.{ℤ, Bool, ◌&&◌, ◌||◌, Option, Some, None, is_some, Result, Ok, codes}
 use Rattle.std.specs.Prelude.{if◌then◌else◌}
 use Rattle.toml.specs.Data.{Members, get_member}
 use Rattle.settings_file.specs.TimerNames.{timer_name}
@@ -13,7 +13,7 @@ use Rattle.settings_rows.specs.declared.key.TimerKey.TheVariants.{Slt1, Slt2, L4
 use Rattle.settings_file.specs.declared.fault.SettingsFault.{SettingsFault}
 use Rattle.settings_file.specs.declared.document.Numbers.{Numbers}
 use Rattle.settings_file.specs.declared.document.Services.{Services}
-use Rattle.settings_file.specs.Versions.{has_joined, has_extensions}
+use Rattle.settings_file.specs.Versions.{has_joined, has_extensions, has_additions}
 use Rattle.settings_file.specs.Shapes.{and_then, value_at, table_in, integer_at, optional_integer_at, integers_at}
 use Rattle.settings_file.specs.Shapes.{truth_at}
 use Rattle.settings_file.specs.Written.{Written}
@@ -94,23 +94,25 @@ numbers_at t =
     and_then (integer_at (codes "pool") key.Pool t) (λ pool.
     Ok (record { version = version; own = own; network = network; window = window; pool = pool }))))))
 
--- what a file asks for, if its version has these keys: that extended unitdata are relayed, that a test of a subsystem
--- is answered, that it is told where a user part isn't here, that links outlive outages of their peers' processors, and
--- that they send Out of Service before Alignment
-unfoldable pub services_at : (has_keys : Bool) → Members → Result Services SettingsFault
-services_at has_keys t =
-    and_then (truth_at has_keys (codes "extended_unitdata") key.ExtendedUnitdata t) (λ extended_unitdata.
-    and_then (truth_at has_keys (codes "subsystem_tests") key.SubsystemTests t) (λ subsystem_tests.
-    and_then (truth_at has_keys (codes "user_part_unavailable") key.UserPartUnavailable t) (λ user_part_unavailable.
-    and_then (truth_at has_keys (codes "processor_outage") key.ProcessorOutage t) (λ processor_outage.
-    and_then (truth_at has_keys (codes "out_of_service") key.OutOfService t) (λ out_of_service.
+-- what a file asks for, as far as its version has these keys: that extended unitdata are relayed, that a test of a
+-- subsystem is answered, that it is told where a user part isn't here, that links outlive outages of their peers'
+-- processors, and that they send Out of Service before Alignment; and that orders to change over go out by any route
+unfoldable pub services_at : (has_extensions has_additions : Bool) → Members → Result Services SettingsFault
+services_at extensions additions t =
+    and_then (truth_at extensions (codes "extended_unitdata") key.ExtendedUnitdata t) (λ extended_unitdata.
+    and_then (truth_at extensions (codes "subsystem_tests") key.SubsystemTests t) (λ subsystem_tests.
+    and_then (truth_at extensions (codes "user_part_unavailable") key.UserPartUnavailable t) (λ user_part_unavailable.
+    and_then (truth_at extensions (codes "processor_outage") key.ProcessorOutage t) (λ processor_outage.
+    and_then (truth_at extensions (codes "out_of_service") key.OutOfService t) (λ out_of_service.
+    and_then (truth_at additions (codes "changeover_by_any_route") key.ChangeoverByAnyRoute t) (λ by_any_route.
     Ok (record {
       extended_unitdata = extended_unitdata;
       subsystem_tests = subsystem_tests;
       user_part_unavailable = user_part_unavailable;
       processor_outage = processor_outage;
       out_of_service = out_of_service;
-    }))))))
+      changeover_by_any_route = by_any_route;
+    })))))))
 
 -- what a document says: the version of its format, and settings
 pub record Document : Type 0 where
@@ -122,7 +124,7 @@ document t =
     and_then (numbers_at t) (λ numbers.
     and_then (integers_at (codes "users") key.Users t) (λ users.
     and_then (integers_at (codes "subsystems") key.Subsystems t) (λ subsystems.
-    and_then (services_at (has_extensions numbers.version) t) (λ services.
+    and_then (services_at (has_extensions numbers.version) (has_additions numbers.version) t) (λ services.
     and_then (timers_at (has_extensions numbers.version) t) (λ timers.
     and_then (sets_at t) (λ sets.
     and_then (links_at (has_extensions numbers.version) t) (λ links.
@@ -142,7 +144,7 @@ document t =
         user_part_unavailable = services.user_part_unavailable;
         processor_outage = services.processor_outage;
         out_of_service = services.out_of_service;
-        changeover_by_any_route = false;
+        changeover_by_any_route = services.changeover_by_any_route;
         timers = timers;
         sets = sets;
         links = links;

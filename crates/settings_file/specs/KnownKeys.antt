@@ -2,7 +2,7 @@
 use Rattle.std.specs.Prelude.{ℕ, ℤ, Bool, true, false, List, [], ◌∷◌, map, codes, Option, Some, None}
 use Rattle.std.specs.Option.{option_map, option_flatten}
 use Rattle.toml.specs.Data.{Members, get_member, as_integer}
-use Rattle.settings_file.specs.Versions.{has_joined, has_extensions}
+use Rattle.settings_file.specs.Versions.{has_joined, has_extensions, has_additions}
 use Rattle.settings_file.specs.declared.known_keys.TableArray.{TableArray}
 
 -- an array of tables: its key, and the keys of its entries
@@ -23,19 +23,29 @@ abbrev pub may_be_joined : Option ℤ → Bool
 may_be_joined (Some version) = has_joined version
 may_be_joined None = false
 
--- whether a file of this version may have the keys that the last version brought
+-- whether a file of this version may have the keys that version 3 brought
 abbrev pub may_have_extensions : Option ℤ → Bool
 may_have_extensions (Some version) = has_extensions version
 may_have_extensions None = false
 
+-- whether a file of this version may have the keys that version 4 brought
+abbrev pub may_have_additions : Option ℤ → Bool
+may_have_additions (Some version) = has_additions version
+may_have_additions None = false
+
 -- the keys that are in no array
-abbrev pub top_keys : (may_have_extensions : Bool) → List (List ℕ)
-top_keys true =
+abbrev pub top_keys : (may_have_additions may_have_extensions : Bool) → List (List ℕ)
+top_keys true extensions =
+    codes "version" ∷ codes "own" ∷ codes "network" ∷ codes "window" ∷ codes "pool" ∷ codes "users"
+    ∷ codes "subsystems" ∷ codes "extended_unitdata" ∷ codes "subsystem_tests" ∷ codes "user_part_unavailable"
+    ∷ codes "processor_outage" ∷ codes "out_of_service" ∷ codes "changeover_by_any_route" ∷ codes "timers" ∷ codes "set"
+    ∷ codes "link" ∷ codes "destination" ∷ codes "title" ∷ codes "serve" ∷ []
+top_keys false true =
     codes "version" ∷ codes "own" ∷ codes "network" ∷ codes "window" ∷ codes "pool" ∷ codes "users"
     ∷ codes "subsystems" ∷ codes "extended_unitdata" ∷ codes "subsystem_tests" ∷ codes "user_part_unavailable"
     ∷ codes "processor_outage" ∷ codes "out_of_service" ∷ codes "timers" ∷ codes "set" ∷ codes "link"
     ∷ codes "destination" ∷ codes "title" ∷ codes "serve" ∷ []
-top_keys false =
+top_keys false false =
     codes "version" ∷ codes "own" ∷ codes "network" ∷ codes "window" ∷ codes "pool" ∷ codes "users"
     ∷ codes "subsystems" ∷ codes "timers" ∷ codes "set" ∷ codes "link" ∷ codes "destination" ∷ codes "title"
     ∷ codes "serve" ∷ []

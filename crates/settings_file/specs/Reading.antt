@@ -21,7 +21,7 @@ use Rattle.settings_file.specs.Written.{written}
 use Rattle.settings_file.specs.Versions.{FIRST_VERSION, is_known_version}
 use Rattle.settings_file.specs.Document.{Document, document}
 
--- a document, which must be of version 1, 2 or 3
+-- a document, which must be of version 1, 2, 3 or 4
 abbrev pub of_known_version : Document → Result Document SettingsFault
 of_known_version d = if is_known_version d.version then Ok d else Err kind.Version
 

@@ -6,7 +6,7 @@ ghost use Rattle.toml.specs.View.{table_view};
 ghost use Rattle.settings.specs.Meaning.{settings_of};
 ghost use Rattle.settings_file.specs.Faults.{AnswersOrNoMemory, no_memory};
 ghost use Rattle.settings_file.specs.Written.{written};
-ghost use Rattle.settings_file.specs.Versions.{has_joined, has_extensions, is_known_version};
+ghost use Rattle.settings_file.specs.Versions.{has_joined, has_extensions, has_additions, is_known_version};
 ghost use Rattle.settings_file.specs.Document.{numbers_at, services_at, document};
 ghost use Rattle.settings_file.specs.Reading.{reading_in, limits_fault, settings_fault, IsReadAs, IsFirstFault};
 
@@ -16,7 +16,9 @@ use crate::fault::SettingsFault;
 use crate::limits::FirstLimits;
 use crate::shapes::{integer, integers, truth};
 use crate::timers::timers;
-use crate::versions::{has_extensions, has_joined, is_first_version, is_known_version};
+use crate::versions::{
+    has_additions, has_extensions, has_joined, is_first_version, is_known_version,
+};
 use settings::{Draft, DraftFault, FaultKind, Key, Settings};
 use std::alloc::Global;
 use toml::Table;
@@ -50,9 +52,16 @@ impl Numbers {
     {
         has_extensions(self.version)
     }
+
+    /// Whether the file has the keys that version 4 brought.
+    fn has_additions(self) -> bool
+        ensures { result ≡ has_additions self.version }
+    {
+        has_additions(self.version)
+    }
 }
 
-/// What a file asks for about subsystems, user parts and processors.
+/// What a file asks for about subsystems, user parts, processors and changeovers.
 #[derive(Clone, Copy)]
 pub(crate) struct Services {
     /// Whether extended unitdata (XUDT, XUDTS) are relayed.
@@ -65,6 +74,8 @@ pub(crate) struct Services {
     pub processor_outage: bool,
     /// Whether a link sends Out of Service before Alignment as its association comes up (RFC 4165 §5.1).
     pub out_of_service: bool,
+    /// Whether an order to change over goes out by any way to the adjacent point.
+    pub changeover_by_any_route: bool,
 }
 
 /// What a document says: the version of its format, and settings.
@@ -99,22 +110,37 @@ fn leading_numbers(table: &Table) -> Result<Numbers, SettingsFault>
     })
 }
 
-/// What a file asks for about subsystems, user parts and processors, if its version has these keys.
+/// What a file asks for about subsystems, user parts, processors and changeovers, as far as its version has these keys.
 #[tactic(auto, unfolding(crate::specs::Document::services_at))]
-fn asked_services(has_keys: bool, table: &Table) -> Result<Services, SettingsFault>
-    ensures { result ≡ services_at has_keys (table_view table.now) }
+fn asked_services(
+    extensions: bool,
+    additions: bool,
+    table: &Table,
+) -> Result<Services, SettingsFault>
+    ensures { result ≡ services_at extensions additions (table_view table.now) }
 {
     Ok(Services {
-        extended_unitdata: truth(has_keys, table, "extended_unitdata", Key::ExtendedUnitdata)?,
-        subsystem_tests: truth(has_keys, table, "subsystem_tests", Key::SubsystemTests)?,
+        extended_unitdata: truth(
+            extensions,
+            table,
+            "extended_unitdata",
+            Key::ExtendedUnitdata,
+        )?,
+        subsystem_tests: truth(extensions, table, "subsystem_tests", Key::SubsystemTests)?,
         user_part_unavailable: truth(
-            has_keys,
+            extensions,
             table,
             "user_part_unavailable",
             Key::UserPartUnavailable,
         )?,
-        processor_outage: truth(has_keys, table, "processor_outage", Key::ProcessorOutage)?,
-        out_of_service: truth(has_keys, table, "out_of_service", Key::OutOfService)?,
+        processor_outage: truth(extensions, table, "processor_outage", Key::ProcessorOutage)?,
+        out_of_service: truth(extensions, table, "out_of_service", Key::OutOfService)?,
+        changeover_by_any_route: truth(
+            additions,
+            table,
+            "changeover_by_any_route",
+            Key::ChangeoverByAnyRoute,
+        )?,
     })
 }
 
@@ -127,7 +153,7 @@ fn contents(alloc: Global, table: &Table) -> Result<Document, SettingsFault>
     let numbers = leading_numbers(table)?;
     let users = integers(alloc, table, "users", Key::Users)?;
     let subsystems = integers(alloc, table, "subsystems", Key::Subsystems)?;
-    let services = asked_services(numbers.has_extensions(), table)?;
+    let services = asked_services(numbers.has_extensions(), numbers.has_additions(), table)?;
     let timers = timers(numbers.has_extensions(), table)?;
     let sets = sets(alloc, table)?;
     let links = links(alloc, numbers.has_extensions(), table)?;
@@ -147,7 +173,7 @@ fn contents(alloc: Global, table: &Table) -> Result<Document, SettingsFault>
             user_part_unavailable: services.user_part_unavailable,
             processor_outage: services.processor_outage,
             out_of_service: services.out_of_service,
-            changeover_by_any_route: false,
+            changeover_by_any_route: services.changeover_by_any_route,
             timers,
             sets,
             links,

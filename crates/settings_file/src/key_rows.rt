@@ -94,7 +94,7 @@ fn lone_row(key: Key) -> KeyRow
     ensures { row_place result ≡ key_place key }
 {
     match key {
-        Key::Version => lone_key("version", INTEGER, "1, 2 or 3"),
+        Key::Version => lone_key("version", INTEGER, "1, 2, 3 or 4"),
         Key::Own => lone_key("own", INTEGER, POINT),
         Key::Network => lone_key("network", INTEGER, "0 to 3"),
         Key::Window => lone_key("window", INTEGER, "1 to 16384"),

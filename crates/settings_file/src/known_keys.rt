@@ -2,10 +2,11 @@
 
 ghost use Rattle.std.specs.Prelude.{◌≡◌, map};
 ghost use Rattle.toml.specs.View.{table_view};
-ghost use Rattle.settings_file.specs.KnownKeys.{version_of, may_be_joined, may_have_extensions, top_keys, timer_keys, link_keys};
-ghost use Rattle.settings_file.specs.KnownKeys.{destination_keys, title_keys, arrays_of, known_in};
+ghost use Rattle.settings_file.specs.KnownKeys.{version_of, may_be_joined, may_have_extensions, may_have_additions};
+ghost use Rattle.settings_file.specs.KnownKeys.{top_keys, timer_keys, link_keys, destination_keys, title_keys};
+ghost use Rattle.settings_file.specs.KnownKeys.{arrays_of, known_in};
 
-use crate::versions::{has_extensions, has_joined};
+use crate::versions::{has_additions, has_extensions, has_joined};
 use toml::Table;
 
 /// The keys of a settings file that are in no array.
@@ -47,12 +48,35 @@ const TOP_OF_THREE: &[&str] = &[
     "serve",
 ];
 
+/// The same in a file of version 4.
+const TOP_OF_FOUR: &[&str] = &[
+    "version",
+    "own",
+    "network",
+    "window",
+    "pool",
+    "users",
+    "subsystems",
+    "extended_unitdata",
+    "subsystem_tests",
+    "user_part_unavailable",
+    "processor_outage",
+    "out_of_service",
+    "changeover_by_any_route",
+    "timers",
+    "set",
+    "link",
+    "destination",
+    "title",
+    "serve",
+];
+
 /// The keys of the table `timers`.
 const TIMERS: &[&str] = &[
     "l1", "l2", "l3", "l4", "l6", "l7", "t1", "t2", "t3", "t4", "t6", "t8", "t10",
 ];
 
-/// The same in a file of version 3.
+/// The same in a file of version 3 or 4.
 const TIMERS_OF_THREE: &[&str] = &[
     "l1", "l2", "l3", "l4", "l6", "l7", "t1", "t2", "t3", "t4", "t6", "t8", "t10", "slt1", "slt2",
     "l4e", "sst",
@@ -97,7 +121,7 @@ const LINK: &[&str] = &[
     "tries",
 ];
 
-/// The keys of a link in a file of version 3.
+/// The keys of a link in a file of version 3 or 4.
 const LINK_OF_THREE: &[&str] = &[
     "name",
     "set",
@@ -122,7 +146,7 @@ const TITLE: &[&str] = &[
     "ssn",
 ];
 
-/// The keys of a translation row in a file of version 3.
+/// The keys of a translation row in a file of version 3 or 4.
 const TITLE_OF_THREE: &[&str] = &[
     "translation",
     "plan",
@@ -141,7 +165,7 @@ const TITLE_OF_THREE: &[&str] = &[
 /// The keys of a destination.
 const DESTINATION: &[&str] = &["point", "sets"];
 
-/// The keys of a destination in a file of version 2 or 3.
+/// The keys of a destination in a file of version 2, 3 or 4.
 const DESTINATION_OF_TWO: &[&str] = &["point", "sets", "joined"];
 
 /// An array of tables.
@@ -183,12 +207,25 @@ fn may_have_extensions(document: &Table) -> bool
     }
 }
 
+/// Whether a document may have the keys that version 4 brought.
+fn may_have_additions(document: &Table) -> bool
+    ensures { result ≡ may_have_additions (version_of (table_view document.now)) }
+{
+    match version_of(document) {
+        Some(version) => has_additions(version),
+        None => false,
+    }
+}
+
 /// The keys of a document that are in no array, by its version.
 pub(crate) fn top_of(document: &Table) -> &'static [&'static str]
     ensures { map (λ key. key.now) result.now
-        ≡ top_keys (may_have_extensions (version_of (table_view document.now))) }
+        ≡ top_keys (may_have_additions (version_of (table_view document.now)))
+        (may_have_extensions (version_of (table_view document.now))) }
 {
-    if may_have_extensions(document) {
+    if may_have_additions(document) {
+        TOP_OF_FOUR
+    } else if may_have_extensions(document) {
         TOP_OF_THREE
     } else {
         TOP
@@ -225,7 +262,7 @@ fn destination_keys(may_be_joined: bool) -> &'static [&'static str]
     }
 }
 
-/// The keys of a translation row, in a document that may have the keys that the last version brought, or may not.
+/// The keys of a translation row, in a document that may have the keys that version 3 brought, or may not.
 fn title_keys(may_have_extensions: bool) -> &'static [&'static str]
     ensures { map (λ key. key.now) result.now ≡ title_keys may_have_extensions }
 {

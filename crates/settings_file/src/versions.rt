@@ -2,7 +2,8 @@
 
 ghost use Rattle.std.specs.Prelude.{◌≡◌};
 ghost use Rattle.std.specs.Ordering.{int_eq};
-ghost use Rattle.settings_file.specs.Versions.{FIRST_VERSION, is_known_version, has_joined, has_extensions};
+ghost use Rattle.settings_file.specs.Versions.{FIRST_VERSION, is_known_version};
+ghost use Rattle.settings_file.specs.Versions.{has_joined, has_extensions, has_additions};
 
 /// The first version, which keeps the limits that it had.
 const FIRST_VERSION: i64 = 1;
@@ -12,7 +13,10 @@ const SECOND_VERSION: i64 = 2;
 
 /// The version that brought extended unitdata, tests of subsystems, user parts that are told of, shares of the pool,
 /// changed titles, and timers of tests and of emergency proving.
-const LAST_VERSION: i64 = 3;
+const THIRD_VERSION: i64 = 3;
+
+/// The version that brought orders to change over by any route.
+const LAST_VERSION: i64 = 4;
 
 /// Whether this is the first version.
 pub(crate) fn is_first_version(version: i64) -> bool
@@ -25,14 +29,17 @@ pub(crate) fn is_first_version(version: i64) -> bool
 pub(crate) fn is_known_version(version: i64) -> bool
     ensures { result ≡ is_known_version version }
 {
-    version == FIRST_VERSION || version == SECOND_VERSION || version == LAST_VERSION
+    version == FIRST_VERSION
+        || version == SECOND_VERSION
+        || version == THIRD_VERSION
+        || version == LAST_VERSION
 }
 
 /// Whether the destinations of a file of this version may be joined.
 pub(crate) fn has_joined(version: i64) -> bool
     ensures { result ≡ has_joined version }
 {
-    version == SECOND_VERSION || version == LAST_VERSION
+    version == SECOND_VERSION || version == THIRD_VERSION || version == LAST_VERSION
 }
 
 /// Whether a file of this version has the keys `extended_unitdata`, `subsystem_tests`, `user_part_unavailable`,
@@ -40,6 +47,13 @@ pub(crate) fn has_joined(version: i64) -> bool
 /// `slt1`, `slt2`, `l4e` and `sst`.
 pub(crate) fn has_extensions(version: i64) -> bool
     ensures { result ≡ has_extensions version }
+{
+    version == THIRD_VERSION || version == LAST_VERSION
+}
+
+/// Whether a file of this version has the key `changeover_by_any_route`.
+pub(crate) fn has_additions(version: i64) -> bool
+    ensures { result ≡ has_additions version }
 {
     version == LAST_VERSION
 }
