@@ -32,6 +32,6 @@ pub doubted-alike : (w : ℕ) (k : Counts) (lane : List Message) (q : Queue) (nu
 doubted-alike w k lane q number h =
     rw h.counts (ap (kept_doubted (counts_of q)) (counted q number h.sound) ∙ doubted-ahead q (accepted_count q number))
 
-pub beginning-alike : (w : ℕ) (link_left : Bool) (k : Counts) (lane : List Message) (q : Queue) → Keeps w k lane q →
-    kept_beginning link_left k ≡ beginning link_left q
-beginning-alike w link_left k lane q h = ap (begins_with link_left) (answers-last_accepted k lane q h)
+pub beginning-alike : (w : ℕ) (ordered : Bool) (k : Counts) (lane : List Message) (q : Queue) → Keeps w k lane q →
+    kept_beginning ordered k ≡ beginning ordered q
+beginning-alike w ordered k lane q h = ap (begins_with ordered) (answers-last_accepted k lane q h)

@@ -72,7 +72,7 @@ with_standing links link s = slice_set links link s
 abbrev pub may_restart : Standing → Bool
 may_restart s = not s.incomplete && not s.awaited
 
--- the link failed in service: an order goes out exactly when another link to the adjacent point is left
+-- the link failed in service; if an order goes out, its answer is awaited
 abbrev pub failed : (ordered : Bool) → Standing → Standing
 failed ordered s = record { incomplete = true; awaited = ordered }
 

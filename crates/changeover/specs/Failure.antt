@@ -5,14 +5,14 @@ use Rattle.link.specs.Counts.{Counts, kept_last_accepted}
 use Rattle.changeover.specs.declared.beginning.Beginning.{Beginning}
 use Rattle.changeover.specs.declared.beginning.Beginning.TheVariants.{Orders, Waits}
 
--- if a link to the adjacent point is left, an order goes there with the number of the last message that was accepted,
--- T2 runs, and the answer is awaited; otherwise T1 runs
-abbrev pub begins_with : (link_left : Bool) → (number : ℕ) → Beginning
-begins_with link_left number = if link_left then Orders number else Waits
+-- if an order goes to the adjacent point, it has the number of the last message that was accepted, T2 runs, and the
+-- answer is awaited; otherwise T1 runs
+abbrev pub begins_with : (ordered : Bool) → (number : ℕ) → Beginning
+begins_with ordered number = if ordered then Orders number else Waits
 
-abbrev pub beginning : (link_left : Bool) → Queue → Beginning
-beginning link_left q = begins_with link_left (last_accepted q)
+abbrev pub beginning : (ordered : Bool) → Queue → Beginning
+beginning ordered q = begins_with ordered (last_accepted q)
 
 -- the same by what is kept of the queue
-abbrev pub kept_beginning : (link_left : Bool) → Counts → Beginning
-kept_beginning link_left k = begins_with link_left (kept_last_accepted k)
+abbrev pub kept_beginning : (ordered : Bool) → Counts → Beginning
+kept_beginning ordered k = begins_with ordered (kept_last_accepted k)

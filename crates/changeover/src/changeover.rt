@@ -42,17 +42,17 @@ impl Changeover {
         })
     }
 
-    /// Begins the changeover of a link that failed in service (Q.704 §5.2, §5.3), and says with what. `link_left` is
-    /// whether another link to its adjacent point is in service, and `sequence` has the numbers of the failed link.
-    pub fn failed(&mut self, link: LinkId, link_left: bool, sequence: &Sequence) -> Beginning
+    /// Begins the changeover of a link that failed in service (Q.704 §5.2, §5.3), and says with what. `ordered` is
+    /// whether an order goes to its adjacent point, and `sequence` has the numbers of the failed link.
+    pub fn failed(&mut self, link: LinkId, ordered: bool, sequence: &Sequence) -> Beginning
         requires { link < length self.old }
-        ensures beginning { result ≡ kept_beginning link_left sequence.now }
+        ensures beginning { result ≡ kept_beginning ordered sequence.now }
         ensures queue { (w : ℕ) (lane : List Message) (q : Queue) →
-            Keeps w sequence.now lane q → result ≡ beginning link_left q }
-        ensures standing { self.new ≡ with_standing self.old link (failed link_left (standing_at self.old link)) }
+            Keeps w sequence.now lane q → result ≡ beginning ordered q }
+        ensures standing { self.new ≡ with_standing self.old link (failed ordered (standing_at self.old link)) }
     {
-        self.links[link.index()] = Progress::failed(link_left);
-        Beginning::of(link_left, sequence)
+        self.links[link.index()] = Progress::failed(ordered);
+        Beginning::of(ordered, sequence)
     }
 
     /// Begins the changeover of a link that the adjacent point's order made fail. No order of its own goes out.

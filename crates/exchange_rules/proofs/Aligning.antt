@@ -1,6 +1,6 @@
 -- Whatever happens, each link has the timer of its state.
 use Rattle.exchange_rules.proofs.Basics.{◌≡◌, ◌≢◌, ◌<◌, ℕ, Bool, true, false, ◌&&◌, not, nat_lt, length, List, [], ◌∷◌, Option, Some, None, refl, ap, sym, subst, ◌∙◌, arith, ⊎_elim, cases_eq, if◌then◌else◌, is_some, get_or-set_same, length-set}
-use Rattle.exchange_rules.proofs.Definitions.{period_of, Configuration, Message, FailureReason, ChangeoverTimer, Facts, opening, carries, completed, LinkTimer, TimerName, NodeCounts, Running, counts-set, counts-clear, counts-clear_set, left-set_other, left-clear_other, set_timer, clear_timer, timer_name, has_other, Found, Link, down_link, after_failure, Parts, Node, with_parts, link_at, in_service, down, is_link, set_of, suspended, fail_link, without_tests, make_unavailable, changing, begin, change_over, begin_by_peer, fail_by_peer, fail_by_order, complete_by_order, complete_if, concluded, lose_each, judged, changeover_of, with_changeover, changeover_order, changeover_acknowledgement, on_changeover_order, with_changeover_acknowledged, with_expiry, hold_flows, held_by_rerouting, answer, Handled, Ignored, WholeQueues, whole}
+use Rattle.exchange_rules.proofs.Definitions.{period_of, Configuration, Message, FailureReason, ChangeoverTimer, Facts, opening, carries, completed, LinkTimer, TimerName, NodeCounts, Running, counts-set, counts-clear, counts-clear_set, left-set_other, left-clear_other, set_timer, clear_timer, timer_name, has_other, is_ordered, Found, Link, down_link, after_failure, Parts, Node, with_parts, link_at, in_service, down, is_link, set_of, suspended, fail_link, without_tests, make_unavailable, changing, begin, change_over, begin_by_peer, fail_by_peer, fail_by_order, complete_by_order, complete_if, concluded, lose_each, judged, changeover_of, with_changeover, changeover_order, changeover_acknowledgement, on_changeover_order, with_changeover_acknowledged, with_expiry, hold_flows, held_by_rerouting, answer, Handled, Ignored, WholeQueues, whole}
 use Rattle.timers.specs.declared.name.TimerName.TheVariants as name
 use Rattle.timers.specs.declared.name.RouteTimer.TheVariants as of_set
 use Rattle.link.specs.declared.action.LinkTimer.TheVariants as timer
@@ -138,7 +138,7 @@ module _ (l : ℕ) where
         alike n _ (record { links = refl; counts = counts-set (name.T1 link) c.timers.t1 n.parts.timers; timers = set-others (name.T1 link) c.timers.t1 n.parts.timers refl })
 
     changed-keeps : (served : Bool) (link : ℕ) (n : Node WholeQueues) → Keeps l n (change_over whole c served link n)
-    changed-keeps true link n = begun-keeps (has_other c link n.parts) link n
+    changed-keeps true link n = begun-keeps (is_ordered c link n.parts) link n
     changed-keeps false link n = same n n refl refl
 
     fails-keeps : (served : Bool) (link : ℕ) (why : FailureReason) (n : Node WholeQueues) → Keeps l n (change_over whole c served link (make_unavailable whole c served link why n))

@@ -5,7 +5,7 @@ pub use Rattle.exchange_rules.specs.Messages.{is_destination, no_room_for, offer
 pub use Rattle.exchange_rules.specs.LinkTests.{testing, test_message, own_pattern, own_test, link_test, tests_links, answer_ticks, pause_ticks, answers_test, is_test_awaited, passes_test, awaiting_test, with_test_failed, test_passed, queue_if, send_test, begin_test, repeat_test, test_unanswered, on_test_answer, with_test_passed, is_first_test, pass_test}
 pub use Rattle.exchange_rules.specs.ChangingBack.{loses_flows, code_for, declare_by, hold_flows, change_back, code_in_use, declaration, freed, on_changeback_acknowledgement, if_room, procedure_by, with_flows_held, usable, take_back, changeback_acknowledgement, late_time, late_code, is_taken_back}
 unfoldable pub use Rattle.exchange_rules.specs.ChangingBack.{take_back_each}
-pub use Rattle.exchange_rules.specs.ChangingOver.{fail_by_order, send_each, complete_if, concluded, on_changeover_order, on_changeover_timer, with_changeover_acknowledged, with_expiry, judged, lifted_parts, lose, lose_each, changeover_acknowledgement, conclude, complete_by_order, acknowledge_changeover, on_changeover_acknowledgement, has_other, begin, begin_by_peer, change_over, changing, fail, fail_by_peer, make_unavailable, changeover_of, with_changeover, changeover_order, fail_link, without_tests_if_last, timed_changeover, is_of_flow, is_failed, suspended}
+pub use Rattle.exchange_rules.specs.ChangingOver.{fail_by_order, send_each, complete_if, concluded, on_changeover_order, on_changeover_timer, with_changeover_acknowledged, with_expiry, judged, lifted_parts, lose, lose_each, changeover_acknowledgement, conclude, complete_by_order, acknowledge_changeover, on_changeover_acknowledgement, has_other, has_way, is_ordered, begin, begin_by_peer, change_over, changing, fail, fail_by_peer, make_unavailable, changeover_of, with_changeover, changeover_order, fail_link, without_tests_if_last, timed_changeover, is_of_flow, is_failed, suspended}
 pub use Rattle.exchange_rules.specs.Conserving.{only_accepted, gone_that, users_that, standing, Gone, both_gone, brought_by, brought_here, brought_in, brought_to, confirmed_at, confirmed_by, confirmed_in, confirmed_of, gone, gone_by, gone_by_message, gone_by_new, gone_by_release, gone_by_tick, gone_by_word, nothing_gone, taken_in, gone_by_answer, gone_by_completion, gone_by_expiry, gone_by_order, gone_by_timer, gone_by_timers, is_stranded, answered_in, relayed_in, returned_in, unitdata_in}
 pub use Rattle.exchange_rules.specs.Exchange.{handle_event, settled, release, go, go_by, go_each, go_on, with_timers, count_subsystems, run_all, run_next, tick, run_due, run_times, run_timer}
 unfoldable pub use Rattle.exchange_rules.specs.Exchange.{apply}

@@ -1,6 +1,6 @@
 -- A hold ends only as its word comes or its timer runs out.
 use Rattle.exchange_rules.proofs.Basics.{◌≡◌, ◌≢◌, ◌⊎◌, inl, inr, ℕ, Bool, true, false, ◌||◌, ◌&&◌, List, [], ◌∷◌, Option, Some, None, refl, ap, sym, ◌∙◌, subst, if◌then◌else◌}
-use Rattle.exchange_rules.proofs.Definitions.{Configuration, FailureReason, ChangeoverTimer, Procedure, Changeover, Code, Reroute, HoldSet, holds, lifted, with_hold, with_flows, may_hold, flows_leave, flows_add, Facts, completed, Parts, Node, with_parts, in_service, is_link, down, has_other, set_of, is_failed, is_taken_back, suspended, facts, Found, fail_link, make_unavailable, change_over, begin, changing, changeover_order, begin_by_peer, fail, fail_by_peer, fail_by_order, complete_if, concluded, complete_by_order, on_changeover_order, on_changeover_acknowledgement, on_changeover_timer, changeover_acknowledgement, changeover_of, with_changeover, with_changeover_acknowledged, with_expiry, without_tests, answer, Handled, Ignored, hold_flows, procedure_by, held_by_rerouting, WholeQueues, whole, Outgoing, SendsMessage, SendsNothing, SendsStatus, Acknowledges, after_sending, goes_out}
+use Rattle.exchange_rules.proofs.Definitions.{Configuration, FailureReason, ChangeoverTimer, Procedure, Changeover, Code, Reroute, HoldSet, holds, lifted, with_hold, with_flows, may_hold, flows_leave, flows_add, Facts, completed, Parts, Node, with_parts, in_service, is_link, down, has_other, is_ordered, set_of, is_failed, is_taken_back, suspended, facts, Found, fail_link, make_unavailable, change_over, begin, changing, changeover_order, begin_by_peer, fail, fail_by_peer, fail_by_order, complete_if, concluded, complete_by_order, on_changeover_order, on_changeover_acknowledgement, on_changeover_timer, changeover_acknowledgement, changeover_of, with_changeover, with_changeover_acknowledged, with_expiry, without_tests, answer, Handled, Ignored, hold_flows, procedure_by, held_by_rerouting, WholeQueues, whole, Outgoing, SendsMessage, SendsNothing, SendsStatus, Acknowledges, after_sending, goes_out}
 use Rattle.signalling_types.specs.declared.notice.FailureReason.TheVariants as reasons
 use Rattle.signalling_types.specs.declared.notice.ChangeoverTimer.TheVariants as which
 use Rattle.changeback.specs.Rerouting.{held_for}
@@ -104,7 +104,7 @@ module _ (May : Deed → Type 0) where
     begun false link n = same n _ refl
 
     changed : (served : Bool) (link : ℕ) (n : Node WholeQueues) → Ends May n (change_over whole c served link n)
-    changed true link n = begun (has_other c link n.parts) link n
+    changed true link n = begun (is_ordered c link n.parts) link n
     changed false link n = same n n refl
 
     fails : (link : ℕ) (why : FailureReason) (n : Node WholeQueues) → Ends May n (fail whole c link why n)

@@ -1,6 +1,6 @@
 -- A link fails, and its changeover goes on and ends: every hold has its timer or its word all the while.
 use Rattle.exchange_rules.proofs.Basics.{◌≡◌, inr, ◌<◌, ℕ, Bool, true, false, List, length, Option, None, refl, ap, sym, ◌∙◌, subst, arith, ⊎_elim, get_or-set_other, get_or-set_same, nat_lt, if◌then◌else◌}
-use Rattle.exchange_rules.proofs.Definitions.{Configuration, FailureReason, ChangeoverTimer, Changeover, HoldSet, holds, flows_leave, Standing, no_changeover, completed, acknowledged, failed, begun_by_peer, TimerName, Running, NodeCounts, is_running, clear_timer, left-clear_other, counts-clear, counts-clear_set, without_tests, answer, Handled, Ignored, Parts, Node, Found, with_parts, in_service, down, is_link, changeover_of, with_changeover, fail_link, has_other, set_of, suspended, is_failed, make_unavailable, changing, begin, change_over, fail_by_peer, begin_by_peer, facts, changeover_order, concluded, complete_if, fail_by_order, complete_by_order, changeover_acknowledgement, on_changeover_order, on_changeover_timer, with_expiry, with_changeover_acknowledged, down_link, link_at, after_failure, in_outage, WholeQueues, whole, HasAllPlaces}
+use Rattle.exchange_rules.proofs.Definitions.{Configuration, FailureReason, ChangeoverTimer, Changeover, HoldSet, holds, flows_leave, Standing, no_changeover, completed, acknowledged, failed, begun_by_peer, TimerName, Running, NodeCounts, is_running, clear_timer, left-clear_other, counts-clear, counts-clear_set, without_tests, answer, Handled, Ignored, Parts, Node, Found, with_parts, in_service, down, is_link, changeover_of, with_changeover, fail_link, has_other, is_ordered, set_of, suspended, is_failed, make_unavailable, changing, begin, change_over, fail_by_peer, begin_by_peer, facts, changeover_order, concluded, complete_if, fail_by_order, complete_by_order, changeover_acknowledgement, on_changeover_order, on_changeover_timer, with_expiry, with_changeover_acknowledged, down_link, link_at, after_failure, in_outage, WholeQueues, whole, HasAllPlaces}
 use Rattle.std.proofs.lemmas.Bool.{lt-ltb}
 use Rattle.timers.specs.declared.name.TimerName.TheVariants as name
 use Rattle.timers.specs.declared.name.RouteTimer.TheVariants as of_set
@@ -53,10 +53,10 @@ module _ (c : Configuration) where
 
   -- ---- a link fails
 
-  has-own : (n : Node WholeQueues) (link : ℕ) → HasAllPlaces c n → in_service n.parts link ≡ true → nat_lt link n.parts.timers.counts.links ≡ true
+  pub has-own : (n : Node WholeQueues) (link : ℕ) → HasAllPlaces c n → in_service n.parts link ≡ true → nat_lt link n.parts.timers.counts.links ≡ true
   has-own n link h e = lt-ltb link n.parts.timers.counts.links (omega (arith, serving-there n.parts link e, h.parts.links, h.timers.links))
 
-  standing-there : (n : Node WholeQueues) (link : ℕ) → HasAllPlaces c n → in_service n.parts link ≡ true → link < length n.parts.changeovers
+  pub standing-there : (n : Node WholeQueues) (link : ℕ) → HasAllPlaces c n → in_service n.parts link ≡ true → link < length n.parts.changeovers
   standing-there n link h e = omega (arith, serving-there n.parts link e, h.parts.links, h.parts.changeovers)
 
   -- in service: its flows are held, and the link goes down
@@ -67,10 +67,10 @@ module _ (c : Configuration) where
     abbrev held : Parts
     held = suspended c link (whole.unconfirmed n.queues link) n.parts
 
-    gone-alike : Alike (fail_link link why held) gone.parts
+    pub gone-alike : Alike (fail_link link why held) gone.parts
     gone-alike = untested-alike (has_other c link (fail_link link why held)) (set_of c link) (fail_link link why held)
 
-    gone-counts : gone.parts.timers.counts ≡ n.parts.timers.counts
+    pub gone-counts : gone.parts.timers.counts ≡ n.parts.timers.counts
     gone-counts = by (has_other c link (fail_link link why held))
       where
         by : (others : Bool) → (if others then fail_link link why held else without_tests (set_of c link) (fail_link link why held)).timers.counts ≡ n.parts.timers.counts
@@ -110,7 +110,7 @@ module _ (c : Configuration) where
   pub fails-by : (served : Bool) (link : ℕ) (why : FailureReason) (n : Node WholeQueues) → in_service n.parts link ≡ served → HasAllPlaces c n → AllWillEnd n.parts
       → AllWillEnd (change_over whole c served link (make_unavailable whole c served link why n)).parts
   fails-by false link why n e h a = alike-stay n.parts _ (dropped-alike link why n e) a
-  fails-by true link why n e h a = by (has_other c link (gone link why n).parts)
+  fails-by true link why n e h a = by (is_ordered c link (gone link why n).parts)
     where
       by : (ordered : Bool) → AllWillEnd (begin whole c ordered link (gone link why n)).parts
       by true =

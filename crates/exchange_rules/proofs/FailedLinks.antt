@@ -1,6 +1,6 @@
 -- Each link that goes down is named as failed, and none is named without a cause.
 use Rattle.exchange_rules.proofs.Basics.{◌≡◌, ◌≢◌, ◌<◌, ◌≤◌, ◌⊎◌, inl, inr, ℕ, Bool, true, false, List, [], ◌∷◌, Option, Some, None, refl, ap, sym, ◌∙◌, subst, arith, ⊎_elim, cases_eq, cases_lt, if◌then◌else◌, count_by}
-use Rattle.exchange_rules.proofs.Definitions.{period_of, Configuration, Message, flow_of, LostUnconfirmed, note, FailureReason, ChangeoverTimer, Link, is_down, stepped, opened_by, after_failure, Facts, completed, Parts, Node, with_parts, link_at, links_with, in_service, is_link, down, has_other, set_of, suspended, Found, fail_link, make_unavailable, change_over, begin, changing, changeover_order, begin_by_peer, fail, fail_by_peer, fail_by_order, complete_if, concluded, lose, lose_each, judged, complete_by_order, on_changeover_order, on_changeover_acknowledgement, on_changeover_timer, changeover_acknowledgement, changeover_of, with_changeover, with_changeover_acknowledged, with_expiry, without_tests, answer, Handled, Ignored, hold_flows, held_by_rerouting, WholeQueues, whole, apply, Happening, CameUp, FrameCame, Ticked, Abstract}
+use Rattle.exchange_rules.proofs.Definitions.{period_of, Configuration, Message, flow_of, LostUnconfirmed, note, FailureReason, ChangeoverTimer, Link, is_down, stepped, opened_by, after_failure, Facts, completed, Parts, Node, with_parts, link_at, links_with, in_service, is_link, down, has_other, is_ordered, set_of, suspended, Found, fail_link, make_unavailable, change_over, begin, changing, changeover_order, begin_by_peer, fail, fail_by_peer, fail_by_order, complete_if, concluded, lose, lose_each, judged, complete_by_order, on_changeover_order, on_changeover_acknowledgement, on_changeover_timer, changeover_acknowledgement, changeover_of, with_changeover, with_changeover_acknowledged, with_expiry, without_tests, answer, Handled, Ignored, hold_flows, held_by_rerouting, WholeQueues, whole, apply, Happening, CameUp, FrameCame, Ticked, Abstract}
 use Rattle.std.specs.Prelude.{Contains}
 use Rattle.std.proofs.lemmas.List.Elements.{Contains-push}
 use Rattle.signalling_types.specs.declared.notice.Notice.TheVariants as notices
@@ -71,7 +71,7 @@ module _ (May : Deed → Type 0) where
     begun false link n = same May n _ refl refl
 
     changed : (served : Bool) (link : ℕ) (n : Node WholeQueues) → Names May n (change_over whole c served link n)
-    changed true link n = begun (has_other c link n.parts) link n
+    changed true link n = begun (is_ordered c link n.parts) link n
     changed false link n = same May n n refl refl
 
     fails : (link : ℕ) (why : FailureReason) (n : Node WholeQueues) → May (LinkFails link why) → down n.parts link ≡ false → Names May n (fail whole c link why n)

@@ -1,6 +1,6 @@
 -- A failure holds the flows that fail with the link, and nothing after it touches holds.
 use Rattle.exchange_rules.proofs.Basics.{◌≡◌, ◌<◌, ◌≤◌, ℕ, zero, suc, Bool, true, false, ◌&&◌, ◌||◌, not, List, [], ◌∷◌, length, nat_eq, Option, Some, None, refl, ap, sym, ◌∙◌, arith, inl, inr, if◌then◌else◌, Contains, list_any, option_eq, ⊎_elim, and_parts, cases_lt, eq-eqb, eqb-true, nat_tests, get_or_past, or_left as in-front, or_right as also-behind, and_from as both}
-use Rattle.exchange_rules.proofs.Definitions.{Message, flow_of, is_management, Cause, FailureReason, Configuration, destination_place, Facts, chosen_link, Link, down_link, is_in_service, Changeover, SELECTIONS, HoldSet, holds, may_hold, with_flows, flows_leave, Parts, Node, with_parts, in_service, facts, goes_by, link_of, no_room, send, WholeQueues, whole, is_of_flow, is_failed, suspended, set_of, without_tests, has_other, changeover_order, changing, fail_link, without_tests_if_last, make_unavailable, begin, change_over, fail, begin_by_peer, fail_by_peer, HasPlacesFor}
+use Rattle.exchange_rules.proofs.Definitions.{Message, flow_of, is_management, Cause, FailureReason, Configuration, destination_place, Facts, chosen_link, Link, down_link, is_in_service, Changeover, SELECTIONS, HoldSet, holds, may_hold, with_flows, flows_leave, Parts, Node, with_parts, in_service, facts, goes_by, link_of, no_room, send, WholeQueues, whole, is_of_flow, is_failed, suspended, set_of, without_tests, has_other, is_ordered, changeover_order, changing, fail_link, without_tests_if_last, make_unavailable, begin, change_over, fail, begin_by_peer, fail_by_peer, HasPlacesFor}
 use Rattle.signalling_types.specs.declared.notice.FailureReason.TheVariants as reasons
 use Rattle.flow_hold.proofs.FlowPairs.{IsAddedPair, flows_has, flows_keep, flows_was}
 use Rattle.exchange_rules.specs.LawsOfFailures.{HasUnconfirmed, FailsWith, IsFailure, failures_hold_their_flows, failures_by_peer_hold_their_flows, idle_failures_hold_nothing, idle_failures_by_peer_hold_nothing}
@@ -99,7 +99,7 @@ module _ (c : Configuration) where
   begin-holds false link n = refl
 
   change_over-holds : (b : Bool) (link : ℕ) (n : Node WholeQueues) → (change_over whole c b link n).parts.holds ≡ n.parts.holds
-  change_over-holds true link n = begin-holds (has_other c link n.parts) link n
+  change_over-holds true link n = begin-holds (is_ordered c link n.parts) link n
   change_over-holds false link n = refl
 
   begin_by_peer-holds : (b : Bool) (link : ℕ) (n : Node WholeQueues) → (begin_by_peer whole c b link n).parts.holds ≡ n.parts.holds

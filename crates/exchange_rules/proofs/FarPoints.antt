@@ -56,7 +56,7 @@ module _ (c : Configuration) (link : ℕ) (m : Message) (node : Node WholeQueues
       then do_test whole c (read_link_test m.sif) link (opc_of m) node
       else do_management whole c (read_management m.sif) (opc_of m) node
 
-  managed : is_management m ≡ true → (b : Bool) → is_adjacent c (opc_of m) ≡ b → distribute whole c link m node ≡ (if b then near else answer (from_afar c m) node)
+  pub managed : is_management m ≡ true → (b : Bool) → is_adjacent c (opc_of m) ≡ b → distribute whole c link m node ≡ (if b then near else answer (from_afar c m) node)
   managed e b adjacent =
       ap (λ (x : Bool). if x then manage whole c link m node else local whole c (Some link) m node) e
       ∙ ap (λ (x : Bool). if x then near else answer (from_afar c m) node) adjacent

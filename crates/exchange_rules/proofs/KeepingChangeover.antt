@@ -1,7 +1,7 @@
 -- A link fails, a changeover goes on, a link returns: what is kept of the node that a rule leaves is what the rule
 -- leaves of what was kept, and it stays sound. Over any two kinds of queues P and Q of which h keeps one as the other.
 use Rattle.exchange_rules.proofs.Basics.{◌≡◌, ℕ, zero, suc, Bool, true, false, List, Option, Some, None, refl, ap, ◌∙◌, if◌then◌else◌}
-use Rattle.exchange_rules.proofs.Definitions.{Message, Configuration, Cause, Handled, Ignored, FailureReason, ChangeoverTimer, completed, Facts, free_code, is_outstanding, Node, Found, QueueKind, keep, with_parts, answer, is_link, down, in_service, facts, set_of, send_routed, suspended, fail_link, without_tests_if_last, changeover_order, changeover_of, with_changeover, has_other, changing, make_unavailable, begin, change_over, fail, begin_by_peer, fail_by_peer, concluded, changeover_acknowledgement, with_expiry, with_changeover_acknowledged, send_each, conclude, complete_if, fail_by_order, complete_by_order, acknowledge_changeover, on_changeover_order, on_changeover_acknowledgement, on_changeover_timer, declaration, code_in_use, freed, if_room, procedure_by, loses_flows, with_flows_held, usable, code_for, declare_by, hold_flows, take_back, take_back_each, on_changeback_acknowledgement, return_if}
+use Rattle.exchange_rules.proofs.Definitions.{Message, Configuration, Cause, Handled, Ignored, FailureReason, ChangeoverTimer, completed, Facts, free_code, is_outstanding, Node, Found, QueueKind, keep, with_parts, answer, is_link, down, in_service, facts, set_of, send_routed, suspended, fail_link, without_tests_if_last, changeover_order, changeover_of, with_changeover, is_ordered, changing, make_unavailable, begin, change_over, fail, begin_by_peer, fail_by_peer, concluded, changeover_acknowledgement, with_expiry, with_changeover_acknowledged, send_each, conclude, complete_if, fail_by_order, complete_by_order, acknowledge_changeover, on_changeover_order, on_changeover_acknowledgement, on_changeover_timer, declaration, code_in_use, freed, if_room, procedure_by, loses_flows, with_flows_held, usable, code_for, declare_by, hold_flows, take_back, take_back_each, on_changeback_acknowledgement, return_if}
 use Rattle.std.specs.Prelude.{nat_eq, length}
 use Rattle.signalling_types.specs.declared.notice.FailureReason.TheVariants as reasons
 use Rattle.exchange_rules.proofs.Combining.{IsKeeping, KeepsNode, Keeps, changed, answered, parted, parts-kept, either, either_node, behind_node}
@@ -30,7 +30,7 @@ module _ {P Q : Type 0} (p : QueueKind P) (q : QueueKind Q) (h : P → Q) (IsFit
   begin-kept false l n f = record { same = refl; fit = f }
 
   change_over-kept : (b : Bool) (l : ℕ) (n : Node P) → IsFit n.queues → KeepsNode h IsFit (change_over q c b l (keep h n)) (change_over p c b l n)
-  change_over-kept true l n f = begin-kept (has_other c l n.parts) l n f
+  change_over-kept true l n f = begin-kept (is_ordered c l n.parts) l n f
   change_over-kept false l n f = record { same = refl; fit = f }
 
   pub fail-kept : (l : ℕ) (why : FailureReason) (n : Node P) → IsFit n.queues → KeepsNode h IsFit (fail q c l why (keep h n)) (fail p c l why n)

@@ -1,6 +1,6 @@
 -- Which events change translation rows and prohibited subsystems: what is heard, a tick, and orders about rows.
 use Rattle.exchange_rules.proofs.Basics.{◌≡◌, ◌⊎◌, inl, inr, ⊎_elim, ℕ, Bool, true, false, List, [], ◌∷◌, Option, Some, None, refl, ap, sym, ◌∙◌, if◌then◌else◌}
-use Rattle.exchange_rules.proofs.Definitions.{Message, flow_of, Configuration, TitleEntry, TitleKey, FailureReason, ChangeoverTimer, Facts, Cause, Found, TitlesValue, place_of, has_row, without_row, ticked, due_count, Parts, Node, Done, answer, refuse, with_parts, is_link, in_service, down, link_of, waits, no_room, facts, own_of, has_other, set_of, changeover_of, with_expiry, changeover_order, changeover_acknowledgement, whole, WholeQueues, fail, fail_link, suspended, make_unavailable, change_over, begin, begin_by_peer, fail_by_peer, fail_by_order, without_tests, lose_each, lose, judged, send, send_each, send_anew, complete_if, complete_by_order, on_changeover_order, on_changeover_acknowledgement, on_changeover_timer, with_changeover_acknowledged, hold_flows, held_by_rerouting, go, go_by, go_each, go_on, release, tell_owed, tell_each, tell_if, tell, route_message, told_parts, may_tell, owed, with_timers, run_all, handle_event, apply, add_title_unless, title_refusal, with_rows, Happening, Ticked, TitleAdded, TitleRemoved, Owed}
+use Rattle.exchange_rules.proofs.Definitions.{Message, flow_of, Configuration, TitleEntry, TitleKey, FailureReason, ChangeoverTimer, Facts, Cause, Found, TitlesValue, place_of, has_row, without_row, ticked, due_count, Parts, Node, Done, answer, refuse, with_parts, is_link, in_service, down, link_of, waits, no_room, facts, own_of, has_other, is_ordered, set_of, changeover_of, with_expiry, changeover_order, changeover_acknowledgement, whole, WholeQueues, fail, fail_link, suspended, make_unavailable, change_over, begin, begin_by_peer, fail_by_peer, fail_by_order, without_tests, lose_each, lose, judged, send, send_each, send_anew, complete_if, complete_by_order, on_changeover_order, on_changeover_acknowledgement, on_changeover_timer, with_changeover_acknowledged, hold_flows, held_by_rerouting, go, go_by, go_each, go_on, release, tell_owed, tell_each, tell_if, tell, route_message, told_parts, may_tell, owed, with_timers, run_all, handle_event, apply, add_title_unless, title_refusal, with_rows, Happening, Ticked, TitleAdded, TitleRemoved, Owed}
 use Rattle.signalling_types.specs.declared.cause.Cause.TheVariants.{LostUnconfirmed, NoSuchName}
 use Rattle.signalling_types.specs.declared.outcome.Outcome.TheVariants.{Handled, Ignored}
 use Rattle.signalling_types.specs.declared.notice.FailureReason.TheVariants as reasons
@@ -58,7 +58,7 @@ module _ (c : Configuration) where
   begin-same false link n = refl
 
   change_over-same : (served : Bool) (link : ℕ) (n : Node WholeQueues) → Same n (change_over whole c served link n)
-  change_over-same true link n = begin-same (has_other c link n.parts) link n
+  change_over-same true link n = begin-same (is_ordered c link n.parts) link n
   change_over-same false link n = refl
 
   fail-same : (link : ℕ) (why : FailureReason) (n : Node WholeQueues) → Same n (fail whole c link why n)

@@ -15,7 +15,7 @@ steady-all c l = record { rules = rules-of (steady-steps true c l); ticks = tick
 -- ---- a link that isn't there
 
 first-link : (w : ℕ) → w ≤ WINDOW → IsSteady w down_link no_changeover first_queue false
-first-link w l = record { queue = sound-first w l; associated = λ e. refl; changing = λ e. refl; moved = λ e f. refl; watched = refl }
+first-link w l = record { queue = sound-first w l; associated = λ e. refl; changing = λ e. refl; awaiting = λ e. refl; moved = λ e f. refl; watched = refl }
 
 steady-as : (w : ℕ) (x y : Link) (s t : Standing) (q p : Queue) (b d : Bool) → y ≡ x → t ≡ s → p ≡ q → d ≡ b → IsSteady w x s q b → IsSteady w y t p d
 steady-as w x y s t q p b d e f g k h =

@@ -156,6 +156,9 @@ pub mod ProvingTimes
 pub mod FarPoints
 pub mod LedRows
 pub mod ProcedureExamples
+pub mod OrderExamples
 pub mod ToldRoutes
 pub mod OrderedLinks
+pub mod OrdersByAnyRoute
+pub mod AnsweredOrders
 pub mod ReroutedFlows

@@ -1,7 +1,7 @@
 -- Of the timers that may take a link into service or out of it, no failure, changeover or return sets one, and no step
 -- of an alignment any but one of a test.
 use Rattle.exchange_rules.proofs.Basics.{◌≡◌, ℕ, zero, suc, Bool, true, false, ◌&&◌, not, List, [], ◌∷◌, length, Option, Some, None, refl, ap, sym, ◌∙◌, if◌then◌else◌}
-use Rattle.exchange_rules.proofs.Definitions.{enters_traffic, without_timers, take_step, test_if, queue_if, send_test, begin_test, repeat_test, test_unanswered, with_test_failed, awaiting_test, answer_ticks, link_test, tests_links, Cause, link_at, Message, flow_of, Configuration, FailureReason, Facts, Transition, TimerName, Running, set_timer, left-set_other, left-clear_set_other, is_of_set, clear_set, Parts, Node, with_parts, answer, Handled, Ignored, in_service, down, set_of, facts, suspended, fail_link, has_other, without_tests, make_unavailable, changing, begin, change_over, begin_by_peer, fail_by_peer, fail_by_order, complete_by_order, complete_if, completed, changeover_of, with_changeover, changeover_order, send_routed, changeover_acknowledgement, on_changeover_order, with_changeover_acknowledged, no_room, link_of, loses_flows, code_for, hold_flows, take_back_each, held_by_rerouting, step_on, enters, begun_anew_if, moved_on, return_if, advance, WholeQueues, whole}
+use Rattle.exchange_rules.proofs.Definitions.{enters_traffic, without_timers, take_step, test_if, queue_if, send_test, begin_test, repeat_test, test_unanswered, with_test_failed, awaiting_test, answer_ticks, link_test, tests_links, Cause, link_at, Message, flow_of, Configuration, FailureReason, Facts, Transition, TimerName, Running, set_timer, left-set_other, left-clear_set_other, is_of_set, clear_set, Parts, Node, with_parts, answer, Handled, Ignored, in_service, down, set_of, facts, suspended, fail_link, has_other, is_ordered, without_tests, make_unavailable, changing, begin, change_over, begin_by_peer, fail_by_peer, fail_by_order, complete_by_order, complete_if, completed, changeover_of, with_changeover, changeover_order, send_routed, changeover_acknowledgement, on_changeover_order, with_changeover_acknowledged, no_room, link_of, loses_flows, code_for, hold_flows, take_back_each, held_by_rerouting, step_on, enters, begun_anew_if, moved_on, return_if, advance, WholeQueues, whole}
 use Rattle.timers.proofs.Maps.{left-clear_set}
 use Rattle.timers.specs.declared.name.TimerName.TheVariants as name
 use Rattle.timers.specs.declared.name.RouteTimer.{RouteTimer}
@@ -105,7 +105,7 @@ module _ (c : Configuration) where
   fails-kept false link why n = gone-kept false link why n
   fails-kept true link why n =
       let gone : Node WholeQueues = make_unavailable whole c true link why n in
-      kept-both n gone _ (gone-kept true link why n) (begun-kept true (has_other c link gone.parts) link gone)
+      kept-both n gone _ (gone-kept true link why n) (begun-kept true (is_ordered c link gone.parts) link gone)
 
   -- but for the timers of the link, which stopped
   gone-from : (served : Bool) (link : ℕ) (why : FailureReason) (n : Node WholeQueues) → Kept (stopped link n) (make_unavailable whole c served link why n)
@@ -118,7 +118,7 @@ module _ (c : Configuration) where
   fails-from false link why n = gone-from false link why n
   fails-from true link why n =
       let gone : Node WholeQueues = make_unavailable whole c true link why n in
-      kept-both (stopped link n) gone _ (gone-from true link why n) (begun-kept true (has_other c link gone.parts) link gone)
+      kept-both (stopped link n) gone _ (gone-from true link why n) (begun-kept true (is_ordered c link gone.parts) link gone)
 
   by_peer-kept : (served : Bool) (link : ℕ) (n : Node WholeQueues) → Kept n (begin_by_peer whole c served link (make_unavailable whole c served link reasons.Changeover n))
   by_peer-kept false link n = gone-kept false link reasons.Changeover n

@@ -1,6 +1,6 @@
 -- What a management message says that a node makes, and what its addressee does with it.
 use Rattle.exchange_rules.proofs.Basics.{◌≡◌, ◌<◌, ◌≤◌, ◌^◌, ℕ, true, false, None, Ok, length, nat_eq, nat_lt, [], refl, ap, arith, slice_index_or, ⊎_elim, cases_lt, nat_tests, get_or_past}
-use Rattle.exchange_rules.proofs.Definitions.{Message, dpc_of, opc_of, service_indicator, network_indicator, is_management, SIF_OCTETS, Configuration, LinkEntry, IsWell, IsLink, label_at, Management, IsManagement, read_management, management_to, entry_of, whither_goes}
+use Rattle.exchange_rules.proofs.Definitions.{Message, dpc_of, opc_of, service_indicator, network_indicator, is_management, SIF_OCTETS, Configuration, LinkEntry, SetEntry, IsWell, IsLink, IsSet, adjacent_of, label_at, Management, IsManagement, read_management, management_to, entry_of, whither_goes}
 use Rattle.mtp3_codec.specs.declared.label.Label.{Label}
 use Rattle.mtp3_codec.specs.declared.discrimination.Discrimination.TheVariants.{Here}
 use Rattle.mtp3_codec.proofs.Reading.{label_of, its-label, message-back, octets-fit, octets-long}
@@ -44,6 +44,15 @@ code-fits c well link =
     (λ (there : link < length c.links). (let known : IsLink (length c.sets) (slice_index_or c.links link none) = well.links link none there in known.slc))
     (λ (past : length c.links ≤ link). (let first : (entry_of c link).slc ≡ 0 = ap (λ (l : LinkEntry). l.slc) (get_or_past c.links link none past) in omega (arith, first)))
     (cases_lt link (length c.links))
+
+-- and its point, too
+pub adjacent-fits : (c : Configuration) → IsWell c → (set : ℕ) → adjacent_of c set < 2 ^ 14
+adjacent-fits c well set =
+    let none : SetEntry = record { name = []; adjacent = 0 } in
+    ⊎_elim
+    (λ (there : set < length c.sets). (let known : IsSet c.own (slice_index_or c.sets set none) = well.sets set none there in known.adjacent.fits))
+    (λ (past : length c.sets ≤ set). (let first : adjacent_of c set ≡ 0 = ap (λ (s : SetEntry). s.adjacent) (get_or_past c.sets set none past) in omega (arith, first)))
+    (cases_lt set (length c.sets))
 
 -- ---- the node that it is for
 

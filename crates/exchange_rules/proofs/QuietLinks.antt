@@ -1,6 +1,6 @@
 -- Links that fail and return: what each rule sends in vain, and how many notices it makes.
 use Rattle.exchange_rules.proofs.Basics.{List, [], ◌||◌, Bool, None, Option, Some, arith, false, not, refl, true, ℕ, ◌&&◌, if◌then◌else◌}
-use Rattle.exchange_rules.proofs.Definitions.{enters_traffic, acts_on, Action, Expiry, Status, LinkTimer, Transition, LinkStatus, Configuration, FailureReason, FrameFault, Handled, Ignored, changeover_order, fail_link, suspended, without_tests, fail_by_order, begin, begin_by_peer, change_over, changing, fail, fail_by_peer, has_other, make_unavailable, leave_aside, down, in_service, is_link, link_at, activate, association_down, deactivate, end_association, fail_if_up, set_active, set_of, WholeQueues, whole, facts, Node, Parts, answer, refuse, with_parts, act_by_status, act_by_timer, advance, begun_anew_if, enters, moved_on, step_on, on_link_status, run_out, serve_status, tells_outage, tells_recovery, begin_outage, hear_outage, end_outage, become_busy, end_busy, let_back, take_step, test_if, queue_if, send_test, begin_test, repeat_test, test_unanswered, with_test_failed, awaiting_test, link_test, tests_links, no_room, Cause, Notice}
+use Rattle.exchange_rules.proofs.Definitions.{enters_traffic, acts_on, Action, Expiry, Status, LinkTimer, Transition, LinkStatus, Configuration, FailureReason, FrameFault, Handled, Ignored, changeover_order, fail_link, suspended, without_tests, fail_by_order, begin, begin_by_peer, change_over, changing, fail, fail_by_peer, has_other, is_ordered, make_unavailable, leave_aside, down, in_service, is_link, link_at, activate, association_down, deactivate, end_association, fail_if_up, set_active, set_of, WholeQueues, whole, facts, Node, Parts, answer, refuse, with_parts, act_by_status, act_by_timer, advance, begun_anew_if, enters, moved_on, step_on, on_link_status, run_out, serve_status, tells_outage, tells_recovery, begin_outage, hear_outage, end_outage, become_busy, end_busy, let_back, take_step, test_if, queue_if, send_test, begin_test, repeat_test, test_unanswered, with_test_failed, awaiting_test, link_test, tests_links, no_room, Cause, Notice}
 use Rattle.link.specs.declared.action.Action.TheVariants as act
 use Rattle.signalling_types.specs.declared.cause.Cause.TheVariants as causes
 use Rattle.signalling_types.specs.declared.notice.FrameFault.TheVariants as faults
@@ -35,7 +35,7 @@ module _ (c : Configuration) where
   order-sends false link n = more-quiet 0 1 n _ (omega arith) (same-quiet n _ refl refl refl)
 
   beginning-sends : (served : Bool) (link : ℕ) (n : Node WholeQueues) → Sends (unsent_beginning c served link n) 1 n (change_over whole c served link n)
-  beginning-sends true link n = order-sends (has_other c link n.parts) link n
+  beginning-sends true link n = order-sends (is_ordered c link n.parts) link n
   beginning-sends false link n = any-quiet 1 n
 
   pub fail-sends : (link : ℕ) (why : FailureReason) (n : Node WholeQueues) → Sends (unsent_failing c link why n) 2 n (fail whole c link why n)

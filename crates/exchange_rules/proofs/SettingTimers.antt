@@ -1,6 +1,6 @@
 -- Whatever happens, timers are set to the values in the settings.
 use Rattle.exchange_rules.proofs.Basics.{◌≡◌, ◌≤◌, inl, inr, ℕ, zero, suc, ◌-◌, Bool, true, false, List, [], ◌∷◌, Option, Some, None, refl, sym, subst, ◌∙◌, arith, max, if◌then◌else◌}
-use Rattle.exchange_rules.proofs.Definitions.{Period, paced, period_of, apply, Configuration, FailureReason, ChangeoverTimer, Facts, opening, carries, completed, TimerName, one_less, ticked, due_name, after_due, after-clear, after-none, left-ticked, left-none, Found, Parts, Node, with_parts, link_at, in_service, down, is_link, set_of, has_other, suspended, fail_link, without_tests, make_unavailable, changing, begin, change_over, begin_by_peer, fail_by_peer, fail_by_order, complete_by_order, complete_if, concluded, lose_each, judged, changeover_of, with_changeover, changeover_order, changeover_acknowledgement, on_changeover_order, with_changeover_acknowledged, with_expiry, hold_flows, held_by_rerouting, answer, Handled, Ignored, with_timers, run_next, run_times, due_count, tick, Asking, Happens, Takes, AsksWants, Happening, CameUp, WentDown, FrameCame, Ticked, Submitted, Activated, Deactivated, TitleAdded, TitleRemoved, first_state, after_asking, after_each, Abstract, WholeQueues, whole, run_all}
+use Rattle.exchange_rules.proofs.Definitions.{Period, paced, period_of, apply, Configuration, FailureReason, ChangeoverTimer, Facts, opening, carries, completed, TimerName, one_less, ticked, due_name, after_due, after-clear, after-none, left-ticked, left-none, Found, Parts, Node, with_parts, link_at, in_service, down, is_link, set_of, has_other, is_ordered, suspended, fail_link, without_tests, make_unavailable, changing, begin, change_over, begin_by_peer, fail_by_peer, fail_by_order, complete_by_order, complete_if, concluded, lose_each, judged, changeover_of, with_changeover, changeover_order, changeover_acknowledgement, on_changeover_order, with_changeover_acknowledged, with_expiry, hold_flows, held_by_rerouting, answer, Handled, Ignored, with_timers, run_next, run_times, due_count, tick, Asking, Happens, Takes, AsksWants, Happening, CameUp, WentDown, FrameCame, Ticked, Submitted, Activated, Deactivated, TitleAdded, TitleRemoved, first_state, after_asking, after_each, Abstract, WholeQueues, whole, run_all}
 use Rattle.timers.specs.declared.name.TimerName.TheVariants as name
 use Rattle.timers.specs.declared.name.RouteTimer.TheVariants as of_set
 use Rattle.signalling_types.specs.declared.notice.FailureReason.TheVariants as reasons
@@ -56,7 +56,7 @@ module _ (c : Configuration) (E : ℕ → Type 0) where
   fails-sets false link why n = gone-sets false link why n
   fails-sets true link why n =
       let gone : Node WholeQueues = make_unavailable whole c true link why n in
-      both n gone _ (gone-sets true link why n) (begun-sets (has_other c link gone.parts) link gone)
+      both n gone _ (gone-sets true link why n) (begun-sets (is_ordered c link gone.parts) link gone)
 
   by_peer-sets : (served : Bool) (link : ℕ) (n : Node WholeQueues) → Sets c E n (begin_by_peer whole c served link (make_unavailable whole c served link reasons.Changeover n))
   by_peer-sets false link n = gone-sets false link reasons.Changeover n

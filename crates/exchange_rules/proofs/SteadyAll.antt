@@ -1,7 +1,7 @@
 -- Whatever an exchange is asked, each link stays steady: a timer L7 that runs out fails its link, so that it is exact
 -- again.
 use Rattle.exchange_rules.proofs.Basics.{◌≡◌, ◌<◌, ℕ, ◌-◌, Bool, true, false, ◌&&◌, not, List, length, Option, Some, None, Ok, refl, ap, sym, subst, ◌∙◌, if◌then◌else◌, is_some, get_or-set_same}
-use Rattle.exchange_rules.proofs.Definitions.{Period, period_of, Configuration, flow_of, Alignment, Action, Expiry, action_at, opening, Queue, Sending, first_queue, NodeCounts, TimerName, L7, is_same, Running, is_running, one_less, ticked, due_name, after_due, left-clear, left-clear_other, left-ticked, counts-after, after-clear, after-none, Link, down_link, is_in_service, opened_by, after_failure, Standing, Node, link_at, in_service, changeover_of, fail, Carrying, carries, numbers, may_open, open_link, SendsMessage, may_send, next_message, after_sending, act_by_timer, run_out, with_timers, run_due, run_next, WholeQueues, queue_at, whole, is_l7_running}
+use Rattle.exchange_rules.proofs.Definitions.{Period, period_of, Configuration, flow_of, Alignment, Action, Expiry, action_at, opening, Queue, Sending, first_queue, NodeCounts, TimerName, L7, is_same, Running, is_running, one_less, ticked, due_name, after_due, left-clear, left-clear_other, left-ticked, counts-after, after-clear, after-none, Link, down_link, is_in_service, opened_by, after_failure, Standing, may_restart, Node, link_at, in_service, changeover_of, fail, Carrying, carries, numbers, may_open, open_link, SendsMessage, may_send, next_message, after_sending, act_by_timer, run_out, with_timers, run_due, run_next, WholeQueues, queue_at, whole, is_l7_running}
 use Rattle.signalling_types.specs.declared.notice.FailureReason.TheVariants as reasons
 use Rattle.link.specs.declared.alignment.Alignment.TheVariants.{Down, NotAligned, Aligned, Proving, AlignedReady, InService}
 use Rattle.link.specs.declared.action.Action.TheVariants as act
@@ -49,7 +49,7 @@ module _ (exact : Bool) (c : Configuration) (l : ℕ) where
     };
   }
 
-  opened-keeps : (k : ℕ) (n : Node WholeQueues) → may_open (link_at n.parts k) ≡ true → (changeover_of n.parts k).incomplete ≡ false
+  opened-keeps : (k : ℕ) (n : Node WholeQueues) → may_open (link_at n.parts k) ≡ true → may_restart (changeover_of n.parts k) ≡ true
       → Keeps exact c l n (open_link whole c k n)
   opened-keeps k n e f =
       on-link exact c l k (opened_by c (period_of c k n.parts) (link_at n.parts k)) (changeover_of n.parts k) first_queue n (open_link whole c k n)
@@ -103,7 +103,7 @@ module _ (exact : Bool) (c : Configuration) (l : ℕ) where
     failed = λ link why st n e f. failed-keeps exact c l link why st n f;
     dropped = λ link why n e. dropped-keeps exact c l link why n e;
     completed = λ link number st n e f. completed-keeps exact c l link number st n e f;
-    answered = λ link st n e f w. answered-keeps exact c l link st n e f;
+    answered = λ link st n e f w. answered-keeps exact c l link st n e f w;
     linked = λ link x n e o. linked-keeps exact c l link x n e;
     parted = λ link n e. parted-keeps exact c l link n e;
     opened = λ link n own there e f. opened-keeps link n e f;

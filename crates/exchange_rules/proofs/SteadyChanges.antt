@@ -60,6 +60,7 @@ module _ (exact : Bool) (w : ℕ) (l : Link) (s : Standing) (q : Queue) (b : Boo
       queue = h.queue;
       associated = λ f. absurd (stepping-up (h.associated f));
       changing = λ f. absurd (stepping-up (h.changing f));
+      awaiting = λ f. absurd (stepping-up (h.awaiting f));
       moved = λ f g. h.moved (stepping-idle f) g;
       idle = λ f. h.idle (stepping-idle f);
       watched = stepped-watched (is_in_service l.alignment) refl;
@@ -75,6 +76,7 @@ module _ (exact : Bool) (w : ℕ) (l : Link) (s : Standing) (q : Queue) (b : Boo
       queue = k;
       associated = h.associated;
       changing = h.changing;
+      awaiting = h.awaiting;
       moved = λ g i. absurd (no-way (is_in_service l.alignment) g e);
       idle = λ g. absurd (no-way (is_in_service l.alignment) g e);
       watched = λ x. f x ∙ sym (serving-test l busy (nat_lt 0 (p.sent - p.confirmed)) e);

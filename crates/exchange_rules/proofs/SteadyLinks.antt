@@ -1,6 +1,6 @@
 -- A link by its state, its changeover, its queue and its L7: what each step does to these leaves it steady.
 use Rattle.exchange_rules.proofs.Basics.{◌≡◌, ℕ, ◌-◌, Bool, true, false, ◌&&◌, not, [], nat_lt, refl, ap, sym, ◌∙◌}
-use Rattle.exchange_rules.proofs.Definitions.{Period, Message, Alignment, Queue, IsQueue, first_queue, appended, emptied, sound-first, sound-appended, sound-emptied, Link, is_down, is_in_service, opened, after_failure, Standing, may_send, IsSteady}
+use Rattle.exchange_rules.proofs.Definitions.{Period, Message, Alignment, Queue, IsQueue, first_queue, appended, emptied, sound-first, sound-appended, sound-emptied, Link, is_down, is_in_service, opened, after_failure, Standing, may_restart, may_send, IsSteady}
 use Rattle.exchange_rules.proofs.Serving.{down-is}
 
 -- a link is steady, but where its L7 has just run out (then it isn't exact whether that runs): out of service it
@@ -9,6 +9,7 @@ pub record Stands (exact : Bool) (w : ℕ) (l : Link) (s : Standing) (q : Queue)
   pub queue : IsQueue w q
   pub associated : l.association ≡ false → is_down l.alignment ≡ true
   pub changing : s.incomplete ≡ true → is_down l.alignment ≡ true
+  pub awaiting : s.awaited ≡ true → is_down l.alignment ≡ true
   pub moved : is_in_service l.alignment ≡ false → s.incomplete ≡ false → q.all ≡ []
   pub idle : is_in_service l.alignment ≡ false → b ≡ false
   pub watched : exact ≡ true → b ≡ (may_send l && nat_lt 0 (q.sent - q.confirmed))
@@ -26,18 +27,35 @@ idle-test l b e = ap (λ (serves : Bool). serves && not l.peer_busy && b) e
 no-way : (b : Bool) → b ≡ false → b ≡ true → ⊥
 no-way b e f = (let no : false ≡ true = sym e ∙ f in cc)
 
+-- a link that may open again is complete, and awaits no answer
+complete : (s : Standing) → may_restart s ≡ true → s.incomplete ≡ false
+complete s r = of_both s.incomplete s.awaited r
+  where
+    of_both : (incomplete awaited : Bool) → (not incomplete && not awaited) ≡ true → incomplete ≡ false
+    of_both false awaited e = refl
+    of_both true awaited e = absurd cc
+
+unawaited : (s : Standing) → may_restart s ≡ true → s.awaited ≡ false
+unawaited s r = of_both s.incomplete s.awaited r
+  where
+    of_both : (incomplete awaited : Bool) → (not incomplete && not awaited) ≡ true → awaited ≡ false
+    of_both false false e = refl
+    of_both false true e = absurd cc
+    of_both true awaited e = absurd cc
+
 pub steady-stands : (w : ℕ) (l : Link) (s : Standing) (q : Queue) (b : Bool) → IsSteady w l s q b → Stands true w l s q b
 steady-stands w l s q b h = record {
   queue = h.queue;
   associated = h.associated;
   changing = h.changing;
+  awaiting = h.awaiting;
   moved = h.moved;
   idle = λ e. h.watched ∙ idle-test l (nat_lt 0 (q.sent - q.confirmed)) e;
   watched = λ e. h.watched;
 }
 
 pub stands-steady : (w : ℕ) (l : Link) (s : Standing) (q : Queue) (b : Bool) → Stands true w l s q b → IsSteady w l s q b
-stands-steady w l s q b h = record { queue = h.queue; associated = h.associated; changing = h.changing; moved = h.moved; watched = h.watched refl }
+stands-steady w l s q b h = record { queue = h.queue; associated = h.associated; changing = h.changing; awaiting = h.awaiting; moved = h.moved; watched = h.watched refl }
 
 -- where a link is out of service, it is exact after all
 pub exact-idle : (x y : Bool) (w : ℕ) (l : Link) (s : Standing) (q : Queue) (b : Bool) → is_in_service l.alignment ≡ false → Stands x w l s q b → Stands y w l s q b
@@ -45,6 +63,7 @@ exact-idle x y w l s q b e h = record {
   queue = h.queue;
   associated = h.associated;
   changing = h.changing;
+  awaiting = h.awaiting;
   moved = h.moved;
   idle = h.idle;
   watched = λ f. h.idle e ∙ sym (idle-test l (nat_lt 0 (q.sent - q.confirmed)) e);
@@ -56,6 +75,7 @@ run-out w l s q b h = record {
   queue = h.queue;
   associated = h.associated;
   changing = h.changing;
+  awaiting = h.awaiting;
   moved = h.moved;
   idle = λ e. refl;
   watched = λ f. absurd cc;
@@ -69,6 +89,7 @@ module _ (exact : Bool) (w : ℕ) (l : Link) (s : Standing) (q : Queue) (b : Boo
     queue = sound-appended q m h.queue;
     associated = h.associated;
     changing = h.changing;
+    awaiting = h.awaiting;
     moved = λ f g. absurd (no-way (is_in_service l.alignment) f e);
     idle = h.idle;
     watched = h.watched;
@@ -81,6 +102,7 @@ module _ (exact : Bool) (w : ℕ) (l : Link) (s : Standing) (q : Queue) (b : Boo
     queue = h.queue;
     associated = λ e. refl;
     changing = λ e. refl;
+    awaiting = λ e. refl;
     moved = λ e f. absurd (no-way t.incomplete f i);
     idle = λ e. refl;
     watched = λ e. refl;
@@ -91,6 +113,7 @@ module _ (exact : Bool) (w : ℕ) (l : Link) (s : Standing) (q : Queue) (b : Boo
     queue = h.queue;
     associated = λ f. refl;
     changing = λ f. refl;
+    awaiting = λ f. refl;
     moved = λ f g. h.moved e g;
     idle = λ f. refl;
     watched = λ f. refl;
@@ -103,16 +126,18 @@ module _ (exact : Bool) (w : ℕ) (l : Link) (s : Standing) (q : Queue) (b : Boo
         queue = sound-emptied w q h.queue.limit;
         associated = h.associated;
         changing = λ g. absurd (no-way t.incomplete f g);
+        awaiting = λ g. h.changing i;
         moved = λ g k. refl;
         idle = h.idle;
         watched = λ g. h.idle down ∙ sym (idle-test l (nat_lt 0 (0 - 0)) down);
       }
 
-  pub stands-answered : (t : Standing) → s.incomplete ≡ false → t.incomplete ≡ false → Stands exact w l t q b
-  stands-answered t i f = record {
+  pub stands-answered : (t : Standing) → s.incomplete ≡ false → t.incomplete ≡ false → (t.awaited ≡ true → s.awaited ≡ true) → Stands exact w l t q b
+  stands-answered t i f waits = record {
     queue = h.queue;
     associated = h.associated;
     changing = λ g. absurd (no-way t.incomplete f g);
+    awaiting = λ g. h.awaiting (waits g);
     moved = λ g k. h.moved g i;
     idle = h.idle;
     watched = h.watched;
@@ -125,6 +150,7 @@ module _ (exact : Bool) (w : ℕ) (l : Link) (s : Standing) (q : Queue) (b : Boo
     queue = h.queue;
     associated = λ e. ap is_down a ∙ h.associated (sym c ∙ e);
     changing = λ e. ap is_down a ∙ h.changing e;
+    awaiting = λ e. ap is_down a ∙ h.awaiting e;
     moved = λ e f. h.moved (sym (ap is_in_service a) ∙ e) f;
     idle = λ e. h.idle (sym (ap is_in_service a) ∙ e);
     watched = λ e. h.watched e ∙ sym (ap (λ (g : Alignment). is_in_service g && not x.peer_busy && nat_lt 0 (q.sent - q.confirmed)) a
@@ -132,15 +158,16 @@ module _ (exact : Bool) (w : ℕ) (l : Link) (s : Standing) (q : Queue) (b : Boo
   }
 
   pub stands-parted : is_down l.alignment ≡ true → Stands exact w (record l { association = false }) s q b
-  stands-parted d = record { queue = h.queue; associated = λ e. d; changing = h.changing; moved = h.moved; idle = h.idle; watched = h.watched }
+  stands-parted d = record { queue = h.queue; associated = λ e. d; changing = h.changing; awaiting = h.awaiting; moved = h.moved; idle = h.idle; watched = h.watched }
 
-  pub stands-opened : (first : Bool) {untested : Bool} {period : Period} → l.association ≡ false → s.incomplete ≡ false → Stands exact w (record (opened first period l) { untested = untested }) s first_queue b
-  stands-opened first a i =
+  pub stands-opened : (first : Bool) {untested : Bool} {period : Period} → l.association ≡ false → may_restart s ≡ true → Stands exact w (record (opened first period l) { untested = untested }) s first_queue b
+  stands-opened first a r =
       let idle : b ≡ false = h.idle (down-idle l.alignment (h.associated a)) in
       record {
         queue = sound-first w h.queue.limit;
         associated = λ e. absurd cc;
-        changing = λ e. absurd (no-way s.incomplete i e);
+        changing = λ e. absurd (no-way s.incomplete (complete s r) e);
+        awaiting = λ e. absurd (no-way s.awaited (unawaited s r) e);
         moved = λ e f. refl;
         idle = λ e. idle;
         watched = λ e. idle;

@@ -93,11 +93,11 @@ module _ (exact : Bool) (c : Configuration) where
       (λ h. stands-completed exact c.window _ _ _ _ h.stands s e f)
 
   pub answered-keeps : (l k : ℕ) (s : Standing) (n : Node WholeQueues) → (changeover_of n.parts k).incomplete ≡ false → s.incomplete ≡ false
-      → Keeps exact c l n (with_parts n (with_changeover k s n.parts))
-  answered-keeps l k s n e f =
+      → (s.awaited ≡ true → (changeover_of n.parts k).awaited ≡ true) → Keeps exact c l n (with_parts n (with_changeover k s n.parts))
+  answered-keeps l k s n e f w =
       on-link l k (link_at n.parts k) s (queue_at n.queues k) n (with_parts n (with_changeover k s n.parts))
       (answered-on k s n)
-      (λ h. stands-answered exact c.window _ _ _ _ h.stands s e f)
+      (λ h. stands-answered exact c.window _ _ _ _ h.stands s e f w)
 
   -- ---- a link changes, and its timers with it
 

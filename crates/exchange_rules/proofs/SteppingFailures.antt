@@ -1,6 +1,6 @@
 -- A link fails, and its changeover goes on and ends: each rule is made of steps.
 use Rattle.exchange_rules.proofs.Basics.{◌≡◌, ℕ, Bool, true, false, List, [], ◌∷◌, Option, Some, None, refl, ◌∙◌, if◌then◌else◌}
-use Rattle.exchange_rules.proofs.Definitions.{Message, flow_of, Cause, LostUnconfirmed, after_failure, Handled, Ignored, FailureReason, ChangeoverTimer, Configuration, Running, Standing, completed, acknowledged, failed, begun_by_peer, Changeover, Parts, Node, Found, with_parts, answer, is_link, link_at, links_with, down, in_service, facts, link_of, no_room, send, set_of, is_failed, suspended, without_tests, fail_link, changeover_order, changeover_of, with_changeover, has_other, timed_changeover, changing, make_unavailable, begin, change_over, fail, begin_by_peer, fail_by_peer, lose, lose_each, judged, lifted_parts, concluded, changeover_acknowledgement, with_expiry, with_changeover_acknowledged, complete_if, fail_by_order, complete_by_order, on_changeover_order, on_changeover_acknowledgement, on_changeover_timer, WholeQueues, whole}
+use Rattle.exchange_rules.proofs.Definitions.{Message, flow_of, Cause, LostUnconfirmed, after_failure, Handled, Ignored, FailureReason, ChangeoverTimer, Configuration, Running, Standing, completed, acknowledged, failed, begun_by_peer, Changeover, Parts, Node, Found, with_parts, answer, is_link, link_at, links_with, down, in_service, facts, link_of, no_room, send, set_of, is_failed, suspended, without_tests, fail_link, changeover_order, changeover_of, with_changeover, has_other, is_ordered, timed_changeover, changing, make_unavailable, begin, change_over, fail, begin_by_peer, fail_by_peer, lose, lose_each, judged, lifted_parts, concluded, changeover_acknowledgement, with_expiry, with_changeover_acknowledged, complete_if, fail_by_order, complete_by_order, on_changeover_order, on_changeover_acknowledgement, on_changeover_timer, WholeQueues, whole}
 use Rattle.signalling_types.specs.declared.notice.Notice.TheVariants as notices
 use Rattle.signalling_types.specs.declared.notice.FailureReason.TheVariants as reasons
 use Rattle.signalling_types.specs.declared.notice.ChangeoverTimer.TheVariants as which
@@ -39,7 +39,7 @@ pub failed-links : (c : Configuration) (served : Bool) (link : ℕ) (why : Failu
 failed-links c true link why n =
     let gone : Node WholeQueues = make_unavailable whole c true link why n in
     let failed : Parts = fail_link link why (suspended c link (whole.unconfirmed n.queues link) n.parts) in
-    begin-links c (has_other c link gone.parts) link gone ∙ untested-links c (has_other c link failed) (set_of c link) failed
+    begin-links c (is_ordered c link gone.parts) link gone ∙ untested-links c (has_other c link failed) (set_of c link) failed
 failed-links c false link why n = refl
 
 pub fail-links : (c : Configuration) (link : ℕ) (why : FailureReason) (n : Node WholeQueues)
@@ -88,7 +88,7 @@ module _ {c : Configuration} {Own Counts : ℕ → Type 0} {R : Node WholeQueues
 
   failing-steps : (served : Bool) (link : ℕ) (why : FailureReason) (n : Node WholeQueues) → in_service n.parts link ≡ served
       → R n (change_over whole c served link (make_unavailable whole c served link why n))
-  failing-steps true link why n e = begun-steps (has_other c link (make_unavailable whole c true link why n).parts) link why n e
+  failing-steps true link why n e = begun-steps (is_ordered c link (make_unavailable whole c true link why n).parts) link why n e
   failing-steps false link why n e = s.dropped link why n e
 
   pub fail-steps : (link : ℕ) (why : FailureReason) (n : Node WholeQueues) → R n (fail whole c link why n)

@@ -1,6 +1,6 @@
 -- Links that open, align, fail and go, and a tick: each rule is made of steps.
 use Rattle.exchange_rules.proofs.Basics.{◌≡◌, ◌≢◌, ◌<◌, ◌≤◌, ℕ, Bool, true, false, ◌&&◌, not, List, length, refl, ap, ◌∙◌, arith, if◌then◌else◌, ⊎_elim, cases_lt, get_or_past, get_or-set_same, get_or-set_other, length-set, inl, sym, subst}
-use Rattle.exchange_rules.proofs.Definitions.{Configuration, Handled, Ignored, FailureReason, LinkStatus, Action, Input, Status, Expiry, LinkTimer, Transition, acts_on, Link, down_link, is_down, is_in_service, stepped, after_failure, Standing, may_restart, may_open, open_link, association_up, fail_if_up, end_association, association_down, set_active, activate, deactivate, Parts, Node, Done, with_parts, answer, refuse, is_link, link_at, links_with, down, in_service, facts, set_of, with_set_reset, has_other, changeover_of, fail, step_on, enters, enters_traffic, begun_anew_if, moved_on, advance, serve_status, act_by_status, on_link_status, act_by_timer, run_out, WholeQueues, whole, become_busy, end_busy, in_outage, tells_outage, tells_recovery, let_back, begin_outage, hear_outage, end_outage, Changeover, take_step, test_if}
+use Rattle.exchange_rules.proofs.Definitions.{Configuration, Handled, Ignored, FailureReason, LinkStatus, Action, Input, Status, Expiry, LinkTimer, Transition, acts_on, Link, down_link, is_down, is_in_service, stepped, after_failure, may_restart, may_open, open_link, association_up, fail_if_up, end_association, association_down, set_active, activate, deactivate, Parts, Node, Done, with_parts, answer, refuse, is_link, link_at, links_with, down, in_service, facts, set_of, with_set_reset, has_other, changeover_of, fail, step_on, enters, enters_traffic, begun_anew_if, moved_on, advance, serve_status, act_by_status, on_link_status, act_by_timer, run_out, WholeQueues, whole, become_busy, end_busy, in_outage, tells_outage, tells_recovery, let_back, begin_outage, hear_outage, end_outage, Changeover, take_step, test_if}
 use Rattle.signalling_types.specs.declared.cause.Cause.TheVariants as causes
 use Rattle.signalling_types.specs.declared.notice.FailureReason.TheVariants as reasons
 use Rattle.m2pa_codec.specs.declared.status.LinkStatus.TheVariants as says
@@ -75,13 +75,6 @@ pub failed_if_up-down : (c : Configuration) (is : Bool) (link : ℕ) (why : Fail
     → down (if is then n else fail whole c link why n).parts link ≡ true
 failed_if_up-down c true link why n e = e
 failed_if_up-down c false link why n e = failed-down c link why n
-
-complete : (st : Standing) → may_restart st ≡ true → st.incomplete ≡ false
-complete st e = by st.incomplete st.awaited e
-  where
-    by : (incomplete awaited : Bool) → (not incomplete && not awaited) ≡ true → incomplete ≡ false
-    by true awaited h = absurd cc
-    by false awaited h = refl
 
 -- what a status of the peer may do
 pub record AllowsStatus (c : Configuration) (May : Deed → Type 0) (link : ℕ) (status : LinkStatus) (n : Node WholeQueues) : Type 0 where
@@ -223,7 +216,7 @@ module _ {c : Configuration} {Own Counts : ℕ → Type 0} {May : Deed → Type 
   opened-steps : (opens restarts : Bool) (link : ℕ) (n : Node WholeQueues) → Counts link → is_link n.parts link ≡ true → may_open (link_at n.parts link) ≡ opens
       → may_restart (changeover_of n.parts link) ≡ restarts → May (LinkOpens link)
       → R n (if opens then (if restarts then answer Handled (open_link whole c link n) else refuse causes.ChangeoverPending n) else refuse causes.LinkNotReady n).left
-  opened-steps true true link n own there e f may = s.opened link n own there e (complete (changeover_of n.parts link) f) may
+  opened-steps true true link n own there e f may = s.opened link n own there e f may
   opened-steps true false link n own there e f may = s.sends.none n
   opened-steps false restarts link n own there e f may = s.sends.none n
 

@@ -2,7 +2,7 @@
 -- relation between two nodes that holds of each step, and of one after another, holds of every rule, every event and
 -- every take (`Stepping..`, `Rules`).
 use Rattle.exchange_rules.proofs.Basics.{◌≡◌, ◌⊎◌, ◌&&◌, not, ℕ, Bool, true, false, refl, List, [], length, Option, Some, find, if◌then◌else◌, slice_index_or, option_map}
-use Rattle.exchange_rules.proofs.Definitions.{set_timer, has_other, set_of, Message, flow_of, Notice, FailureReason, Configuration, Input, Go, Transition, acts_on, Sending, LinkTestValue, TimerName, L7, Running, is_running, is_due, Route, RouteStatus, Allowed, leads_by, ToldTable, is_own_point, shape_of, Link, Standing, with_code, HoldSet, Parts, Node, Done, with_parts, lost_any, late_any, is_link, link_at, links_with, with_link, down, in_service, recovered, with_ready, LinkStatus, note, flagged, flagged_late, link_of, queue_on, waits, hold, is_adjacent, test_answer, changeover_of, with_changeover, fail_link, declaration, with_titles, step_on, timed_busy, timed_busy_ended, may_open, without_association, open_link, Carrying, carries, numbers, timed_parts, SendsMessage, next_message, after_sending, WholeQueues, whole, HasHoldsFor, tells_of_loss, tells_of_lateness, ChangeoverTimer, Facts, Procedure, Changeover, Code, lifted, fail, on_changeover_order, on_changeover_acknowledgement, on_changeover_timer, hold_flows, freed, held_by_rerouting, TitlesValue, in_outage, put_out, let_back, tests_links, link_test, enters_traffic, is_first_test, with_test_passed}
+use Rattle.exchange_rules.proofs.Definitions.{set_timer, has_other, set_of, Message, flow_of, Notice, FailureReason, Configuration, Input, Go, Transition, acts_on, Sending, LinkTestValue, TimerName, L7, Running, is_running, is_due, Route, RouteStatus, Allowed, leads_by, ToldTable, is_own_point, shape_of, Link, Standing, may_restart, with_code, HoldSet, Parts, Node, Done, with_parts, lost_any, late_any, is_link, link_at, links_with, with_link, down, in_service, recovered, with_ready, LinkStatus, note, flagged, flagged_late, link_of, queue_on, waits, hold, is_adjacent, test_answer, changeover_of, with_changeover, fail_link, declaration, with_titles, step_on, timed_busy, timed_busy_ended, may_open, without_association, open_link, Carrying, carries, numbers, timed_parts, SendsMessage, next_message, after_sending, WholeQueues, whole, HasHoldsFor, tells_of_loss, tells_of_lateness, ChangeoverTimer, Facts, Procedure, Changeover, Code, lifted, fail, on_changeover_order, on_changeover_acknowledgement, on_changeover_timer, hold_flows, freed, held_by_rerouting, TitlesValue, in_outage, put_out, let_back, tests_links, link_test, enters_traffic, is_first_test, with_test_passed}
 use Rattle.std.specs.Prelude.{drop, map, Ok}
 use Rattle.timers.specs.declared.name.TimerName.TheVariants as name
 use Rattle.exchange_rules.proofs.TimerSettings.{AreSet}
@@ -148,7 +148,7 @@ pub record IsOfSteps (c : Configuration) (Own Counts : ℕ → Type 0) (R : Node
       → R n (with_parts n (with_link n.parts link x))
   pub parted : (link : ℕ) (n : Node WholeQueues) → down n.parts link ≡ true → R n (with_parts n (without_association link n.parts))
   pub opened : (link : ℕ) (n : Node WholeQueues) → Counts link → is_link n.parts link ≡ true → may_open (link_at n.parts link) ≡ true
-      → (changeover_of n.parts link).incomplete ≡ false → R n (open_link whole c link n)
+      → may_restart (changeover_of n.parts link) ≡ true → R n (open_link whole c link n)
   pub stepped : (link : ℕ) (input : Input) (step : Transition) (n : Node WholeQueues) → Own link → acts_on (link_at n.parts link) input ≡ Go step
       → R n (with_parts n (step_on c link step n.parts))
   -- a link passes a test
@@ -320,7 +320,7 @@ pub record IsOfDeeds (c : Configuration) (Own Counts : ℕ → Type 0) (May : De
       → R n (with_parts n (with_link n.parts link x))
   pub parted : (link : ℕ) (n : Node WholeQueues) → down n.parts link ≡ true → R n (with_parts n (without_association link n.parts))
   pub opened : (link : ℕ) (n : Node WholeQueues) → Counts link → is_link n.parts link ≡ true → may_open (link_at n.parts link) ≡ true
-      → (changeover_of n.parts link).incomplete ≡ false → May (LinkOpens link) → R n (open_link whole c link n)
+      → may_restart (changeover_of n.parts link) ≡ true → May (LinkOpens link) → R n (open_link whole c link n)
   pub stepped : (link : ℕ) (input : Input) (step : Transition) (n : Node WholeQueues) → Own link → acts_on (link_at n.parts link) input ≡ Go step
       → BeginsClean c (enters_traffic link step n.parts) link n.parts → R n (with_parts n (step_on c link step n.parts))
   pub passed : (link : ℕ) (n : Node WholeQueues) → in_service n.parts link ≡ true

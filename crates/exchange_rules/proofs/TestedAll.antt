@@ -1,6 +1,6 @@
 -- Through all rules T10 runs for each route over a set in service that isn't allowed.
 use Rattle.exchange_rules.proofs.Basics.{◌≡◌, ◌≢◌, ◌<◌, ℕ, Bool, true, false, ◌&&◌, not, nat_lt, length, List, [], ◌∷◌, Option, Some, None, refl, ap, sym, ◌∙◌, arith, ⊎_elim, if◌then◌else◌, is_some, nat_tests, and_from}
-use Rattle.exchange_rules.proofs.Definitions.{period_of, Configuration, Message, FailureReason, ChangeoverTimer, Facts, opening, carries, completed, opened_by, is_in_service, Alignment, TimerName, NodeCounts, Running, is_running, set_timer, clear_timer, left-set, counts-set, counts-clear, Route, Parts, Node, with_parts, link_at, in_service, down, is_link, set_of, has_other, make_unavailable, changing, begin, change_over, begin_by_peer, fail_by_peer, fail_by_order, complete_by_order, complete_if, concluded, lose_each, judged, changeover_of, with_changeover, changeover_order, changeover_acknowledgement, on_changeover_order, with_changeover_acknowledged, with_expiry, hold_flows, held_by_rerouting, answer, Handled, Ignored, Found, WholeQueues, whole}
+use Rattle.exchange_rules.proofs.Definitions.{period_of, Configuration, Message, FailureReason, ChangeoverTimer, Facts, opening, carries, completed, opened_by, is_in_service, Alignment, TimerName, NodeCounts, Running, is_running, set_timer, clear_timer, left-set, counts-set, counts-clear, Route, Parts, Node, with_parts, link_at, in_service, down, is_link, set_of, is_ordered, make_unavailable, changing, begin, change_over, begin_by_peer, fail_by_peer, fail_by_order, complete_by_order, complete_if, concluded, lose_each, judged, changeover_of, with_changeover, changeover_order, changeover_acknowledgement, on_changeover_order, with_changeover_acknowledged, with_expiry, hold_flows, held_by_rerouting, answer, Handled, Ignored, Found, WholeQueues, whole}
 use Rattle.timers.specs.declared.name.TimerName.TheVariants as name
 use Rattle.signalling_types.specs.declared.notice.FailureReason.TheVariants as reasons
 use Rattle.signalling_types.specs.declared.notice.ChangeoverTimer.TheVariants as which
@@ -37,7 +37,7 @@ module _ (c : Configuration) where
       both c n times _ (set-test c (name.T1 link) c.timers.t1 n) (same c times _ refl refl refl)
 
   changed-tests : (served : Bool) (link : ℕ) (n : Node WholeQueues) → Tests c n (change_over whole c served link n)
-  changed-tests true link n = begun-tests (has_other c link n.parts) link n
+  changed-tests true link n = begun-tests (is_ordered c link n.parts) link n
   changed-tests false link n = same c n n refl refl refl
 
   fails-tests : (served : Bool) (link : ℕ) (why : FailureReason) (n : Node WholeQueues) → Tests c n (change_over whole c served link (make_unavailable whole c served link why n))

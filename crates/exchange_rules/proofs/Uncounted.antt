@@ -1,6 +1,6 @@
 -- Only a message for a user part that isn't here is counted.
 use Rattle.exchange_rules.proofs.Basics.{◌≡◌, ℕ, Bool, true, false, List, [], ◌∷◌, Option, Some, None, refl, ◌∙◌, if◌then◌else◌}
-use Rattle.exchange_rules.proofs.Definitions.{Configuration, Message, FailureReason, ChangeoverTimer, LostUnconfirmed, Facts, completed, Parts, Node, with_parts, in_service, is_link, down, has_other, set_of, suspended, Found, fail_link, make_unavailable, change_over, begin, changing, changeover_order, begin_by_peer, fail, fail_by_peer, fail_by_order, complete_if, concluded, lose, lose_each, judged, complete_by_order, on_changeover_order, on_changeover_acknowledgement, on_changeover_timer, changeover_acknowledgement, changeover_of, with_changeover, with_changeover_acknowledged, with_expiry, without_tests, answer, Handled, Ignored, hold_flows, held_by_rerouting, WholeQueues, whole}
+use Rattle.exchange_rules.proofs.Definitions.{Configuration, Message, FailureReason, ChangeoverTimer, LostUnconfirmed, Facts, completed, Parts, Node, with_parts, in_service, is_link, down, has_other, is_ordered, set_of, suspended, Found, fail_link, make_unavailable, change_over, begin, changing, changeover_order, begin_by_peer, fail, fail_by_peer, fail_by_order, complete_if, concluded, lose, lose_each, judged, complete_by_order, on_changeover_order, on_changeover_acknowledgement, on_changeover_timer, changeover_acknowledgement, changeover_of, with_changeover, with_changeover_acknowledged, with_expiry, without_tests, answer, Handled, Ignored, hold_flows, held_by_rerouting, WholeQueues, whole}
 use Rattle.signalling_types.specs.declared.notice.FailureReason.TheVariants as reasons
 use Rattle.signalling_types.specs.declared.notice.ChangeoverTimer.TheVariants as which
 use Rattle.exchange_rules.specs.LawsOfUserParts.{brings_lacking, nothing_else_is_counted}
@@ -51,7 +51,7 @@ module _ (c : Configuration) where
   begun false link n = refl
 
   changed : (served : Bool) (link : ℕ) (n : Node WholeQueues) → Stays n (change_over whole c served link n)
-  changed true link n = begun (has_other c link n.parts) link n
+  changed true link n = begun (is_ordered c link n.parts) link n
   changed false link n = refl
 
   fails : (link : ℕ) (why : FailureReason) (n : Node WholeQueues) → Stays n (fail whole c link why n)

@@ -1,6 +1,6 @@
 -- No timer that completes a changeover or ends holds has more ticks left than the longest of them is set to.
 use Rattle.exchange_rules.proofs.Basics.{◌≡◌, ◌≢◌, ◌≤◌, ◌-◌, ℕ, Bool, true, false, List, [], ◌∷◌, Option, Some, None, refl, ap, sym, ◌∙◌, subst, arith, max, ⊎_elim, if◌then◌else◌}
-use Rattle.exchange_rules.proofs.Definitions.{period_of, Configuration, FailureReason, Facts, opening, completed, TimerName, Running, has_name, set_timer, after_due, after-clear, after-none, due_name, one_less, left-set, left-set_other, left-ticked, left-none, Parts, Node, with_parts, answer, Handled, Ignored, link_at, in_service, down, set_of, suspended, fail_link, has_other, make_unavailable, changing, begin, change_over, begin_by_peer, fail_by_peer, changeover_order, changeover_of, with_changeover, complete_if, fail_by_order, complete_by_order, changeover_acknowledgement, on_changeover_order, with_changeover_acknowledged, hold_flows, held_by_rerouting, carries, is_link, with_timers, first_state, WholeQueues, whole}
+use Rattle.exchange_rules.proofs.Definitions.{period_of, Configuration, FailureReason, Facts, opening, completed, TimerName, Running, has_name, set_timer, after_due, after-clear, after-none, due_name, one_less, left-set, left-set_other, left-ticked, left-none, Parts, Node, with_parts, answer, Handled, Ignored, link_at, in_service, down, set_of, suspended, fail_link, has_other, is_ordered, make_unavailable, changing, begin, change_over, begin_by_peer, fail_by_peer, changeover_order, changeover_of, with_changeover, complete_if, fail_by_order, complete_by_order, changeover_acknowledgement, on_changeover_order, with_changeover_acknowledged, hold_flows, held_by_rerouting, carries, is_link, with_timers, first_state, WholeQueues, whole}
 use Rattle.timers.proofs.Maps.{set-absent}
 use Rattle.timers.specs.declared.name.TimerName.TheVariants as name
 use Rattle.signalling_types.specs.declared.notice.FailureReason.TheVariants as reasons
@@ -113,7 +113,7 @@ module _ (c : Configuration) where
   fails-bounds false link why n = bounds-same most n _ (without_timers-for link n.parts.timers).endings
   fails-bounds true link why n =
       let gone : Node WholeQueues = make_unavailable whole c true link why n in
-      bounds-both most n gone _ (gone-bounds link why n) (begun-bounds (has_other c link gone.parts) link gone)
+      bounds-both most n gone _ (gone-bounds link why n) (begun-bounds (is_ordered c link gone.parts) link gone)
 
   by_peer-bounds : (served : Bool) (link : ℕ) (n : Node WholeQueues) → Bounds most n (begin_by_peer whole c served link (make_unavailable whole c served link reasons.Changeover n))
   by_peer-bounds false link n = bounds-same most n _ (without_timers-for link n.parts.timers).endings

@@ -1,6 +1,6 @@
 -- TCOC, changeover control (Q.704 §5, with the numbers of Q.2210): the flows that a changeover holds, and how it
 -- begins, goes on and ends.
-use Rattle.std.specs.Prelude.{ℕ, Bool, ◌&&◌, ◌||◌, not, nat_eq, List, Some, true, false, if◌then◌else◌, [], ◌∷◌, Option, None}
+use Rattle.std.specs.Prelude.{ℕ, Bool, ◌&&◌, ◌||◌, not, nat_eq, List, Some, is_some, true, false, if◌then◌else◌, [], ◌∷◌, Option, None}
 use Rattle.std.specs.List.{list_any}
 use Rattle.std.specs.Option.{option_eq}
 use Rattle.signalling_types.specs.Message.{Message, flow_of, is_management}
@@ -10,7 +10,7 @@ use Rattle.routes.specs.Routes.{Facts, chosen_link, has_link, set_at}
 use Rattle.flow_hold.specs.declared.procedure.Procedure.TheVariants.{Changeover}
 use Rattle.flow_hold.specs.Holds.{with_flows, lifted}
 use Rattle.exchange_rules.specs.State.{Parts, ◌▷◌, QueueKind, Node, with_parts, link_at, links_with, in_service, note, unless◌then◌else◌, Done, Found, answer, is_link, down, flagged}
-use Rattle.exchange_rules.specs.Routing.{facts, goes_by, entry_of, set_of, peer_of}
+use Rattle.exchange_rules.specs.Routing.{facts, goes_by, entry_of, set_of, peer_of, link_of}
 use Rattle.signalling_types.specs.declared.notice.FailureReason.{FailureReason}
 use Rattle.signalling_types.specs.declared.notice.FailureReason.TheVariants as reasons
 use Rattle.signalling_types.specs.declared.notice.Notice.TheVariants as notices
@@ -50,6 +50,14 @@ suspended c link unconfirmed p =
 -- whether a link of the same set carries traffic
 abbrev pub has_other : Configuration → ℕ → Parts → Bool
 has_other c link p = has_link (facts c p).in_service (set_at (facts c p) (set_of c link))
+
+-- whether the order itself has a way to that link's point, with the link's code as its selection, over whatever set
+abbrev pub has_way : Configuration → ℕ → Parts → Bool
+has_way c link p = is_some (link_of c p (record { point = peer_of c link; sls = (entry_of c link).slc }))
+
+-- whether an order goes out: by any route, where the settings ask for that; else if a link of its set is left
+abbrev pub is_ordered : Configuration → ℕ → Parts → Bool
+is_ordered c link p = if c.changeover_by_any_route then has_way c link p else has_other c link p
 
 -- the order to change over from a link, with the number of the last message that was accepted on it
 abbrev pub changeover_order : Configuration → ℕ → ℕ → Message
@@ -95,7 +103,7 @@ module _ {Q : Type 0} (q : QueueKind Q) (c : Configuration) where
       ▷ without_tests_if_last c link)
   make_unavailable false link why node = with_parts node (fail_link link why node.parts)
 
-  -- if a link of its set is left, an order goes out
+  -- its changeover begins, with an order to the peer or without
   abbrev pub begin : (ordered : Bool) → ℕ → Node Q → Node Q
   begin true link node =
       send_routed q c (changeover_order c link (q.last_accepted node.queues link))
@@ -104,7 +112,7 @@ module _ {Q : Type 0} (q : QueueKind Q) (c : Configuration) where
 
   -- a link that was in service begins its changeover
   abbrev pub change_over : (served : Bool) → ℕ → Node Q → Node Q
-  change_over true link node = begin (has_other c link node.parts) link node
+  change_over true link node = begin (is_ordered c link node.parts) link node
   change_over false link node = node
 
   -- a link fails

@@ -28,7 +28,7 @@ use Rattle.exchange_rules.specs.State.{Found, Node, down, in_service, is_link, w
 use Rattle.exchange_rules.specs.Routing.{facts, link_of, no_room, route_about, set_of, waits}
 use Rattle.exchange_rules.specs.Queues.{WholeQueues, whole}
 use Rattle.exchange_rules.specs.Telling.{answered_parts, inhibited, is_inhibited, is_led, is_unequipped_told, may_tell, route_message, send_anew, unavailable, unequipped_counted}
-use Rattle.exchange_rules.specs.ChangingOver.{changeover_acknowledgement, changeover_of, changeover_order, changing, complete_by_order, concluded, fail_by_order, has_other, make_unavailable, with_changeover, with_changeover_acknowledged, with_expiry}
+use Rattle.exchange_rules.specs.ChangingOver.{changeover_acknowledgement, changeover_of, changeover_order, changing, complete_by_order, concluded, fail_by_order, is_ordered, make_unavailable, with_changeover, with_changeover_acknowledged, with_expiry}
 use Rattle.changeover.specs.Changeover.{completed}
 use Rattle.exchange_rules.specs.ChangingBack.{changeback_acknowledgement}
 use Rattle.exchange_rules.specs.LinkTests.{testing}
@@ -54,7 +54,7 @@ module _ (c : Configuration) where
   unsent_anew (m ∷ ms) node =
       given_up None (link_of c node.parts (flow_of m)) m ++ unsent_anew ms (send_anew whole c m node)
 
-  -- ---- a link fails: the order to change over, if another link of its set carries traffic (Q.704 §5.2)
+  -- ---- a link fails: the order to change over, if one goes out (Q.704 §5.2)
 
   abbrev pub unsent_order : (ordered : Bool) → ℕ → Node WholeQueues → List Notice
   unsent_order true link node =
@@ -63,7 +63,7 @@ module _ (c : Configuration) where
   unsent_order false link node = []
 
   abbrev pub unsent_beginning : (served : Bool) → ℕ → Node WholeQueues → List Notice
-  unsent_beginning true link node = unsent_order (has_other c link node.parts) link node
+  unsent_beginning true link node = unsent_order (is_ordered c link node.parts) link node
   unsent_beginning false link node = []
 
   abbrev pub unsent_failing : ℕ → FailureReason → Node WholeQueues → List Notice

@@ -20,8 +20,9 @@ pub record IsSteady (window : ℕ) (l : Link) (s : Standing) (q : Queue) (l7_run
   pub queue : IsQueue window q
   -- it is down while it has no association
   pub associated : l.association ≡ false → is_down l.alignment ≡ true
-  -- and while its changeover isn't complete
+  -- and while its changeover isn't complete, or the answer to its order is awaited
   pub changing : s.incomplete ≡ true → is_down l.alignment ≡ true
+  pub awaiting : s.awaited ≡ true → is_down l.alignment ≡ true
   -- out of service, messages are in its queue only until its changeover is complete
   pub moved : is_in_service l.alignment ≡ false → s.incomplete ≡ false → q.all ≡ []
   -- L7 runs exactly while it is in service, its peer isn't busy, and something that was sent isn't confirmed

@@ -50,6 +50,8 @@ pub mod LawsOfProving
 pub mod LawsOfFarPoints
 pub mod LawsOfRows
 pub mod ProcedureExamples
+pub mod OrderExamples
 pub mod LawsOfTelling
 pub mod LawsOfOrders
+pub mod LawsOfAnyRoute
 pub mod LawsOfRerouting

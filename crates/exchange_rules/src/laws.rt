@@ -34,6 +34,7 @@ ghost use Rattle.exchange_rules.specs.LawsOfShares.{full_shares_refuse, others_k
 
 pub mod link_tests;
 pub mod links;
+pub mod orders;
 pub mod outage;
 pub mod peers;
 pub mod subsystems;
@@ -46,6 +47,9 @@ pub use links::{
     links_that_fail_are_named, only_links_that_carry_traffic_are_given_messages,
     other_links_are_left, the_settings_say_whether_periods_are_chosen,
     what_was_received_is_counted,
+};
+pub use orders::{
+    one_answer_is_awaited_at_a_time, orders_are_answered_by_any_route, orders_go_where_they_may,
 };
 pub use outage::outages_are_a_state_where_asked_for;
 pub use peers::{

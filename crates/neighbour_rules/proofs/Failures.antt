@@ -1,6 +1,6 @@
 -- A link fails, between the two nodes or elsewhere, and an order goes out if another link of its set is left: by moves.
 use Rattle.pair_rules.proofs.Basics.{◌≡◌, ◌≢◌, ◌<◌, ◌||◌, ℕ, Bool, true, false, not, List, [], length, Some, refl, ap, sym, subst, ◌∙◌, if◌then◌else◌, ⊎_elim, cases_eq}
-use Rattle.pair_rules.proofs.Definitions.{is_down, Message, FailureReason, Flow, Configuration, failed, begun_by_peer, Link, after_failure, down_link, each-set, Node, Parts, with_parts, down, in_service, link_at, WholeQueues, queue_at, whole, begin, begin_by_peer, change_over, changeover_of, changeover_order, changing, fail, fail_by_peer, fail_link, has_other, make_unavailable, without_tests, peer_of, set_of, set_place, made-management, Fits, StaysFit, fit-steps, failing_by_peer-steps, fell-steps, timed_changeover-timed, with_failure}
+use Rattle.pair_rules.proofs.Definitions.{is_down, Message, FailureReason, Flow, Configuration, failed, begun_by_peer, Link, after_failure, down_link, each-set, Node, Parts, with_parts, down, in_service, link_at, WholeQueues, queue_at, whole, begin, begin_by_peer, change_over, changeover_of, changeover_order, changing, fail, fail_by_peer, fail_link, has_other, is_ordered, make_unavailable, without_tests, peer_of, set_of, set_place, made-management, Fits, StaysFit, fit-steps, failing_by_peer-steps, fell-steps, timed_changeover-timed, with_failure}
 use Rattle.signalling_types.specs.declared.notice.FailureReason.TheVariants as reasons
 use Rattle.exchange_rules.specs.ChangingOver.{suspended}
 use Rattle.exchange_rules.proofs.NamedLinks.{set-named}
@@ -202,7 +202,7 @@ module _ (c z : Configuration) (j : Joint c z) where
       → Passes c z j (at c z j w n arrived []) (at c z j w (change_over whole c served link (make_unavailable whole c served link why n)) arrived [])
   failing true w n arrived link why e up =
       let left : Node WholeQueues = make_unavailable whole c true link why n in
-      let ordered : Bool = has_other c link left.parts in
+      let ordered : Bool = is_ordered c link left.parts in
       let last : Bool = has_other c link (fail_link link why (suspended c link (whole.unconfirmed n.queues link) n.parts)) in
       let stay : StaysFit c n (with_parts left (changing c ordered link left.parts)) =
       (fit-steps c).both _ _ _ (fell-steps (fit-steps c) link why (failed ordered (changeover_of left.parts link)) n e refl)

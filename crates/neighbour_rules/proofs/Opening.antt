@@ -71,7 +71,7 @@ module _ (c z : Configuration) (j : Joint c z) (w : World) (link : ℕ) (m : May
 
     pub opened-good : AreFlying z c j.base.back j.shares.far_set g → Good c z j w → Good c z j after_opening
     opened-good coming h = record {
-      fits = ((fit-steps c).opened link n tt m.there m.opens (complete (changeover_of n.parts link) m.restarts)).stay h.fits;
+      fits = ((fit-steps c).opened link n tt m.there m.opens m.restarts).stay h.fits;
       route = h.route;
       unawaited = λ other up.
           ⊎_elim
@@ -201,7 +201,7 @@ module _ (c z : Configuration) (j : Joint c z) (w : World) (n : Node WholeQueues
 
   module _ (there : is_link n.parts link ≡ true) (opens : may_open (link_at n.parts link) ≡ true) (restarts : may_restart (changeover_of n.parts link) ≡ true) where
     fits-anew : Fits c n → Fits c anew
-    fits-anew f = ((fit-steps c).opened link n tt there opens (complete (changeover_of n.parts link) restarts)).stay f
+    fits-anew f = ((fit-steps c).opened link n tt there opens restarts).stay f
 
     aligning-unseen : link < length c.links → IsUnseen c z j n aligning
     aligning-unseen l = record {

@@ -4,7 +4,7 @@ use Rattle.exchange_rules.proofs.Basics.{◌<◌, ◌^◌, ◌%◌, arith, ◌�
 use Rattle.std.proofs.lemmas.List.Folds.{list_all-append}
 use Rattle.exchange_rules.proofs.Definitions.{Message, is_management, dpc_of, flow_of, service_indicator, Configuration, Cause, Management, ExtendedChangeoverOrder, ChangebackDeclaration, RouteSetTestProhibited, RouteSetTestRestricted, LinkTestValue, RelayedValue, relay, returned, FailureReason, LinkStatus, LinkTimer, Transition, Expiry, Facts, RouteStatus, Allowed, Restricted, Prohibited, RouteTest, Heard, Owed, Node, Done, Parts, with_parts, answer, refuse, WholeQueues, whole, queue_on, hold, declaration, test_answer, link_of, no_room, no_room_for, waits, is_destination, destination_place, link_at, down, in_service, set_of, peer_of, point_of, adjacent_of, telling, entry_of, facts, owed}
 use Rattle.exchange_rules.proofs.Definitions.{send, send_routed, send_anew, send_each, transfer, offer, route_message, told_parts, tell, tell_if, tell_each, tell_owed, may_tell, inhibited, is_inhibited, is_led, prohibit, answer_no_route, answered_parts, send_route_status, on_route_test, on_route_status, apply_route_status, ask, ask_by, ask_again, with_next_test, prohibited_test, restricted_test, status_of, management_to, own_of, in_place_of, send_udts, return_outcome, relay_by, on_unitdata, answer_no_user_part, is_unequipped_told, tell_unavailable, unavailable, unequipped_counted, UserPartUnavailable, Unequipped, opc_of}
-use Rattle.exchange_rules.proofs.Definitions.{is_user, sccp, local, make_unavailable, begin, change_over, fail, begin_by_peer, fail_by_peer, fail_by_order, changeover_order, changing, has_other}
+use Rattle.exchange_rules.proofs.Definitions.{is_user, sccp, local, make_unavailable, begin, change_over, fail, begin_by_peer, fail_by_peer, fail_by_order, changeover_order, changing, is_ordered}
 use Rattle.exchange_rules.proofs.Definitions.{hold_flows, code_in_use, code_for, take_back_each, loses_flows, advance, moved_on, return_if, begun_anew, is_first_test, test_passed, pass_test, enters, enters_traffic, serve_status, act_by_status, act_by_timer, run_out, acts_on, link_test, awaiting_test, with_test_failed, tests_links, queue_if, send_test, begin_test, repeat_test, test_unanswered, take_step, test_if, on_link_status, begin_outage, hear_outage, end_outage, tells_outage, tells_recovery, Status}
 use Rattle.exchange_rules.proofs.Settling.{left-true, right-true}
 use Rattle.link.specs.declared.action.Action.{Action}
@@ -217,7 +217,7 @@ module _ (c : Configuration) (fine : Message → Bool) (f : IsFine c fine) {R : 
   begin-keeps false link n = r.same n _ refl
 
   over-keeps : (served : Bool) (link : ℕ) (n : Node WholeQueues) → R n (change_over whole c served link n)
-  over-keeps true link n = begin-keeps (has_other c link n.parts) link n
+  over-keeps true link n = begin-keeps (is_ordered c link n.parts) link n
   over-keeps false link n = stays n
 
   pub fail-keeps : (link : ℕ) (why : FailureReason) (n : Node WholeQueues) → R n (fail whole c link why n)

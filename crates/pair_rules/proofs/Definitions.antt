@@ -16,7 +16,7 @@ pub use Rattle.exchange_rules.proofs.TakenPairs.{IsAlike, take_back_each-alike}
 pub use Rattle.exchange_rules.specs.Conserving.{answered_in, brought_by, brought_here, brought_in, brought_to, taken_in, unitdata_in}
 pub use Rattle.exchange_rules.specs.ChangingBack.{code_for, declaration, hold_flows, loses_flows, on_changeback_acknowledgement, changeback_acknowledgement, freed, late_code, late_time, on_changeback_declaration, change_back, is_taken_back}
 unfoldable pub use Rattle.exchange_rules.specs.ChangingBack.{take_back_each}
-pub use Rattle.exchange_rules.specs.ChangingOver.{acknowledge_changeover, changeover_acknowledgement, complete_by_order, complete_if, fail_by_order, on_changeover_order, on_changeover_acknowledgement, send_each, with_changeover_acknowledged, concluded, lose, lose_each, on_changeover_timer, with_expiry, begin_by_peer, changeover_of, fail_by_peer, make_unavailable, with_changeover, fail, begin, change_over, changeover_order, changing, fail_link, has_other}
+pub use Rattle.exchange_rules.specs.ChangingOver.{acknowledge_changeover, changeover_acknowledgement, complete_by_order, complete_if, fail_by_order, on_changeover_order, on_changeover_acknowledgement, send_each, with_changeover_acknowledged, concluded, lose, lose_each, on_changeover_timer, with_expiry, begin_by_peer, changeover_of, fail_by_peer, make_unavailable, with_changeover, fail, begin, change_over, changeover_order, changing, fail_link, has_other, is_ordered}
 pub use Rattle.exchange_rules.specs.Exchange.{settled, handle_event, wants_of, outcome_of, after, frame_to_take, release, go, go_by, go_each, go_on}
 unfoldable pub use Rattle.exchange_rules.specs.Exchange.{apply}
 pub use Rattle.exchange_rules.specs.Entering.{begun_anew_if, begun_anew, return_if, begin_traffic}

@@ -8,7 +8,7 @@ ghost use Rattle.exchange_rules.specs.ChangingOver as rule;
 
 use super::Exchange;
 use changeover::Beginning;
-use mtp3_codec::Management;
+use mtp3_codec::{Label, Management};
 use settings::{FailureReason, LinkId, Notice};
 use signalling_types::Number24;
 use timers::{RouteTimer, TimerName};
@@ -76,14 +76,14 @@ impl Exchange {
         self.note(Notice::Failed(link, why));
     }
 
-    /// The changeover of a link begins: an order goes out if a link of its set is left.
+    /// The changeover of a link begins, with an order to the peer if one goes out.
     fn change_over(&mut self, link: LinkId)
         requires { link < length self.old.settings.links }
         ensures { self.new ≡ with_node self.old (rule.change_over kept self.old.settings true link self.old.node) }
     {
-        let left = self.has_other(link);
+        let ordered = self.is_ordered(link);
         let sequence = &self.sequences[link.index()];
-        match self.changeovers.failed(link, left, sequence) {
+        match self.changeovers.failed(link, ordered, sequence) {
             Beginning::Orders(number) => {
                 self.timers
                     .set(TimerName::T2(link), self.settings.timers().t2);
@@ -104,6 +104,32 @@ impl Exchange {
     {
         let order = Management::ExtendedChangeoverOrder(self.code_of(link), number);
         self.send_management(self.peer_of(link), &order);
+    }
+
+    /// Whether an order to change over from a link goes out: by any route where the settings ask for that, else if a
+    /// link of its set is left.
+    fn is_ordered(&self, link: LinkId) -> bool
+        requires { link < length self.now.settings.links }
+        ensures { result ≡ rule.is_ordered self.now.settings link self.now.node.parts }
+    {
+        if self.settings.changeover_by_any_route() {
+            self.has_way(link)
+        } else {
+            self.has_other(link)
+        }
+    }
+
+    /// Whether the order to change over from a link has a way to its peer.
+    fn has_way(&self, link: LinkId) -> bool
+        requires { link < length self.now.settings.links }
+        ensures { result ≡ rule.has_way self.now.settings link self.now.node.parts }
+    {
+        let label = Label {
+            dpc: self.peer_of(link),
+            opc: self.settings.own(),
+            sls: self.code_of(link),
+        };
+        self.link_of(&label).is_some()
     }
 
     /// Whether a link of the same set is in service.

@@ -31,9 +31,9 @@ pub fn links_open_where_they_want_to()
 {}
 
 /// Each link is steady, at first, and whatever happens and whatever is taken: its counts are in order, it is down while
-/// it has no association or its changeover isn't complete, and out of service messages stand in its queue only until
-/// its changeover is complete. L7 of it runs exactly while it is in service, its peer isn't busy, and something that
-/// was sent isn't confirmed.
+/// it has no association, its changeover isn't complete or the answer to its order is awaited, and out of service
+/// messages stand in its queue only until its changeover is complete. L7 of it runs exactly while it is in service, its
+/// peer isn't busy, and something that was sent isn't confirmed.
 pub fn links_stay_steady()
     ensures first { links_first_steady }
     ensures always { links_stay_steady }

@@ -4,4 +4,4 @@ use Rattle.changeover.proofs.changeover.Changeover.failed.Goals as goal
 
 pub returns-clause-queue : goal.returns-clause-queue
 returns-clause-queue c = λ w lane q h.
-    c.of.ensures ∙ beginning-alike w c.args.link_left c.args.sequence.now lane q h
+    c.of.ensures ∙ beginning-alike w c.args.ordered c.args.sequence.now lane q h
