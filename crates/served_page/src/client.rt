@@ -2,13 +2,13 @@
 
 ghost use Rattle.std.specs.Prelude.{◌≡◌, ◌<◌, ◌≤◌, ◌⊎◌, length, IsTrue};
 ghost use Rattle.http_server.specs.Connection.{history};
-ghost use Rattle.page_service.specs.Bounds.{answered, begun, is_over};
+ghost use Rattle.status_page.specs.Bounds.{answered, begun, is_over};
 
 use http_server::{Connection, Service};
 use mio::event::Event;
 use mio::net::TcpStream;
-use page_service::{Patience, limits};
 use served_node::{Progress, read_some, unmoved, write_some};
+use status_page::{Patience, limits};
 use std::alloc::Global;
 use std::hash::RandomState;
 use std::net::Shutdown;

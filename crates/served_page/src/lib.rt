@@ -1,5 +1,5 @@
 //! The status page on sockets: where its clients come, and the clients, as sockets of a poll. What they are answered is
-//! `page_service`'s.
+//! `status_page`'s.
 #![tactic(auto)]
 
 mod client;

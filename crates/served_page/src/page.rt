@@ -10,9 +10,9 @@ use crate::places::{
 use mio::Registry;
 use mio::event::Event;
 use mio::net::TcpStream;
-use page_service::{Allowance, Content, PAGE_CLIENTS, PageNames, PageService};
 use script::Sink;
 use served_node::{Listener, Log, OpenFault, SocketName};
+use status_page::{Allowance, Content, PAGE_CLIENTS, PageNames, PageService};
 use std::alloc::Global;
 use std::hash::RandomState;
 use std::marker::Model;
@@ -42,7 +42,7 @@ pub struct ServedPage {
 
 // No contract can say what sockets give. Of a page only this is known: how much was answered of late.
 impl Model for ServedPage {
-    ghost use Rattle.page_service.specs.declared.patience.Allowance.{Allowance};
+    ghost use Rattle.status_page.specs.declared.patience.Allowance.{Allowance};
 
     ghost Value = { Allowance };
 

@@ -4,7 +4,7 @@ ghost use Rattle.std.specs.Prelude.{◌<◌};
 
 use crate::client::PageClient;
 use http_server::Service;
-use page_service::PAGE_CLIENTS;
+use status_page::PAGE_CLIENTS;
 use std::alloc::{AllocError, Global};
 
 /// As many places as there are clients at most, all of them free.

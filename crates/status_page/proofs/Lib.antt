@@ -2,3 +2,4 @@ pub mod Adding
 pub mod Counting
 pub mod Seeing
 pub mod Shown
+mod Fields

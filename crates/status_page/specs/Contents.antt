@@ -4,8 +4,8 @@ use Rattle.json.specs.Print.{print}
 use Rattle.point_format.specs.declared.point.PointFormat.{PointFormat}
 use Rattle.exchange_rules.specs.State.{QueueKind, State}
 use Rattle.served_link.specs.declared.row.LinkCounters.{LinkCounters}
-use Rattle.page_service.specs.declared.page.Page.{Page}
-use Rattle.page_service.specs.declared.page.Page.TheVariants as page
+use Rattle.status_page.specs.declared.page.Page.{Page}
+use Rattle.status_page.specs.declared.page.Page.TheVariants as page
 use Rattle.status_page.specs.declared.noticed.NoticeLog.{NoticeLog}
 use Rattle.status_page.specs.declared.text.TheConstants.{PAGE}
 use Rattle.status_page.specs.Metrics.{metrics_text}

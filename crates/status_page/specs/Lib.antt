@@ -1,3 +1,9 @@
+pub mod Pages
+pub mod Names
+pub mod NamesInside
+pub mod Answers
+pub mod Responses
+pub mod Bounds
 pub mod Each
 pub mod Noticed
 pub mod Families

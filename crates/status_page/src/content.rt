@@ -8,12 +8,12 @@ ghost use Rattle.status_page.specs.States.{state_tokens};
 
 use crate::metrics::put_metrics;
 use crate::noticed::NoticeLog;
+use crate::page::{Content, Page};
 use crate::state::state_text;
 use crate::text::PAGE;
 use bytes::BufMut;
 use exchange::Exchange;
 use http_server::Rope;
-use page_service::{Content, Page};
 use point_format::PointFormat;
 use served_link::Counters;
 use std::alloc::{AllocError, Global};

@@ -1,6 +1,9 @@
-//! What the status page of a node holds: its metrics, its state, and the page that a person reads.
+//! The status page of a node: which request over HTTP gets which page, and what the pages hold, its metrics, its state
+//! and the page that a person reads. It does no input or output.
 #![tactic(auto)]
 
+pub mod answer;
+pub mod asking;
 pub mod content;
 mod counted;
 pub mod family;
@@ -10,11 +13,21 @@ pub mod measuring;
 mod members;
 pub mod metric;
 mod metrics;
+pub mod names;
 pub mod noticed;
+pub mod page;
+pub mod patience;
 mod sample;
+pub mod service;
 mod state;
 pub mod text;
 
+pub use answer::Answer;
+pub use asking::answer_request;
 pub use content::StatusPage;
 pub use measuring::kept_messages;
+pub use names::PageNames;
 pub use noticed::{NoticeKind, NoticeLog};
+pub use page::{Content, Page};
+pub use patience::{Allowance, PAGE_CLIENTS, Patience, limits};
+pub use service::PageService;

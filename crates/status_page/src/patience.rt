@@ -1,7 +1,7 @@
 //! Bounds for the clients of a page: how much they send, how long they take, and how much they are answered.
 
 ghost use Rattle.std.specs.Prelude.{◌≡◌};
-ghost use Rattle.page_service.specs.Bounds.{answered, begun, counted, connection_bounds, is_over, may_answer, none_answered};
+ghost use Rattle.status_page.specs.Bounds.{answered, begun, counted, connection_bounds, is_over, may_answer, none_answered};
 
 use http_server::Config;
 use http1::Limits;

@@ -4,11 +4,11 @@ use Rattle.http_header.specs.FieldValue.{FieldValue}
 use Rattle.http_header.specs.HeaderMap.{get_all}
 use Rattle.http_uri.specs.Uri.{uri_scheme, uri_authority, uri_path}
 use Rattle.http.specs.declared.request.Parts.{Parts}
-use Rattle.page_service.specs.declared.page.Page.{Page}
-use Rattle.page_service.specs.declared.answer.Answer.{Answer}
-use Rattle.page_service.specs.declared.answer.Answer.TheVariants.{Shown, BadRequest, Forbidden, NotFound, NotAllowed}
-use Rattle.page_service.specs.Pages.{page_at}
-use Rattle.page_service.specs.Names.{Names, is_own}
+use Rattle.status_page.specs.declared.page.Page.{Page}
+use Rattle.status_page.specs.declared.answer.Answer.{Answer}
+use Rattle.status_page.specs.declared.answer.Answer.TheVariants.{Shown, BadRequest, Forbidden, NotFound, NotAllowed}
+use Rattle.status_page.specs.Pages.{page_at}
+use Rattle.status_page.specs.Names.{Names, is_own}
 
 -- a page is only read
 abbrev pub answer_about : Option Page → (method : List ℕ) → Answer

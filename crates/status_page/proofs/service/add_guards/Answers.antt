@@ -1,6 +1,6 @@
 -- Each field is after those before it.
-use Rattle.page_service.proofs.Fields.{four_behind}
-use Rattle.page_service.proofs.service.add_guards.Goals as goal
+use Rattle.status_page.proofs.Fields.{four_behind}
+use Rattle.status_page.proofs.service.add_guards.Goals as goal
 
 pub returns-clause-fields : goal.returns-clause-fields
 returns-clause-fields c =

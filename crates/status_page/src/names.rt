@@ -1,7 +1,7 @@
 //! The names by which a page is asked for.
 
 ghost use Rattle.std.specs.Prelude.{◌≡◌, IfOk};
-ghost use Rattle.page_service.specs.Names.{names_of, is_own};
+ghost use Rattle.status_page.specs.Names.{names_of, is_own};
 
 use std::alloc::{AllocError, Global};
 use std::marker::Model;
@@ -17,11 +17,11 @@ pub struct PageNames {
 }
 
 impl Model for PageNames {
-    ghost use Rattle.page_service.specs.Names.{Names};
+    ghost use Rattle.status_page.specs.Names.{Names};
 
     ghost Value = { Names };
 
-    ghost use Rattle.page_service.specs.Inside.{names_in};
+    ghost use Rattle.status_page.specs.NamesInside.{names_in};
 
     ghost view = { names_in };
 }

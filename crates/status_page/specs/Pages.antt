@@ -1,7 +1,7 @@
 -- Where the pages are.
 use Rattle.std.specs.Prelude.{ℕ, List, if◌then◌else◌, bytes_eq, codes, Option, Some, None}
-use Rattle.page_service.specs.declared.page.Page.{Page}
-use Rattle.page_service.specs.declared.page.Page.TheVariants.{Status, State, Metrics}
+use Rattle.status_page.specs.declared.page.Page.{Page}
+use Rattle.status_page.specs.declared.page.Page.TheVariants.{Status, State, Metrics}
 
 -- the page at a path
 abbrev pub page_at : List ℕ → Option Page

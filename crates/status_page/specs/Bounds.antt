@@ -2,9 +2,9 @@
 use Rattle.std.specs.Prelude.{ℕ, ◌+◌, ◌-◌, ◌^◌, ◌/◌, min, Bool, ◌||◌, not, nat_lt, nat_eq, if◌then◌else◌}
 use Rattle.http1.specs.declared.conn.Limits.{Limits}
 use Rattle.http_server.specs.declared.state.Config.{Config}
-use Rattle.page_service.specs.declared.patience.TheConstants.{REQUEST_MS, IDLE_MS, ANSWERS_A_SECOND}
-use Rattle.page_service.specs.declared.patience.Patience.{Patience}
-use Rattle.page_service.specs.declared.patience.Allowance.{Allowance}
+use Rattle.status_page.specs.declared.patience.TheConstants.{REQUEST_MS, IDLE_MS, ANSWERS_A_SECOND}
+use Rattle.status_page.specs.declared.patience.Patience.{Patience}
+use Rattle.status_page.specs.declared.patience.Allowance.{Allowance}
 
 -- the octets of a request's head, at most
 abbrev pub head_bounds : Limits

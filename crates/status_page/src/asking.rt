@@ -3,7 +3,7 @@
 ghost use Rattle.std.specs.Prelude.{◌≡◌, codes};
 ghost use Rattle.std.specs.Option.{option_map};
 ghost use Rattle.http.specs.Request.{head_of};
-ghost use Rattle.page_service.specs.Answers.{answer_at, answer_to, lone};
+ghost use Rattle.status_page.specs.Answers.{answer_at, answer_to, lone};
 ghost use Rattle.http_header.specs.HeaderMap.{get_all};
 
 use crate::answer::Answer;

@@ -1,7 +1,7 @@
 //! What a request gets.
 
 ghost use Rattle.std.specs.Prelude.{◌≡◌};
-ghost use Rattle.page_service.specs.Responses.{status_of};
+ghost use Rattle.status_page.specs.Responses.{status_of};
 
 use crate::page::Page;
 use http::StatusCode;

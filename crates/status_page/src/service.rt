@@ -4,8 +4,8 @@ ghost use Rattle.std.specs.Prelude.{◌≡◌, ◌++◌, [], OnOk};
 ghost use Rattle.http.specs.Request.{head_of};
 ghost use Rattle.http_header.specs.FieldValue.{plain_value};
 ghost use Rattle.http_server.specs.Response.{IsResponse, fields_of};
-ghost use Rattle.page_service.specs.Answers.{answer_to};
-ghost use Rattle.page_service.specs.Responses.{status_of, content_type_of, fields_of_answer, body_of_answer, guards, allowed};
+ghost use Rattle.status_page.specs.Answers.{answer_to};
+ghost use Rattle.status_page.specs.Responses.{status_of, content_type_of, fields_of_answer, body_of_answer, guards, allowed};
 
 use crate::answer::Answer;
 use crate::asking::answer_request;

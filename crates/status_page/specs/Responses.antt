@@ -1,10 +1,10 @@
 -- The response to each request.
 use Rattle.std.specs.Prelude.{ℕ, List, [], ◌∷◌, ◌++◌, codes}
 use Rattle.http1.specs.Fields.{Header}
-use Rattle.page_service.specs.declared.page.Page.{Page}
-use Rattle.page_service.specs.declared.page.Page.TheVariants.{Status, State, Metrics}
-use Rattle.page_service.specs.declared.answer.Answer.{Answer}
-use Rattle.page_service.specs.declared.answer.Answer.TheVariants.{Shown, BadRequest, Forbidden, NotFound, NotAllowed}
+use Rattle.status_page.specs.declared.page.Page.{Page}
+use Rattle.status_page.specs.declared.page.Page.TheVariants.{Status, State, Metrics}
+use Rattle.status_page.specs.declared.answer.Answer.{Answer}
+use Rattle.status_page.specs.declared.answer.Answer.TheVariants.{Shown, BadRequest, Forbidden, NotFound, NotAllowed}
 
 abbrev pub status_of : Answer → ℕ
 status_of (Shown page) = 200

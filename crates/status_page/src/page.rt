@@ -1,8 +1,8 @@
 //! The pages: where they are, and what they hold.
 
 ghost use Rattle.std.specs.Prelude.{◌≡◌, ◌++◌, ℕ, List, OnOk};
-ghost use Rattle.page_service.specs.Pages.{page_at};
-ghost use Rattle.page_service.specs.declared.page.Page.{Page};
+ghost use Rattle.status_page.specs.Pages.{page_at};
+ghost use Rattle.status_page.specs.declared.page.Page.{Page};
 
 use http_server::Rope;
 use std::alloc::AllocError;
