@@ -11,8 +11,8 @@ use crate::outgoing::Outgoing;
 use mio::net::{TcpStream, UnixStream};
 use mio::{Events, Poll};
 use script::{Sink, Source};
-use serve_settings::ConsolePlace;
 use served_node::ConsoleStream;
+use settings_file::serve::ConsolePlace;
 use std::os::unix;
 use std::{io, net};
 

@@ -8,10 +8,10 @@ use Rattle.settings_file.specs.Reading.{IsReadAs, IsFirstFault}
 use Rattle.settings_file.specs.declared.fault.SettingsFault.{SettingsFault}
 use Rattle.settings_file.specs.declared.fault.SettingsFault.TheVariants.{Text}
 use Rattle.settings_file.specs.Parsed.{AreDocument}
-use Rattle.serve_settings.specs.Addresses.{Spelling}
-use Rattle.serve_settings.specs.Reading.{checked}
-use Rattle.serve_settings.specs.declared.fault.ServeFault.{ServeFault}
-use Rattle.serve_settings.specs.declared.fault.ServeFault.TheVariants.{NoMemory}
+use Rattle.settings_file.specs.Addresses.{Spelling}
+use Rattle.settings_file.specs.ServeReading.{checked}
+use Rattle.settings_file.specs.declared.serve.fault.ServeFault.{ServeFault}
+use Rattle.settings_file.specs.declared.serve.fault.ServeFault.TheVariants.{NoMemory}
 use Rattle.toml.specs.Data.{Members}
 use Rattle.program.specs.declared.folder.FileFault.{FileFault}
 

@@ -15,9 +15,9 @@ use Rattle.lab.specs.Network.{network_fault}
 use Rattle.lab.specs.declared.network.NetworkFault.{NetworkFault}
 use Rattle.program.specs.Network.{network_line, network_sentence}
 use Rattle.program.specs.Folders.{FileRead, AreSettings, IsFault, AreServed, IsServerFault}
-use Rattle.serve_settings.specs.Faults as server
-use Rattle.serve_settings.specs.Sentences as server_sentences
-use Rattle.serve_settings.specs.declared.fault.ServeFault.{ServeFault}
+use Rattle.settings_file.specs.ServeFaults as server
+use Rattle.settings_file.specs.ServeSentences as server_sentences
+use Rattle.settings_file.specs.declared.serve.fault.ServeFault.{ServeFault}
 use Rattle.script.specs.Runs.{Runs}
 use Rattle.script.specs.Streams.{Input, Output, AppendsFirst, counted}
 use Rattle.program.specs.declared.folder.FileFault.TheVariants as file_fault

@@ -2,12 +2,12 @@
 use Rattle.std.specs.Prelude.{◌≡◌, ◌⊎◌, ℕ, List, Ok, Err}
 use Rattle.toml.specs.Data.{Members}
 use Rattle.settings_file.specs.Parsed.{AreDocument}
-use Rattle.serve_settings.specs.Addresses.{Spelling}
-use Rattle.serve_settings.specs.Consoles.{Place}
-use Rattle.serve_settings.specs.Reading.{console_told}
-use Rattle.serve_settings.specs.Sentences as server
-use Rattle.serve_settings.specs.declared.fault.ServeFault.{ServeFault}
-use Rattle.serve_settings.specs.declared.fault.ServeFault.TheVariants.{NoMemory}
+use Rattle.settings_file.specs.Addresses.{Spelling}
+use Rattle.settings_file.specs.Consoles.{Place}
+use Rattle.settings_file.specs.ServeReading.{console_told}
+use Rattle.settings_file.specs.ServeSentences as server
+use Rattle.settings_file.specs.declared.serve.fault.ServeFault.{ServeFault}
+use Rattle.settings_file.specs.declared.serve.fault.ServeFault.TheVariants.{NoMemory}
 use Rattle.program.specs.Explaining.{IsToldOf}
 use Rattle.program.specs.Folders.{FileRead}
 use Rattle.program.specs.Program.{Streams, EndsWith, EndsAtFile, told_server}

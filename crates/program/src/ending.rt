@@ -3,15 +3,15 @@
 ghost use Rattle.std.specs.Prelude.{◌≡◌, ◌≢◌, ◌⊎◌, IfOk, string_bytes, codes};
 ghost use Rattle.std.specs.IoError.{error_kind};
 ghost use Rattle.settings_file.specs.Faults.{no_memory};
-ghost use Rattle.serve_settings.specs.Sentences as server;
+ghost use Rattle.settings_file.specs.ServeSentences as server;
 ghost use Rattle.program.specs.Explaining.{IsTold, IsToldOf, IsFaultExplained, usage_text};
 ghost use Rattle.program.specs.Program.{told, told_server, version_line, EndsWith};
 
 use crate::explaining::{USAGE, explain_fault, explain_no_document, explain_server, explain_words};
 use crate::program::Status;
 use script::Sink;
-use serve_settings::ServeFault;
 use settings_file::SettingsFault;
+use settings_file::serve::ServeFault;
 use std::alloc::{AllocError, Global};
 use std::io::{Error, ErrorKind};
 use toml::Table;

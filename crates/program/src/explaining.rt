@@ -1,7 +1,7 @@
 //! What goes to standard error: why the program doesn't do what was meant.
 
 ghost use Rattle.std.specs.Prelude.{◌≡◌};
-ghost use Rattle.serve_settings.specs.Sentences as server;
+ghost use Rattle.settings_file.specs.ServeSentences as server;
 ghost use Rattle.program.specs.Explaining.{IsTold, IsToldMade, IsToldOf, usage_text, unread_text, unread_sentence};
 ghost use Rattle.program.specs.Explaining.{IsWarned, IsFaultExplained};
 ghost use Rattle.program.specs.Explaining.{IsEndExplained, IsScriptExplained, IsLabEndExplained};
@@ -11,8 +11,8 @@ use crate::folder::Unread;
 use crate::sentences::sentence;
 use console_caller::CallFault;
 use script::{LineFault, ScriptFault, Sink};
-use serve_settings::{ConsolePlace, ServeFault};
 use settings_file::SettingsFault;
+use settings_file::serve::{ConsolePlace, ServeFault};
 use std::alloc::{AllocError, Global};
 use toml::Table;
 
@@ -119,7 +119,7 @@ pub(crate) fn explain_server<E: Sink>(
     ensures { IsToldOf (server.Explains file.now fault) (E.output errors.old) (E.output errors.new) }
 {
     tell_made(
-        serve_settings::sentence(alloc, file, document, fault),
+        settings_file::serve::sentence(alloc, file, document, fault),
         errors,
     );
 }

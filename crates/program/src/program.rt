@@ -26,9 +26,9 @@ use command_line::{Words, read_words};
 use exchange::{Exchange, NoMemory};
 use lab::Joiner;
 use script::{OpenLine, ScriptFault, Sink, Source, built_in, run_pieces};
-use serve_settings::check_server;
 use settings::Settings;
 use settings_file::SettingsFault;
+use settings_file::serve::check_server;
 use std::alloc::Global;
 use toml::Table;
 

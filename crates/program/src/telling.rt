@@ -14,7 +14,7 @@ use crate::program::Status;
 use crate::settings_files::document_of;
 use console_caller::{CallFault, Told, call};
 use script::{Sink, Source};
-use serve_settings::{ConsolePlace, read_console};
+use settings_file::serve::{ConsolePlace, read_console};
 use toml::Table;
 
 /// Tells these words to the console that the settings of a file name, or else what the reader gives, and prints the

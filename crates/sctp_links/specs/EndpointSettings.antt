@@ -1,8 +1,8 @@
 -- The settings of a link's endpoint, and what its datagrams have.
 use Rattle.sctp_sending.specs.declared.bounds.Bounds.{Bounds}
 use Rattle.sctp_bundling.specs.declared.settings.Settings.{Settings}
-use Rattle.serve_settings.specs.declared.sctp.Remote.{Remote}
-use Rattle.serve_settings.specs.declared.sctp.SctpTimes.{SctpTimes}
+use Rattle.settings_file.specs.declared.serve.sctp.Remote.{Remote}
+use Rattle.settings_file.specs.declared.serve.sctp.SctpTimes.{SctpTimes}
 use Rattle.sctp_links.specs.declared.endpoint_settings.TheConstants.{COOKIE_LIFE}
 use Rattle.sctp_links.specs.declared.peers.Peer.{Peer}
 use Rattle.sctp_links.specs.Hosts.{address_of}

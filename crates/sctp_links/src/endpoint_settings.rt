@@ -7,7 +7,7 @@ use crate::hosts::address_of;
 use crate::peers::Peer;
 use sctp_endpoint::Settings;
 use sctp_sending::Bounds;
-use serve_settings::{Remote, SctpTimes};
+use settings_file::serve::{Remote, SctpTimes};
 
 /// How long a cookie is good, in milliseconds: Valid.Cookie.Life (RFC 9260 §16).
 const COOKIE_LIFE: u32 = 60_000;

@@ -1,3 +1,10 @@
 pub mod Basics
 pub mod Each
 pub mod Readings
+pub mod Behind
+pub mod Parsed
+pub mod Spelled
+pub mod Exists
+pub mod Explained
+pub mod Sources
+pub mod Within

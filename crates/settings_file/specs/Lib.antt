@@ -11,3 +11,15 @@ pub mod Sentences
 pub mod Values
 pub mod KnownKeys
 pub mod Warnings
+pub mod ServeKeys
+pub mod ServeFaults
+pub mod ServeSentences
+pub mod ServeShapes
+pub mod Addresses
+pub mod Keyed
+pub mod Consoles
+pub mod Times
+pub mod Endpoints
+pub mod Served
+pub mod ServedInside
+pub mod ServeReading

@@ -1,4 +1,5 @@
-//! Settings as a file says them (TOML): what is read, the first fault, and sentences about faults for a person.
+//! Settings as a file says them (TOML), those of the node and those of its server: what is read, the first fault, and
+//! sentences about faults for a person.
 #![tactic(auto)]
 
 mod arrays;
@@ -11,6 +12,7 @@ pub mod limits;
 mod phrases;
 mod places;
 mod sentences;
+pub mod serve;
 mod shapes;
 mod timers;
 mod unknown;

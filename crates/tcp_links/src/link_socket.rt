@@ -8,10 +8,10 @@ use mio::Registry;
 use mio::event::Event as Readiness;
 use mio::net::TcpStream;
 use script::Sink;
-use serve_settings::Endpoint;
 use served_link::{Association, Retry, Watch};
 use served_node::{Listener, Log, Node, SocketName};
 use settings::{FailureReason, LinkId};
+use settings_file::serve::Endpoint;
 use std::net::{Net, SocketAddr};
 use std::time::Duration;
 

@@ -1,8 +1,8 @@
 //! The peers before their first round, and the settings of the node between them.
 
 use super::station::Station;
-use serve_settings::ServeSettings;
 use settings::Settings;
+use settings_file::serve::ServeSettings;
 use std::alloc::{AllocError, Global};
 use std::io;
 
@@ -55,7 +55,7 @@ pub(crate) fn open(rt: &HostRuntime, place: Place, octets: usize) -> Option<Stat
 /// Its settings. None if there are no such ports.
 fn read(alloc: Global, place: Place) -> Option<(Settings, ServeSettings)> {
     let text = text(alloc, place).ok()?;
-    serve_settings::read(alloc, text.as_str()).ok()
+    settings_file::serve::read(alloc, text.as_str()).ok()
 }
 
 /// Prints the settings of a node.

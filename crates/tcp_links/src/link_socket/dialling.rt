@@ -5,9 +5,9 @@ use crate::connection::Connection;
 use mio::Registry;
 use mio::net::TcpStream;
 use script::Sink;
-use serve_settings::Endpoint;
 use served_link::{Association, LONGEST_WAIT};
 use served_node::{Log, Node};
+use settings_file::serve::Endpoint;
 use std::net::{Net, SocketAddr};
 use std::time::Duration;
 

@@ -1,6 +1,6 @@
 use Rattle.std.proofs.Common.{inl, inr, refl}
 use Rattle.toml.specs.View.{table_view}
-use Rattle.serve_settings.specs.declared.fault.ServeFault.TheVariants.{NoMemory}
+use Rattle.settings_file.specs.declared.serve.fault.ServeFault.TheVariants.{NoMemory}
 use Rattle.program.proofs.program.check_server_in.Goals as goal
 
 pub returns-in-Ok : goal.returns-in-Ok

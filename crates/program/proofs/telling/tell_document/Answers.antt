@@ -1,7 +1,7 @@
 use Rattle.std.proofs.Common.{inl, inr, refl}
 use Rattle.toml.specs.View.{table_view}
-use Rattle.serve_settings.specs.Consoles.{place_of}
-use Rattle.serve_settings.specs.declared.fault.ServeFault.TheVariants.{NoMemory}
+use Rattle.settings_file.specs.Consoles.{place_of}
+use Rattle.settings_file.specs.declared.serve.fault.ServeFault.TheVariants.{NoMemory}
 use Rattle.program.proofs.telling.tell_document.Goals as goal
 
 pub returns-in-Ok : goal.returns-in-Ok

@@ -1,7 +1,0 @@
-use Rattle.serve_settings.proofs.Basics.{sym}
-use Rattle.serve_settings.specs.Consoles.{place_in}
-use Rattle.serve_settings.proofs.console_place.place_in.Goals as goal
-
-pub returns-else-is_path : goal.returns-else-is_path
-unfolding place_in
-returns-else-is_path c = λ s. rw (sym c.if-is_path.ensures) (c.tcp_place.ensures s)

@@ -1,5 +1,0 @@
-use Rattle.serve_settings.proofs.Parsed.{server-parsed}
-use Rattle.serve_settings.proofs.document.read_server.Goals as goal
-
-pub returns : goal.returns
-returns c = λ s text parsed. rw (server-parsed s text _ parsed) (c.contents.ensures s)

@@ -1,9 +1,0 @@
-use Rattle.serve_settings.proofs.Basics.{◌≡◌, [], drop, map, view, Spelling, endpoints_behind}
-use Rattle.std.specs.Prelude.{true}
-use Rattle.serve_settings.specs.Endpoints.{have_source}
-use Rattle.serve_settings.proofs.endpoints.each_endpoint.Given as goal
-
-abbrev pub invariant-loop-i : goal.invariant-loop-i
-invariant-loop-i l =
-    ((s : Spelling) → endpoints_behind s l.own l.endpoints.items (map view (drop l.i l.values)) ≡ endpoints_behind s l.own [] (map view l.values))
-    × (have_source l.own.udp l.endpoints.items ≡ true)

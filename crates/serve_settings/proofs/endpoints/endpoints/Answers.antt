@@ -1,6 +1,0 @@
-use Rattle.serve_settings.proofs.Basics.{endpoints_at}
-use Rattle.serve_settings.proofs.endpoints.endpoints.Goals as goal
-
-pub returns-clause-value : goal.returns-clause-value
-unfolding endpoints_at
-returns-clause-value c = λ s. rw c.in_ok-values.ensures (c.each_endpoint.ensures.value s)

@@ -1,0 +1,10 @@
+-- What a function tells that tells what address a text spells.
+use Rattle.settings_file.proofs.Basics.{◌≡◌, ℕ, List, Option, Some, None, refl, SocketAddr, IsSocketText, Spelling}
+
+none-told : (s : Spelling) (text : List ℕ) (told : Option SocketAddr) → s.address text ≡ told → ((a : SocketAddr) → ¬ (IsSocketText text a)) → told ≡ None
+none-told s text None is none = refl
+none-told s text (Some a) is none = absurd (none a (s.sound text a is))
+
+-- of a text that spells none
+pub none-spelled : (s : Spelling) (text : List ℕ) → ((a : SocketAddr) → ¬ (IsSocketText text a)) → s.address text ≡ None
+none-spelled s text none = none-told s text _ refl none

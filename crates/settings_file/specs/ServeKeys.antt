@@ -1,0 +1,54 @@
+-- The keys of a server's settings, and how they are written.
+use Rattle.std.specs.Prelude.{ℕ, List, [], Option, Some, None, codes}
+use Rattle.settings_rows.specs.Keys.{path_of}
+use Rattle.settings_file.specs.declared.serve.key.ServeKey.{ServeKey}
+use Rattle.settings_file.specs.declared.serve.key.ServeKey.TheVariants as key
+
+-- how a key is written; of a key of a link, how the array of links is
+abbrev pub key_front : ServeKey → List ℕ
+key_front key.Serve = codes "serve"
+key_front key.TickMs = codes "serve.tick_ms"
+key_front key.Console = codes "serve.console"
+key_front key.Capture = codes "serve.capture"
+key_front key.ConsoleOpen = codes "serve.console_open"
+key_front key.Points = codes "serve.points"
+key_front key.Udp = codes "serve.udp"
+key_front key.Sctp = codes "serve.sctp"
+key_front key.RtoInitialMs = codes "serve.sctp.rto_initial_ms"
+key_front key.RtoMinMs = codes "serve.sctp.rto_min_ms"
+key_front key.RtoMaxMs = codes "serve.sctp.rto_max_ms"
+key_front key.InitTries = codes "serve.sctp.init_tries"
+key_front key.Retransmissions = codes "serve.sctp.retransmissions"
+key_front key.HeartbeatMs = codes "serve.sctp.heartbeat_ms"
+key_front key.PageOpen = codes "serve.page_open"
+key_front key.Page = codes "serve.page"
+key_front (key.LinkListen i) = codes "link"
+key_front (key.LinkConnect i) = codes "link"
+key_front (key.LinkRemote i) = codes "link"
+key_front (key.LinkSctpPort i) = codes "link"
+key_front (key.LinkRemoteSctpPort i) = codes "link"
+key_front (key.LinkTries i) = codes "link"
+
+-- the index of the link that a key is in, from 0
+abbrev pub key_index : ServeKey → Option ℕ
+key_index (key.LinkListen i) = Some i
+key_index (key.LinkConnect i) = Some i
+key_index (key.LinkRemote i) = Some i
+key_index (key.LinkSctpPort i) = Some i
+key_index (key.LinkRemoteSctpPort i) = Some i
+key_index (key.LinkTries i) = Some i
+key_index other = None
+
+-- what is after the index: a dot and the key in its link, or nothing
+abbrev pub key_back : ServeKey → List ℕ
+key_back (key.LinkListen i) = codes ".listen"
+key_back (key.LinkConnect i) = codes ".connect"
+key_back (key.LinkRemote i) = codes ".remote"
+key_back (key.LinkSctpPort i) = codes ".sctp_port"
+key_back (key.LinkRemoteSctpPort i) = codes ".remote_sctp_port"
+key_back (key.LinkTries i) = codes ".tries"
+key_back other = []
+
+-- how a key is written: `serve.tick_ms`, `link[2].listen`
+abbrev pub key_path : ServeKey → List ℕ
+key_path key = path_of (key_front key) (key_index key) (key_back key)

@@ -1,0 +1,87 @@
+-- The times and tries of associations: the keys of the table `serve.sctp`.
+use Rattle.std.specs.Prelude.{◌≤◌, ℕ, List, Option, Some, None, option_and_then, Result, Ok, Err, codes}
+use Rattle.std.specs.Prelude.{if◌then◌else◌, ◌&&◌, nat_le}
+use Rattle.toml.specs.Data.{Data, Members, get_member}
+use Rattle.settings_file.specs.declared.serve.key.ServeKey.{ServeKey}
+use Rattle.settings_file.specs.declared.serve.key.ServeKey.TheVariants as key
+use Rattle.settings_file.specs.declared.serve.fault.ServeFault.{ServeFault}
+use Rattle.settings_file.specs.declared.serve.fault.ServeFault.TheVariants.{Kind, Range}
+use Rattle.settings_file.specs.declared.serve.sctp.SctpTimes.{SctpTimes}
+use Rattle.settings_file.specs.ServeShapes.{and_then, table_in}
+use Rattle.settings_file.specs.Keyed.{number_or}
+
+-- the times and tries if a file says nothing of them
+abbrev pub usual_times : SctpTimes
+usual_times = record {
+  rto_initial_ms = 300;
+  rto_min_ms = 100;
+  rto_max_ms = 1000;
+  init_tries = 8;
+  retransmissions = 10;
+  heartbeat_ms = 5000;
+}
+
+-- times and tries within their limits, with the initial timeout from the shortest to the longest
+pub record AreWithin (t : SctpTimes) : Type 0 where
+  pub least : 10 ≤ t.rto_min_ms
+  pub initial_above : t.rto_min_ms ≤ t.rto_initial_ms
+  pub initial_below : t.rto_initial_ms ≤ t.rto_max_ms
+  pub most : t.rto_max_ms ≤ 60000
+  pub init_tries_above : 1 ≤ t.init_tries
+  pub init_tries_below : t.init_tries ≤ 100
+  pub retransmissions_above : 1 ≤ t.retransmissions
+  pub retransmissions_below : t.retransmissions ≤ 100
+  pub heartbeat_above : 100 ≤ t.heartbeat_ms
+  pub heartbeat_below : t.heartbeat_ms ≤ 600000
+
+-- the number of a key of a table, which may be left out as a whole
+abbrev pub number_at : List ℕ → ServeKey → (least most usual : ℕ) → Option Members → Result ℕ ServeFault
+number_at name key least most usual t = number_or key least most usual (option_and_then (get_member name) t)
+
+-- a timeout: 10 to 60,000 ms
+abbrev pub timeout_at : List ℕ → ServeKey → (usual : ℕ) → Option Members → Result ℕ ServeFault
+timeout_at name key usual t = number_at name key 10 60000 usual t
+
+-- how often something is tried: 1 to 100 times
+abbrev pub tries_at : List ℕ → ServeKey → (usual : ℕ) → Option Members → Result ℕ ServeFault
+tries_at name key usual t = number_at name key 1 100 usual t
+
+-- the time between heartbeats: 100 to 600,000 ms
+abbrev pub heartbeat_at : Option Members → Result ℕ ServeFault
+heartbeat_at t = number_at (codes "heartbeat_ms") key.HeartbeatMs 100 600000 usual_times.heartbeat_ms t
+
+-- the initial timeout is from the shortest to the longest
+abbrev pub ordered : SctpTimes → Result SctpTimes ServeFault
+ordered t =
+    if nat_le t.rto_min_ms t.rto_initial_ms && nat_le t.rto_initial_ms t.rto_max_ms
+    then Ok t
+    else Err (Range key.RtoInitialMs)
+
+-- the keys of the table in their order; then how the timeouts are ordered
+unfoldable pub times_in : Option Members → Result SctpTimes ServeFault
+times_in t =
+    and_then (timeout_at (codes "rto_initial_ms") key.RtoInitialMs usual_times.rto_initial_ms t) (λ initial.
+    and_then (timeout_at (codes "rto_min_ms") key.RtoMinMs usual_times.rto_min_ms t) (λ least.
+    and_then (timeout_at (codes "rto_max_ms") key.RtoMaxMs usual_times.rto_max_ms t) (λ most.
+    and_then (tries_at (codes "init_tries") key.InitTries usual_times.init_tries t) (λ init_tries.
+    and_then (tries_at (codes "retransmissions") key.Retransmissions usual_times.retransmissions t) (λ retransmissions.
+    and_then (heartbeat_at t) (λ heartbeat.
+    ordered (record {
+      rto_initial_ms = initial;
+      rto_min_ms = least;
+      rto_max_ms = most;
+      init_tries = init_tries;
+      retransmissions = retransmissions;
+      heartbeat_ms = heartbeat;
+    })))))))
+
+-- the table `sctp` of `serve`, if there is one
+abbrev pub sctp_in : Option Data → Result (Option Members) ServeFault
+sctp_in None = Ok None
+sctp_in (Some d) = and_then (table_in (Kind key.Sctp) d) (λ t. Ok (Some t))
+
+unfoldable pub sctp_at : Members → Result (Option Members) ServeFault
+sctp_at serve = sctp_in (get_member (codes "sctp") serve)
+
+unfoldable pub times_at : Members → Result SctpTimes ServeFault
+times_at serve = and_then (sctp_at serve) times_in

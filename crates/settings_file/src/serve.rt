@@ -1,0 +1,25 @@
+//! The settings of a server: the keys of `[serve]` and the address of each link, read from a settings file, and
+//! sentences that say what is wrong with them.
+
+mod address;
+pub mod console_place;
+mod document;
+mod endpoints;
+pub mod fault;
+pub mod key;
+mod key_rows;
+mod keys;
+pub mod laws;
+pub mod sctp;
+mod sentences;
+pub mod server;
+mod shapes;
+mod times;
+
+pub use console_place::ConsolePlace;
+pub use document::{check_server, read, read_console, read_server};
+pub use fault::ServeFault;
+pub use key::ServeKey;
+pub use sctp::{Remote, SctpTimes};
+pub use sentences::sentence;
+pub use server::{Endpoint, ServeSettings};

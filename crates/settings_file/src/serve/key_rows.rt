@@ -1,0 +1,66 @@
+//! What the value of each key of a server must be.
+
+ghost use Rattle.std.specs.Prelude.{◌≡◌};
+ghost use Rattle.settings_file.specs.Sentences.{row_place};
+ghost use Rattle.settings_file.specs.ServeSentences.{key_place};
+
+use crate::key_rows::{KeyRow, entry_key, lone_key};
+use crate::serve::key::ServeKey;
+
+const INTEGER: &str = "an integer";
+
+const TEXT: &str = "a text";
+
+const TRUTH: &str = "true or false";
+
+const TABLE: &str = "a table";
+
+const TICK: &str = "10 to 10000";
+
+const CONSOLE: &str =
+    "an address and a port from 1 on, as \"127.0.0.1:2900\", or the path of a socket, as \"/run/stp/console\"";
+
+const ADDRESS: &str = "an address and a port from 1 on, as \"127.0.0.1:2904\"";
+
+const PAGE: &str = "an address and a port from 1 on, as \"127.0.0.1:8080\"";
+
+const UDP: &str = "an address and a port from 1 on, as \"127.0.0.1:9899\"";
+
+const TIMEOUT: &str = "10 to 60000";
+
+const INITIAL_TIMEOUT: &str = "10 to 60000, and from rto_min_ms to rto_max_ms";
+
+const TRIES: &str = "1 to 100";
+
+const SCTP_PORT: &str = "1 to 65535";
+
+pub(crate) fn key_row(key: ServeKey) -> KeyRow
+    ensures { row_place result ≡ key_place key }
+{
+    match key {
+        ServeKey::Serve => lone_key("serve", TABLE, ""),
+        ServeKey::TickMs => lone_key("serve.tick_ms", INTEGER, TICK),
+        ServeKey::Console => lone_key("serve.console", TEXT, CONSOLE),
+        ServeKey::Capture => lone_key("serve.capture", TEXT, "the name of a file"),
+        ServeKey::ConsoleOpen => lone_key("serve.console_open", TRUTH, ""),
+        ServeKey::Points => lone_key("serve.points", TEXT, "\"3-8-3\""),
+        ServeKey::Udp => lone_key("serve.udp", TEXT, UDP),
+        ServeKey::Sctp => lone_key("serve.sctp", TABLE, ""),
+        ServeKey::RtoInitialMs => lone_key("serve.sctp.rto_initial_ms", INTEGER, INITIAL_TIMEOUT),
+        ServeKey::RtoMinMs => lone_key("serve.sctp.rto_min_ms", INTEGER, TIMEOUT),
+        ServeKey::RtoMaxMs => lone_key("serve.sctp.rto_max_ms", INTEGER, TIMEOUT),
+        ServeKey::InitTries => lone_key("serve.sctp.init_tries", INTEGER, TRIES),
+        ServeKey::Retransmissions => lone_key("serve.sctp.retransmissions", INTEGER, TRIES),
+        ServeKey::HeartbeatMs => lone_key("serve.sctp.heartbeat_ms", INTEGER, "100 to 600000"),
+        ServeKey::PageOpen => lone_key("serve.page_open", TRUTH, ""),
+        ServeKey::Page => lone_key("serve.page", TEXT, PAGE),
+        ServeKey::LinkListen(i) => entry_key("link", i, "listen", TEXT, ADDRESS),
+        ServeKey::LinkConnect(i) => entry_key("link", i, "connect", TEXT, ADDRESS),
+        ServeKey::LinkRemote(i) => entry_key("link", i, "remote", TEXT, UDP),
+        ServeKey::LinkSctpPort(i) => entry_key("link", i, "sctp_port", INTEGER, SCTP_PORT),
+        ServeKey::LinkRemoteSctpPort(i) => {
+            entry_key("link", i, "remote_sctp_port", INTEGER, SCTP_PORT)
+        }
+        ServeKey::LinkTries(i) => entry_key("link", i, "tries", TRUTH, ""),
+    }
+}

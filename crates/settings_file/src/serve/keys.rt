@@ -1,0 +1,152 @@
+//! The keys of the table `serve`.
+
+ghost use Rattle.std.specs.Prelude.{◌≡◌, ◌≤◌, IfOk};
+ghost use Rattle.std.specs.Option.{option_map};
+ghost use Rattle.toml.specs.Data.{get_member};
+ghost use Rattle.toml.specs.View.{table_view};
+ghost use Rattle.settings_file.specs.Addresses.{Spelling};
+ghost use Rattle.settings_file.specs.ServeFaults.{Answers};
+ghost use Rattle.settings_file.specs.Consoles.{place_of, console_at};
+ghost use Rattle.settings_file.specs.Keyed.{truth_or, tick_ms_at, console_open_at, capture_at, points_at, udp_at, page_open_at, page_at};
+
+use crate::serve::address::{address_in, guarded, is_address_of};
+use crate::serve::console_place::{ConsolePlace, place_in};
+use crate::serve::fault::ServeFault;
+use crate::serve::key::ServeKey;
+use crate::serve::shapes::{found, integer_in, text_in, truth_in, value};
+use point_format::PointFormat;
+use std::net::SocketAddr;
+use toml::Table;
+
+/// The shortest tick, in milliseconds.
+const SHORTEST_TICK: u16 = 10;
+
+/// The longest tick, in milliseconds.
+const LONGEST_TICK: u16 = 10_000;
+
+/// How long a tick is, in milliseconds.
+#[tactic(auto, unfolding(crate::specs::Keyed::tick_ms_at))]
+pub(crate) fn tick_ms(serve: &Table) -> Result<u16, ServeFault>
+    ensures value { result ≡ tick_ms_at (table_view serve.now) }
+    ensures above { IfOk result (λ ticks. 10 ≤ ticks) }
+    ensures below { IfOk result (λ ticks. ticks ≤ 10000) }
+{
+    let value = value(serve, "tick_ms", ServeFault::Missing(ServeKey::TickMs))?;
+    let ticks = integer_in(value, ServeKey::TickMs)?;
+    match u16::try_from(ticks) {
+        Ok(ticks) if SHORTEST_TICK <= ticks && ticks <= LONGEST_TICK => Ok(ticks),
+        _ => Err(ServeFault::Range(ServeKey::TickMs)),
+    }
+}
+
+/// The truth value of a key, with this one if the key is left out.
+pub(crate) fn truth_or(
+    table: &Table,
+    name: &str,
+    key: ServeKey,
+    usual: bool,
+) -> Result<bool, ServeFault>
+    ensures { result ≡ truth_or key usual (get_member name.now (table_view table.now)) }
+{
+    match found(table, name) {
+        Some(value) => truth_in(value, key),
+        None => Ok(usual),
+    }
+}
+
+/// Whether the console may listen on an address that other machines reach.
+#[tactic(auto, unfolding(crate::specs::Keyed::console_open_at))]
+pub(crate) fn console_open(serve: &Table) -> Result<bool, ServeFault>
+    ensures { result ≡ console_open_at (table_view serve.now) }
+{
+    truth_or(serve, "console_open", ServeKey::ConsoleOpen, false)
+}
+
+/// Where the console is, if there is one. It asks for no password, so unless it is open no other machine may reach it.
+#[tactic(auto, unfolding(crate::specs::Consoles::console_at))]
+pub(crate) fn console(serve: &Table, opened: bool) -> Result<Option<ConsolePlace<'_>>, ServeFault>
+    ensures { (s : Spelling) → Answers (λ console. option_map place_of console)
+        (console_at s opened (table_view serve.now)) result }
+{
+    match found(serve, "console") {
+        Some(value) => {
+            let text = text_in(value, ServeKey::Console)?;
+            Ok(Some(place_in(text, opened)?))
+        }
+        None => Ok(None),
+    }
+}
+
+/// The file that frames are captured to, if there is one.
+#[tactic(auto, unfolding(crate::specs::Keyed::capture_at))]
+pub(crate) fn capture(serve: &Table) -> Result<Option<&str>, ServeFault>
+    ensures { Answers (λ capture. option_map (λ file. file.now) capture)
+        (capture_at (table_view serve.now)) result }
+{
+    match found(serve, "capture") {
+        Some(value) => {
+            let file = text_in(value, ServeKey::Capture)?;
+            if file.is_empty() {
+                return Err(ServeFault::Range(ServeKey::Capture));
+            }
+            Ok(Some(file))
+        }
+        None => Ok(None),
+    }
+}
+
+/// How point codes are shown.
+#[tactic(auto, unfolding(crate::specs::Keyed::points_at))]
+pub(crate) fn points(serve: &Table) -> Result<PointFormat, ServeFault>
+    ensures { result ≡ points_at (table_view serve.now) }
+{
+    match found(serve, "points") {
+        Some(value) => match text_in(value, ServeKey::Points)? {
+            "3-8-3" => Ok(PointFormat::ThreeEightThree),
+            _ => Err(ServeFault::Range(ServeKey::Points)),
+        },
+        None => Ok(PointFormat::Plain),
+    }
+}
+
+/// The address and the UDP port of the server, if it has one.
+#[tactic(auto, unfolding(crate::specs::Keyed::udp_at))]
+pub(crate) fn udp(serve: &Table) -> Result<Option<SocketAddr>, ServeFault>
+    ensures { (s : Spelling) → result ≡ udp_at s (table_view serve.now) }
+{
+    match found(serve, "udp") {
+        Some(value) => Ok(Some(address_in(value, ServeKey::Udp)?)),
+        None => Ok(None),
+    }
+}
+
+/// Whether the status page may be at an address that other machines reach.
+#[tactic(auto, unfolding(crate::specs::Keyed::page_open_at))]
+pub(crate) fn page_open(serve: &Table) -> Result<bool, ServeFault>
+    ensures { result ≡ page_open_at (table_view serve.now) }
+{
+    truth_or(serve, "page_open", ServeKey::PageOpen, false)
+}
+
+/// Where the status page is, if there is one: not where the console is. It asks for no password, so unless it is open
+/// no other machine may reach the address.
+#[tactic(auto, unfolding(crate::specs::Keyed::page_at))]
+pub(crate) fn page(
+    serve: &Table,
+    opened: bool,
+    console: Option<SocketAddr>,
+) -> Result<Option<SocketAddr>, ServeFault>
+    ensures { (s : Spelling) → result ≡ page_at s opened console (table_view serve.now) }
+{
+    match found(serve, "page") {
+        Some(value) => {
+            let address = address_in(value, ServeKey::Page)?;
+            let own = guarded(address, opened, ServeKey::Page)?;
+            if is_address_of(console, own) {
+                return Err(ServeFault::Duplicate(ServeKey::Page));
+            }
+            Ok(Some(own))
+        }
+        None => Ok(None),
+    }
+}
