@@ -1,4 +1,5 @@
 pub mod Bringing
+pub mod HeardAll
 pub mod Networks
 pub mod Reading
 pub mod Standing

@@ -3,3 +3,4 @@ pub mod Memory
 pub mod Carrying
 pub mod Script
 pub mod Network
+pub mod Hearing

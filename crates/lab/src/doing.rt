@@ -132,7 +132,7 @@ fn lose<N: Nodes, S: io::Read + io::Write + Drop>(
 }
 
 /// How many messages wait on the link of a name, as a line; or that there is no such link.
-pub fn count(name: &[u8], node: &Exchange) -> Reply {
+pub(crate) fn count(name: &[u8], node: &Exchange) -> Reply {
     let Some(link) = node.settings().link_named(name) else {
         return no_such_name();
     };

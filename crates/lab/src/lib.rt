@@ -1,11 +1,12 @@
-//! The lab: two nodes or more in one process, a script that says what happens to them, and the
-//! streams that join their links.
+//! The lab: two nodes or more in one process, a script that says what happens to them, and what joins their links:
+//! streams, or of two nodes gates whose datagrams go over UDP sockets of this machine (RFC 6951).
 #![tactic(auto)]
 
 mod bench;
 mod carrying;
 mod circuit;
 mod circuits;
+mod datagrams;
 mod doing;
 mod ends;
 mod joining;
@@ -21,9 +22,10 @@ mod wire;
 
 pub use bench::Bench;
 pub use carrying::{Carried, MOVE_READS, carry};
-pub use doing::count;
+pub use datagrams::hearing::hear_all;
+pub use datagrams::incoming::Incoming;
+pub use datagrams::run_datagram_lab;
 pub use joining::{JoinFault, Joiner};
-pub use line::{End, LabLine, parse_lab_line};
 pub use memory::{MemoryJoiner, MemoryStream};
 pub use network::{NetworkFault, network_fault};
 pub use network_run::run_network;

@@ -7,7 +7,7 @@ use script::{Line, Malformed, is_skipped, line_with_one_word};
 
 /// An end of a link. In a lab of two nodes it is one of them.
 #[derive(Clone, Copy, PartialEq, Eq)]
-pub enum End {
+pub(crate) enum End {
     /// That of the settings that were named first; in a lab of two nodes `1`.
     Near,
     /// That of the settings that were named second; in a lab of two nodes `2`.
@@ -16,7 +16,7 @@ pub enum End {
 
 impl End {
     /// The end of this number.
-    pub fn numbered(word: &[u8]) -> Option<End> {
+    pub(crate) fn numbered(word: &[u8]) -> Option<End> {
         match word {
             b"1" => Some(End::Near),
             b"2" => Some(End::Far),
@@ -25,7 +25,7 @@ impl End {
     }
 
     /// The other end.
-    pub fn other(self) -> End {
+    pub(crate) fn other(self) -> End {
         match self {
             End::Near => End::Far,
             End::Far => End::Near,
@@ -33,7 +33,7 @@ impl End {
     }
 
     /// The place of the end's node: 0 or 1.
-    pub fn place(self) -> usize {
+    pub(crate) fn place(self) -> usize {
         match self {
             End::Near => 0,
             End::Far => 1,
@@ -41,7 +41,7 @@ impl End {
     }
 
     /// The end whose node is in this place.
-    pub fn in_place(place: usize) -> Option<End> {
+    pub(crate) fn in_place(place: usize) -> Option<End> {
         match place {
             0 => Some(End::Near),
             1 => Some(End::Far),
@@ -52,7 +52,7 @@ impl End {
 
 /// What a line of a lab script asks for. END is a word for a node: `1` or `2`, or its point.
 #[derive(Drop)]
-pub enum LabLine<'a> {
+pub(crate) enum LabLine<'a> {
     /// `open LINK` or `open END LINK`: the link's ends are joined.
     Open {
         /// The place of the node that has the link.
@@ -91,7 +91,7 @@ pub enum LabLine<'a> {
 }
 
 /// What a line without its end asks for in a lab of two nodes: nothing if it is empty or begins with `#`.
-pub fn parse_lab_line(line: &[u8]) -> Result<Option<LabLine<'_>>, Malformed> {
+pub(crate) fn parse_lab_line(line: &[u8]) -> Result<Option<LabLine<'_>>, Malformed> {
     if is_skipped(line) {
         return Ok(None);
     }

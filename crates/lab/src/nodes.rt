@@ -48,6 +48,24 @@ pub(crate) struct TwoNodes<'a> {
     pub(crate) far: &'a mut Exchange,
 }
 
+impl TwoNodes<'_> {
+    /// The node of an end.
+    pub(crate) fn at(&self, end: End) -> &Exchange {
+        match end {
+            End::Near => self.near,
+            End::Far => self.far,
+        }
+    }
+
+    /// The same, to be changed.
+    pub(crate) fn at_mut(&mut self, end: End) -> &mut Exchange {
+        match end {
+            End::Near => self.near,
+            End::Far => self.far,
+        }
+    }
+}
+
 impl Nodes for TwoNodes<'_> {
     fn read_line<'a>(&self, line: &'a [u8]) -> Result<Option<LabLine<'a>>, Malformed> {
         parse_lab_line(line)
@@ -58,16 +76,12 @@ impl Nodes for TwoNodes<'_> {
     }
 
     fn node(&self, place: usize) -> Option<&Exchange> {
-        match End::in_place(place)? {
-            End::Near => Some(self.near),
-            End::Far => Some(self.far),
-        }
+        Some(self.at(End::in_place(place)?))
     }
 
     fn perform(&mut self, place: usize, line: Line<'_>) -> Reply {
         match End::in_place(place) {
-            Some(End::Near) => perform(self.near, line),
-            Some(End::Far) => perform(self.far, line),
+            Some(end) => perform(self.at_mut(end), line),
             None => no_such_name(),
         }
     }

@@ -6,7 +6,7 @@ use crate::joining::{JoinFault, Joiner};
 use std::net::{Net, OpenListener, TcpListener, TcpStream};
 
 /// Any free port of the machine itself.
-const ANY_PORT: &str = "127.0.0.1:0";
+pub(crate) const ANY_PORT: &str = "127.0.0.1:0";
 
 /// Joins the ends of a link by a TCP connection of the machine with itself: it listens, connects and accepts, one after
 /// the other, and then listens no longer.

@@ -1,4 +1,4 @@
-//! Running a lab script over datagrams.
+//! A lab of two nodes whose links go over datagrams: two gates for each link, and two UDP sockets of this machine.
 
 ghost use Rattle.std.specs.Prelude.{◌≡◌, OnOk};
 ghost use Rattle.std.specs.Io.KnownBytes.{IsAtEnd};
@@ -8,10 +8,20 @@ ghost use Rattle.settings.specs.Naming.{link_names};
 ghost use Rattle.script.specs.Faults.{MakesReads, reads_failed, writes_failed};
 ghost use Rattle.lab.specs.Script.{LeavesAll, ReadsOn};
 
-use crate::bench::DatagramBench;
-use crate::circuit::{Times, no_circuits};
+mod datagram_bench;
+mod drop_line;
+mod gate_end;
+mod gate_pair;
+pub(crate) mod hearing;
+pub(crate) mod incoming;
+mod plugs;
+mod watched_socket;
+
+use crate::datagrams::datagram_bench::DatagramBench;
+use crate::datagrams::gate_pair::{Times, no_pairs};
+use crate::nodes::TwoNodes;
+use crate::run::run_pieces;
 use exchange::Exchange;
-use lab::run_pieces;
 use script::{ScriptFault, Sink, Source};
 use std::alloc::Global;
 use std::net::Net;
@@ -37,15 +47,14 @@ pub fn run_datagram_lab<N: Net + RandomSource, R: Source, W: Sink>(
     ensures unchanged { LeavesAll {N = Kept × Kept} result (near.old, far.old) (near.new, far.new)
         (R.input reader.old) (R.input reader.new) (W.output writer.old) (W.output writer.new) }
 {
-    let Ok(mut circuits) = no_circuits(alloc, near.settings().link_count()) else {
+    let Ok(mut pairs) = no_pairs(alloc, near.settings().link_count()) else {
         return Err(ScriptFault::NoMemory);
     };
     let mut bench = DatagramBench {
         net,
         alloc,
-        near,
-        far,
-        circuits: circuits.as_mut_slice(),
+        nodes: TwoNodes { near, far },
+        pairs: pairs.as_mut_slice(),
         times: Times::START,
     };
     run_pieces(&mut bench, reader, writer)

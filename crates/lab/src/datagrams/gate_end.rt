@@ -1,11 +1,11 @@
 //! A node's end of a link over datagrams.
 
-use crate::hearing::hear_all;
-use crate::incoming::Incoming;
-use crate::sockets::{Inbox, Plug};
-use crate::wire::Wire;
+use crate::datagrams::hearing::hear_all;
+use crate::datagrams::incoming::Incoming;
+use crate::datagrams::plugs::{Inbox, Plug};
+use crate::datagrams::watched_socket::WatchedSocket;
 use exchange::Exchange;
-use sctp_endpoint::Settings;
+use sctp_endpoint::Settings as EndpointSettings;
 use sctp_endpoint::endpoint::KEY_OCTETS;
 use sctp_gate::Gate;
 use sctp_sending::Bounds;
@@ -60,15 +60,15 @@ impl Keys {
 
 /// A node's end of a link: its gate, and what its datagrams come from and go out by.
 #[derive(Drop)]
-pub(crate) struct Port {
+pub(crate) struct GateEnd {
     gate: Gate,
     inbox: Inbox,
-    wire: Wire,
+    socket: WatchedSocket,
 }
 
-/// What a move came to.
+/// What came to an end in a move.
 #[derive(Clone, Copy)]
-pub(crate) struct Moved {
+pub(crate) struct Heard {
     /// How many datagrams came.
     pub(crate) datagrams: u64,
     /// How many frames were in them.
@@ -77,7 +77,7 @@ pub(crate) struct Moved {
     pub(crate) local: u64,
 }
 
-impl Port {
+impl GateEnd {
     /// An end without an association. It tries to open one, or waits for the other end. The error means that memory ran
     /// out.
     pub(crate) fn new(
@@ -86,8 +86,8 @@ impl Port {
         tries: bool,
         plug: Plug,
         keys: &Keys,
-    ) -> Result<Port, AllocError> {
-        let settings = Settings {
+    ) -> Result<GateEnd, AllocError> {
+        let settings = EndpointSettings {
             own_port: M2PA_PORT,
             far_port: M2PA_PORT,
             address: plug.inbox.other(),
@@ -98,37 +98,37 @@ impl Port {
             cookie_life: COOKIE_LIFE,
         };
         let gate = Gate::new(alloc, link, tries, settings, keys.tags, keys.cookies)?;
-        Ok(Port {
+        Ok(GateEnd {
             gate,
             inbox: plug.inbox,
-            wire: Wire::new(plug.outgoing),
+            socket: WatchedSocket::new(plug.outgoing),
         })
     }
 
     /// The endpoint is set to what the link wants.
     pub(crate) fn settle(&mut self, node: &mut Exchange, now: u64) {
-        self.gate.settle(node, now, &mut self.wire);
+        self.gate.settle(node, now, &mut self.socket);
     }
 
     /// Time went by.
     pub(crate) fn tick(&mut self, node: &mut Exchange, now: u64) {
-        self.gate.tick(node, now, &mut self.wire);
+        self.gate.tick(node, now, &mut self.socket);
     }
 
     /// The association ends by ABORT.
     pub(crate) fn close(&mut self, node: &mut Exchange, now: u64) {
-        self.gate.close(node, now, &mut self.wire);
+        self.gate.close(node, now, &mut self.socket);
     }
 
     /// Frames go out, and what else is due.
     pub(crate) fn put_out(&mut self, node: &mut Exchange, now: u64) {
-        self.gate.settle(node, now, &mut self.wire);
-        self.gate.fill(node, now, &mut self.wire);
+        self.gate.settle(node, now, &mut self.socket);
+        self.gate.fill(node, now, &mut self.socket);
     }
 
     /// Hands in the datagrams that are on their way from the other end. Those that don't come are lost.
-    pub(crate) fn hear(&mut self, other: &Port, node: &mut Exchange, now: u64) -> Moved {
-        let (frames, local) = (self.wire.frames, self.wire.local);
+    pub(crate) fn hear(&mut self, other: &GateEnd, node: &mut Exchange, now: u64) -> Heard {
+        let (frames, local) = (self.socket.frames, self.socket.local);
         let awaited = self.awaited(other);
         let heard = hear_all(
             &mut self.gate,
@@ -136,33 +136,33 @@ impl Port {
             &mut self.inbox,
             awaited,
             now,
-            &mut self.wire,
+            &mut self.socket,
         );
-        self.inbox.taken = other.wire.sent;
-        Moved {
+        self.inbox.taken = other.socket.sent;
+        Heard {
             datagrams: heard as u64,
-            frames: self.wire.frames.saturating_sub(frames),
-            local: self.wire.local.saturating_sub(local),
+            frames: self.socket.frames.saturating_sub(frames),
+            local: self.socket.local.saturating_sub(local),
         }
     }
 
     /// Drops the datagrams that are on their way from the other end. Returns how many there were.
-    pub(crate) fn drop_all(&mut self, other: &Port) -> usize {
+    pub(crate) fn drop_all(&mut self, other: &GateEnd) -> usize {
         let awaited = self.awaited(other);
         let mut buffer = [0; DROPPED_OCTETS];
         for dropped in 0..awaited {
             if self.inbox.receive(&mut buffer).is_none() {
-                self.inbox.taken = other.wire.sent;
+                self.inbox.taken = other.socket.sent;
                 return dropped;
             }
         }
-        self.inbox.taken = other.wire.sent;
+        self.inbox.taken = other.socket.sent;
         awaited
     }
 
     /// How many datagrams are on their way from the other end.
-    fn awaited(&self, other: &Port) -> usize {
-        let awaited = other.wire.sent.saturating_sub(self.inbox.taken);
+    fn awaited(&self, other: &GateEnd) -> usize {
+        let awaited = other.socket.sent.saturating_sub(self.inbox.taken);
         usize::try_from(awaited).unwrap_or(usize::MAX)
     }
 }

@@ -1,7 +1,7 @@
 //! What the datagrams of a gate come from.
 
 ghost use Rattle.std.specs.Prelude.{Option, List, IfNone};
-ghost use Rattle.datagram_lab.specs.Hearing.{Came, Receives, IsDry};
+ghost use Rattle.lab.specs.Hearing.{Came, Receives, IsDry};
 
 use sctp_endpoint::Address;
 

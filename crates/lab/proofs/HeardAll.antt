@@ -13,7 +13,7 @@ use Rattle.sctp_gate.specs.Gates.{Gate, Did, nothing, followed_by, heard}
 use Rattle.sctp_gate.specs.Making.{Makes, MakesWhole}
 use Rattle.sctp_gate.proofs.Making.{makes-nothing, makes-then}
 use Rattle.sctp_gate.proofs.Whole.{Same, same-heard, makes-whole}
-use Rattle.datagram_lab.specs.Hearing.{Came, one_by_one, hears, heard_all, Loses, GivesEach}
+use Rattle.lab.specs.Hearing.{Came, one_by_one, hears, heard_all, Loses, GivesEach}
 
 -- one more at the end
 more-done : {Q : Type 0} (call : Came → Gate → State Q → Did Q) (d : Did Q) (came : List Came) (one : Came)

@@ -1,5 +1,5 @@
-use Rattle.datagram_lab.proofs.HeardAll.{SoFar}
-use Rattle.datagram_lab.proofs.hearing.hear_all.Given as goal
+use Rattle.lab.proofs.HeardAll.{SoFar}
+use Rattle.lab.proofs.datagrams.hearing.hear_all.Given as goal
 
 abbrev pub invariant-loop-heard : goal.invariant-loop-heard
 invariant-loop-heard g l =

@@ -1,7 +1,7 @@
 //! The lines that only a lab over datagrams has.
 
+use crate::line::End;
 use console::words::cut;
-use lab::End;
 
 /// What `drop END LINK` asks for: what there is goes out at that end, and is lost.
 #[derive(Clone, Copy)]

@@ -9,7 +9,7 @@ use std::net::UdpSocket;
 
 /// A socket that is connected to that of the other end, and counts.
 #[derive(Drop)]
-pub(crate) struct Wire {
+pub(crate) struct WatchedSocket {
     socket: UdpSocket,
     /// How many datagrams went out.
     pub(crate) sent: u64,
@@ -19,10 +19,10 @@ pub(crate) struct Wire {
     pub(crate) local: u64,
 }
 
-impl Wire {
+impl WatchedSocket {
     /// Nothing went out or came in.
-    pub(crate) fn new(socket: UdpSocket) -> Wire {
-        Wire {
+    pub(crate) fn new(socket: UdpSocket) -> WatchedSocket {
+        WatchedSocket {
             socket,
             sent: 0,
             frames: 0,
@@ -31,7 +31,7 @@ impl Wire {
     }
 }
 
-impl Watch for Wire {
+impl Watch for WatchedSocket {
     // No contract can say what a socket takes.
     ghost has = { λ _ _ _. Unit {0} };
 

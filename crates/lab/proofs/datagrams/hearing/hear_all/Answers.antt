@@ -1,7 +1,7 @@
 use Rattle.std.proofs.Common.{◌≡◌, ℕ, List, Option, sym, subst, arith}
-use Rattle.datagram_lab.specs.Hearing.{Came}
-use Rattle.datagram_lab.proofs.HeardAll.{SoFar, heard-more, heard-whole}
-use Rattle.datagram_lab.proofs.hearing.hear_all.Goals as goal
+use Rattle.lab.specs.Hearing.{Came}
+use Rattle.lab.proofs.HeardAll.{SoFar, heard-more, heard-whole}
+use Rattle.lab.proofs.datagrams.hearing.hear_all.Goals as goal
 
 pub returns-in_default-clause-whole : goal.returns-in_default-clause-whole
 returns-in_default-clause-whole g c = λ a s.

@@ -1,13 +1,11 @@
 //! The sockets of a link, and what comes from one.
 
-use crate::incoming::Incoming;
+use crate::datagrams::incoming::Incoming;
+use crate::sockets::ANY_PORT;
 use sctp_endpoint::Address;
 use std::io;
 use std::net::{Ipv4Addr, Net, UdpSocket};
 use std::time::Duration;
-
-/// Any free port of the machine itself.
-const ANY_PORT: &str = "127.0.0.1:0";
 
 /// How long a datagram that is on its way is waited for, in milliseconds.
 const PATIENCE_MS: u64 = 1_000;

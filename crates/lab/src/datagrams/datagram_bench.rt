@@ -1,14 +1,17 @@
-//! What the lines of a script do.
+//! What the lines of a script do where links go over datagrams.
 
-use crate::circuit::{Circuit, Times, circuit_at, tick_all};
-use crate::line::parse_drop;
-use crate::port::Moved;
+use crate::bench::Bench;
+use crate::datagrams::drop_line::parse_drop;
+use crate::datagrams::gate_end::Heard;
+use crate::datagrams::gate_pair::{GatePair, Times, pair_at, tick_all};
+use crate::doing::{count, lost};
+use crate::line::{End, LabLine, parse_lab_line};
+use crate::nodes::{TwoNodes, no_such_name};
 use arrayvec::ArrayString;
-use console::{LINE_OCTETS, link_name};
+use console::LINE_OCTETS;
 use exchange::{Event, Exchange, Wants};
-use lab::{Bench, End, LabLine, count, parse_lab_line};
-use script::{Line, Malformed, Reply, console_line, none_line, perform};
-use settings::{Cause, LinkId, Outcome};
+use script::{Line, Malformed, Reply, Text, console_line, none_line, perform};
+use settings::{LinkId, Outcome};
 use std::alloc::Global;
 use std::fmt::Write;
 use std::net::Net;
@@ -22,9 +25,8 @@ const TICK_MS: u64 = 100;
 pub(crate) struct DatagramBench<'a, N> {
     pub(crate) net: &'a N,
     pub(crate) alloc: Global,
-    pub(crate) near: &'a mut Exchange,
-    pub(crate) far: &'a mut Exchange,
-    pub(crate) circuits: &'a mut [Option<Circuit>],
+    pub(crate) nodes: TwoNodes<'a>,
+    pub(crate) pairs: &'a mut [Option<GatePair>],
     pub(crate) times: Times,
 }
 
@@ -41,7 +43,7 @@ impl<N: Net + RandomSource> Bench for DatagramBench<'_, N> {
     }
 
     fn node(&self, place: usize) -> Option<&Exchange> {
-        Some(self.node_at(End::in_place(place)?))
+        Some(self.nodes.at(End::in_place(place)?))
     }
 }
 
@@ -55,64 +57,58 @@ impl<N: Net + RandomSource> DatagramBench<'_, N> {
                 (end.other().place(), self.carry_from(end, link))
             }
             LabLine::Lose { place, link } => (place, self.lose(end_in(place), link)),
-            LabLine::TakeCount { place, link } => (place, count(link, self.node_at(end_in(place)))),
+            LabLine::TakeCount { place, link } => (
+                place,
+                count(link, self.nodes.at(end_in(place))),
+            ),
             LabLine::AtNode {
                 place,
                 line: Line::Tick { ticks },
             } => (place, self.tick(end_in(place), ticks)),
             LabLine::AtNode { place, line } => {
-                (place, perform(self.node_mut(end_in(place)), line))
+                (place, perform(self.nodes.at_mut(end_in(place)), line))
             }
         }
     }
 
-    /// The node of an end.
-    fn node_at(&self, end: End) -> &Exchange {
-        match end {
-            End::Near => self.near,
-            End::Far => self.far,
-        }
-    }
-
-    /// The same, to be changed.
-    fn node_mut(&mut self, end: End) -> &mut Exchange {
-        match end {
-            End::Near => self.near,
-            End::Far => self.far,
-        }
+    /// The link of a name, which is the same at both nodes.
+    fn named(&self, name: &[u8]) -> Option<LinkId> {
+        self.nodes.at(End::Near).settings().link_named(name)
     }
 
     /// Gives the link of a name its sockets and gates, if both ends want it to open. The near end tries then.
     fn open(&mut self, name: &[u8]) -> Reply {
-        let Some(link) = self.near.settings().link_named(name) else {
-            return Reply::Became(Outcome::Refused(Cause::NoSuchName));
+        let Some(link) = self.named(name) else {
+            return no_such_name();
         };
-        let (Wants::Open, Wants::Open) = (self.near.wants(link), self.far.wants(link)) else {
+        let near = self.nodes.at(End::Near).wants(link);
+        let far = self.nodes.at(End::Far).wants(link);
+        let (Wants::Open, Wants::Open) = (near, far) else {
             return Reply::Line(console_line("not open"));
         };
-        let Some(place) = self.circuits.get_mut(link.index()) else {
-            return Reply::Became(Outcome::Refused(Cause::NoSuchName));
+        let Some(place) = self.pairs.get_mut(link.index()) else {
+            return no_such_name();
         };
-        match Circuit::open(self.net, self.alloc, link) {
-            Some(mut circuit) => {
-                circuit.settle(self.near, self.far, self.times);
-                *place = Some(circuit);
+        match GatePair::open(self.net, self.alloc, link) {
+            Some(mut pair) => {
+                pair.settle(&mut self.nodes, self.times);
+                *place = Some(pair);
                 Reply::Became(Outcome::Handled)
             }
-            None => lost(self.near, link),
+            None => lost(self.nodes.at(End::Near), link),
         }
     }
 
     /// What there is goes out at an end of the link of a name, and comes to the other.
     fn carry_from(&mut self, end: End, name: &[u8]) -> Reply {
-        let Some(link) = self.near.settings().link_named(name) else {
-            return Reply::Became(Outcome::Refused(Cause::NoSuchName));
+        let Some(link) = self.named(name) else {
+            return no_such_name();
         };
-        let circuits = &mut *self.circuits;
-        match circuit_at(circuits, link.index()) {
-            Some(circuit) => {
-                let moved = circuit.carry_from(end, self.near, self.far, self.times);
-                Reply::Line(moved_line(moved))
+        let pairs = &mut *self.pairs;
+        match pair_at(pairs, link.index()) {
+            Some(pair) => {
+                let heard = pair.carry_from(end, &mut self.nodes, self.times);
+                Reply::Line(heard_line(heard))
             }
             None => Reply::Line(none_line()),
         }
@@ -120,13 +116,13 @@ impl<N: Net + RandomSource> DatagramBench<'_, N> {
 
     /// An end of the link of a name ends its association by ABORT.
     fn lose(&mut self, end: End, name: &[u8]) -> Reply {
-        let Some(link) = self.near.settings().link_named(name) else {
-            return Reply::Became(Outcome::Refused(Cause::NoSuchName));
+        let Some(link) = self.named(name) else {
+            return no_such_name();
         };
-        let circuits = &mut *self.circuits;
-        match circuit_at(circuits, link.index()) {
-            Some(circuit) => {
-                circuit.close_at(end, self.near, self.far, self.times);
+        let pairs = &mut *self.pairs;
+        match pair_at(pairs, link.index()) {
+            Some(pair) => {
+                pair.close_at(end, &mut self.nodes, self.times);
                 Reply::Became(Outcome::Handled)
             }
             None => Reply::Line(none_line()),
@@ -135,13 +131,13 @@ impl<N: Net + RandomSource> DatagramBench<'_, N> {
 
     /// What there is goes out at an end of the link of a name, and is lost.
     fn drop_from(&mut self, end: End, name: &[u8]) -> Reply {
-        let Some(link) = self.near.settings().link_named(name) else {
-            return Reply::Became(Outcome::Refused(Cause::NoSuchName));
+        let Some(link) = self.named(name) else {
+            return no_such_name();
         };
-        let circuits = &mut *self.circuits;
-        match circuit_at(circuits, link.index()) {
-            Some(circuit) => {
-                let dropped = circuit.drop_from(end, self.near, self.far, self.times);
+        let pairs = &mut *self.pairs;
+        match pair_at(pairs, link.index()) {
+            Some(pair) => {
+                let dropped = pair.drop_from(end, &mut self.nodes, self.times);
                 Reply::Line(dropped_line(dropped))
             }
             None => Reply::Line(none_line()),
@@ -159,11 +155,11 @@ impl<N: Net + RandomSource> DatagramBench<'_, N> {
     /// A tick passes at an end, and then the time of its gates.
     fn tick_once(&mut self, end: End) {
         self.times.pass(end, TICK_MS);
-        let node = self.node_mut(end);
+        let node = self.nodes.at_mut(end);
         node.step(&Event::Tick);
         node.test_subsystems();
-        let circuits = &mut *self.circuits;
-        tick_all(circuits, end, self.near, self.far, self.times);
+        let pairs = &mut *self.pairs;
+        tick_all(pairs, end, &mut self.nodes, self.times);
     }
 }
 
@@ -173,27 +169,19 @@ fn end_in(place: usize) -> End {
 }
 
 /// The line of a move.
-fn moved_line(moved: Moved) -> script::Text {
+fn heard_line(heard: Heard) -> Text {
     let mut line = ArrayString::<LINE_OCTETS>::new();
     let _fits = write!(
         line,
         "datagrams {} frames {} local {}",
-        moved.datagrams, moved.frames, moved.local
+        heard.datagrams, heard.frames, heard.local
     );
     console_line(line.as_str())
 }
 
 /// The line of datagrams that were lost.
-fn dropped_line(dropped: usize) -> script::Text {
+fn dropped_line(dropped: usize) -> Text {
     let mut line = ArrayString::<LINE_OCTETS>::new();
     let _fits = write!(line, "dropped {dropped}");
     console_line(line.as_str())
-}
-
-/// The line that says that a link can't be joined.
-fn lost(node: &Exchange, link: LinkId) -> Reply {
-    let name = link_name(node.settings(), link);
-    let mut line = ArrayString::<LINE_OCTETS>::new();
-    let _fits = write!(line, "lost {name}");
-    Reply::Line(console_line(line.as_str()))
 }

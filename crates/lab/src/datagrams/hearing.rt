@@ -6,9 +6,9 @@ ghost use Rattle.exchange.specs.Calls.{StandsFor};
 ghost use Rattle.exchange_rules.specs.Queues.{whole};
 ghost use Rattle.exchange_rules.specs.First.{Abstract};
 ghost use Rattle.sctp_gate.specs.Making.{Makes, MakesWhole};
-ghost use Rattle.datagram_lab.specs.Hearing.{GivesEach, IsDry, heard_all};
+ghost use Rattle.lab.specs.Hearing.{GivesEach, IsDry, heard_all};
 
-use crate::incoming::Incoming;
+use crate::datagrams::incoming::Incoming;
 use exchange::Exchange;
 use sctp_gate::{Gate, Watch};
 
