@@ -3,7 +3,7 @@ use Rattle.std.proofs.Common.{◌≡◌, ℕ, List, Ok, Err, Some, refl, subst, 
 use Rattle.std.specs.Prelude.{String}
 use Rattle.std.specs.Global.{Global}
 use Rattle.script.specs.Streams.{Input, Output}
-use Rattle.command_line.specs.Words.{Task, FileTell, asked}
+use Rattle.program.specs.Words.{Task, FileTell, asked}
 use Rattle.program.specs.Folders.{FileRead}
 use Rattle.program.specs.Program.{Streams, streams, EndsAtFile}
 use Rattle.program.specs.Telling.{TellsDocument, TellsFile}

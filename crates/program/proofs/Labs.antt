@@ -16,7 +16,7 @@ use Rattle.program.specs.declared.program.Status.{Status}
 use Rattle.program.specs.declared.program.Status.TheVariants as status
 use Rattle.script.specs.declared.fault.ScriptFault.{ScriptFault}
 use Rattle.script.specs.declared.fault.ScriptFault.TheVariants.{Read, Write, Line, TooManyReads, NoMemory}
-use Rattle.command_line.specs.Words.{Task, LabRun, DatagramLabRun, asked}
+use Rattle.program.specs.Words.{Task, LabRun, DatagramLabRun, asked}
 
 pub lacks_memory : (script : Result Unit ScriptFault) → (script ≡ Err NoMemory) ⊎ (script ≢ Err NoMemory)
 lacks_memory (Err NoMemory) = inl refl

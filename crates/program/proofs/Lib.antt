@@ -1,3 +1,5 @@
+pub mod Asked
+pub mod Parsing
 pub mod BuiltInWell
 pub mod BuiltIn
 pub mod Told

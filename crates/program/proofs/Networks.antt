@@ -7,7 +7,7 @@ use Rattle.settings_rows.specs.Configuration.{Configuration}
 use Rattle.exchange.specs.Calls.{Kept}
 use Rattle.lab.specs.Network.{settings_in}
 use Rattle.script.specs.Streams.{Input, Output}
-use Rattle.command_line.specs.Words.{Task, NetworkRun, asked, texts}
+use Rattle.program.specs.Words.{Task, NetworkRun, asked, texts}
 use Rattle.program.specs.Folders.{FileRead}
 use Rattle.program.specs.Program.{Streams, streams, HasNoMemory, RunsJoined, HasNode, HaveSettings, EndsForMemory, EndsAtNode, EndsReading, RunsNetwork}
 use Rattle.program.specs.Tasks.{DoesTask, Does}

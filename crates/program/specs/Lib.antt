@@ -1,3 +1,5 @@
+pub mod Words
+pub mod Grammar
 pub mod Folders
 pub mod Sentences
 pub mod Explaining

@@ -10,8 +10,8 @@ use Rattle.program.specs.Program.{RunsNode, RunsFile, ChecksFile, ServesFile, Ru
 use Rattle.program.specs.Telling.{TellsFile}
 use Rattle.program.specs.declared.program.Status.{Status}
 use Rattle.program.specs.declared.program.Status.TheVariants as status
-use Rattle.command_line.specs.Words.{Task, BuiltInRun, FileRun, FileCheck, LabRun, DatagramLabRun, NetworkRun, FileServe}
-use Rattle.command_line.specs.Words.{FileTell, Help, Version, OtherWords, asked, take_memory}
+use Rattle.program.specs.Words.{Task, BuiltInRun, FileRun, FileCheck, LabRun, DatagramLabRun, NetworkRun, FileServe}
+use Rattle.program.specs.Words.{FileTell, Help, Version, OtherWords, asked, take_memory}
 
 -- what the program does for a task, if a file is read as `reads` says
 abbrev pub DoesTask : Task → (List ℕ → FileRead → Type 0) → Streams → Streams → Status → Type 0

@@ -2,6 +2,7 @@
 //! statuses.
 #![tactic(auto)]
 
+pub mod command_line;
 mod ending;
 mod explaining;
 pub mod folder;

@@ -3,7 +3,7 @@
 ghost use Rattle.std.specs.Prelude.{◌≡◌, ◌⊎◌, [], ◌∷◌, ◌++◌, IfOk, OnOk, IfErr, string_bytes};
 ghost use Rattle.settings_file.specs.Faults.{no_memory};
 ghost use Rattle.lab.specs.Network.{settings_in};
-ghost use Rattle.command_line.specs.Words.{texts};
+ghost use Rattle.program.specs.Words.{texts};
 ghost use Rattle.program.specs.Folders.{FileRead};
 ghost use Rattle.program.specs.Explaining.{IsToldOf};
 ghost use Rattle.program.specs.Network.{own_in, name_in_place, file_in, network_line, network_sentence};

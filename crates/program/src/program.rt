@@ -12,6 +12,7 @@ ghost use Rattle.settings_file.specs.Faults.{no_memory};
 ghost use Rattle.program.specs.Program.{status_number, status_after, streams, NoText, RunsScript, HasNoMemory, RunsNode, RunsFile, ChecksServer, ChecksFile};
 ghost use Rattle.program.specs.Tasks.{Does};
 
+use crate::command_line::{Words, read_words};
 use crate::ending::{
     end_with, tell_help, tell_no_memory, tell_server_fault, tell_usage, tell_version,
 };
@@ -22,7 +23,6 @@ use crate::serving::serve_file;
 use crate::settings_files::{document_of, settings_in, settings_of};
 use crate::telling::tell_file;
 use crate::two_nodes::{Medium, run_files};
-use command_line::{Words, read_words};
 use exchange::{Exchange, NoMemory};
 use lab::Joiner;
 use script::{OpenLine, ScriptFault, Sink, Source, built_in, run_pieces};

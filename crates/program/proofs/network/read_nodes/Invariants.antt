@@ -1,7 +1,7 @@
 -- The files so far have the settings of the nodes so far.
 use Rattle.std.proofs.Common.{◌≡◌, take}
 use Rattle.lab.specs.Network.{settings_in}
-use Rattle.command_line.specs.Words.{texts}
+use Rattle.program.specs.Words.{texts}
 use Rattle.program.specs.Program.{HaveSettings}
 use Rattle.program.proofs.network.read_nodes.Given as goal
 

@@ -1,7 +1,7 @@
 use Rattle.std.proofs.Common.{ap, ◌∙◌}
 use Rattle.clap.specs.Words.{is_simple_and_free}
-use Rattle.command_line.proofs.Reading.{free, parse-taken, parse-refused}
-use Rattle.command_line.proofs.parse.Goals as goal
+use Rattle.program.proofs.Parsing.{free, parse-taken, parse-refused}
+use Rattle.program.proofs.command_line.parse.Goals as goal
 
 pub returns-clause-taken : goal.returns-clause-taken
 returns-clause-taken c =

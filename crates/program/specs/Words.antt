@@ -5,8 +5,8 @@ use Rattle.std.specs.Prelude.{codes, bytes_eq, string_bytes, String}
 use Rattle.std.specs.Global.{Global}
 use Rattle.std.specs.List.{list_all}
 use Rattle.clap.specs.Words.{Row, Text, first_of}
-use Rattle.command_line.specs.declared.Words.{Words}
-use Rattle.command_line.specs.declared.Words.TheVariants as words
+use Rattle.program.specs.declared.command_line.Words.{Words}
+use Rattle.program.specs.declared.command_line.Words.TheVariants as words
 
 -- run a script, on the built-in settings or on those of a file; check a file; run a lab script on the settings of two
 -- files, over streams or over datagrams, or over streams on those of three files or more; serve a node with the
@@ -139,24 +139,24 @@ abbrev pub take_memory : List (String Global) → Bool
 take_memory words = are_plain words && not (asks_help (texts words) || asks_version (texts words))
 
 -- what arguments were read as, if memory didn't run out
-abbrev pub said : Words → Option Task
-said (words.Run None) = Some BuiltInRun
-said (words.Run (Some file)) = Some (FileRun (string_bytes file))
-said (words.Check file) = Some (FileCheck (string_bytes file))
-said (words.Lab near far) = Some (LabRun (string_bytes near) (string_bytes far))
-said (words.DatagramLab near far) = Some (DatagramLabRun (string_bytes near) (string_bytes far))
-said (words.Network files) = Some (NetworkRun (texts files.now))
-said (words.Serve file) = Some (FileServe (string_bytes file))
-said (words.Tell file line) = Some (FileTell file.now (texts line.now))
-said words.Help = Some Help
-said words.Version = Some Version
-said words.Usage = Some OtherWords
-said words.NoMemory = None
+abbrev pub task_of : Words → Option Task
+task_of (words.Run None) = Some BuiltInRun
+task_of (words.Run (Some file)) = Some (FileRun (string_bytes file))
+task_of (words.Check file) = Some (FileCheck (string_bytes file))
+task_of (words.Lab near far) = Some (LabRun (string_bytes near) (string_bytes far))
+task_of (words.DatagramLab near far) = Some (DatagramLabRun (string_bytes near) (string_bytes far))
+task_of (words.Network files) = Some (NetworkRun (texts files.now))
+task_of (words.Serve file) = Some (FileServe (string_bytes file))
+task_of (words.Tell file line) = Some (FileTell file.now (texts line.now))
+task_of words.Help = Some Help
+task_of words.Version = Some Version
+task_of words.Usage = Some OtherWords
+task_of words.NoMemory = None
 
 -- arguments were read as this task; or memory is allocated for them, and ran out
-abbrev pub IsReadAs : (task : Task) (takes_memory : Bool) → Words → Type 0
-IsReadAs task takes_memory read = (said read ≡ Some task) ⊎ ((read ≡ words.NoMemory) × (takes_memory ≡ true))
+abbrev pub AreReadAsTask : (task : Task) (takes_memory : Bool) → Words → Type 0
+AreReadAsTask task takes_memory read = (task_of read ≡ Some task) ⊎ ((read ≡ words.NoMemory) × (takes_memory ≡ true))
 
 -- arguments were read as the task that they ask for
 abbrev pub AreReadAs : List (String Global) → Words → Type 0
-AreReadAs given read = IsReadAs (asked given) (take_memory given) read
+AreReadAs given read = AreReadAsTask (asked given) (take_memory given) read

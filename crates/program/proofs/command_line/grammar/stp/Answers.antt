@@ -1,7 +1,7 @@
 use Rattle.std.proofs.Common.{◌∙◌, ap, ap₂}
 use Rattle.std.proofs.lemmas.Result.{IfOk-weaker}
 use Rattle.clap.specs.Words.{App, with_subcommand}
-use Rattle.command_line.proofs.stp.Goals as goal
+use Rattle.program.proofs.command_line.grammar.stp.Goals as goal
 
 pub returns : goal.returns
 returns c = IfOk-weaker c.subcommand-5.result _ _ (λ v added. added.shape c.in_ok-serve.ensures.local

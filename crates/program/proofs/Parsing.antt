@@ -21,9 +21,9 @@ use Rattle.clap.specs.declared.error.kind.ErrorKind.TheVariants as kind
 use Rattle.clap.proofs.FaultLemmas.{stopped_fault}
 use Rattle.clap.proofs.OnLiterals.{clap_on_literals}
 use Rattle.clap.proofs.WalkLemmas.{both, walk_stopped}
-use Rattle.command_line.proofs.Asked.{unasked-more, unlike, others-asked, plain-texts}
-use Rattle.command_line.specs.Grammar.{stp, run, check, lab, lab_udp, near_rule, far_rule, serve}
-use Rattle.command_line.specs.Words.{asked_by, asked_with, asked_by_command, takes_two, found, is_plain, are_plain, texts, OtherWords}
+use Rattle.program.proofs.Asked.{unasked-more, unlike, others-asked, plain-texts}
+use Rattle.program.specs.Grammar.{stp, run, check, lab, lab_udp, near_rule, far_rule, serve}
+use Rattle.program.specs.Words.{asked_by, asked_with, asked_by_command, takes_two, found, is_plain, are_plain, texts, OtherWords}
 
 pub simple : is_simple stp ≡ true
 unfolding clap_on_literals
@@ -34,9 +34,9 @@ unfolding clap_on_literals
 free = refl
 
 -- words are taken and read as the task that they ask for, or they are refused and are other words
-pub data Verdict (words : List Text) : Type 0 where
-  Taken : fault_of stp words ≡ [] → found (subcommand_of stp words) ≡ asked_by words → Verdict words
-  Refused : (fault_of stp words ≡ [] → ⊥) → asked_by words ≡ OtherWords → Verdict words
+pub data IsParsed (words : List Text) : Type 0 where
+  Taken : fault_of stp words ≡ [] → found (subcommand_of stp words) ≡ asked_by words → IsParsed words
+  Refused : (fault_of stp words ≡ [] → ⊥) → asked_by words ≡ OtherWords → IsParsed words
 
 -- ---- the command's name
 
@@ -108,11 +108,11 @@ plain-first x e = not-true (nat_eq x 45) e
 not-nil : (k : ErrorKind) (ks kinds : Kinds) → kinds ≡ k ∷ ks → kinds ≡ [] → ⊥
 not-nil k ks kinds e none = let gone = sym none ∙ e in absurd cc
 
-no-words : Verdict []
+no-words : IsParsed []
 unfolding clap_on_literals
 no-words = Refused (not-nil kind.MissingSubcommand [] _ refl) refl
 
-run-alone : Verdict (codes "run" ∷ [])
+run-alone : IsParsed (codes "run" ∷ [])
 unfolding clap_on_literals
 run-alone = Taken (run-command.fault []) (ap found (run-command.rows []))
 
@@ -120,7 +120,7 @@ run-alone = Taken (run-command.fault []) (ap found (run-command.rows []))
 abbrev taking : Text → Bool → Shape
 taking name needs = entry (with_rule (new_app name) (record (new_rule (codes "file")) { required = needs }))
 
-without-file : (name : Text) → IsCommand name (taking name true) → asked_by (name ∷ []) ≡ OtherWords → Verdict (name ∷ [])
+without-file : (name : Text) → IsCommand name (taking name true) → asked_by (name ∷ []) ≡ OtherWords → IsParsed (name ∷ [])
 unfolding clap_on_literals
 without-file name c none = Refused (not-nil kind.MissingRequiredArgument [] _ (c.fault [])) none
 
@@ -142,8 +142,8 @@ found-other : (command : Text) (rows : List Row) → bytes_eq command (codes "la
 found-other command rows e f = rw (e, f) refl
 
 on-file : (name : Text) (needs : Bool) → IsCommand name (taking name needs) → bytes_eq name (codes "lab") ≡ false → bytes_eq name (codes "lab-udp") ≡ false
-    → Verdict (name ∷ [])
-    → (words : List Text) → list_all is_plain words ≡ true → Verdict (name ∷ words)
+    → IsParsed (name ∷ [])
+    → (words : List Text) → list_all is_plain words ≡ true → IsParsed (name ∷ words)
 on-file name needs c not-lab not-udp alone [] e = alone
 on-file name needs c not-lab not-udp alone ([] ∷ more) e = absurd (true≢false (sym e))
 on-file name needs c not-lab not-udp alone ((x ∷ xs) ∷ []) e =
@@ -169,7 +169,7 @@ record IsLab (name : Text) : Type 0 where
   alone : asked_by (name ∷ []) ≡ OtherWords
   with_file : (file : Text) → asked_with name file ≡ OtherWords
 
-lab-alone : (name : Text) → IsLab name → Verdict (name ∷ [])
+lab-alone : (name : Text) → IsLab name → IsParsed (name ∷ [])
 unfolding clap_on_literals
 lab-alone name l = Refused (not-nil kind.MissingRequiredArgument [] _ (l.command.fault [])) l.alone
 
@@ -188,7 +188,7 @@ lab-more : (name : Text) (x y z : ℕ) (xs ys zs : Text) (more : List Text) → 
 unfolding clap_on_literals
 lab-more name x y z xs ys zs more plain plain-2 plain-3 = rw (plain, plain, plain-2, plain-2, plain-3, plain-3) refl
 
-on-lab : (name : Text) → IsLab name → (words : List Text) → list_all is_plain words ≡ true → Verdict (name ∷ words)
+on-lab : (name : Text) → IsLab name → (words : List Text) → list_all is_plain words ≡ true → IsParsed (name ∷ words)
 on-lab name l [] e = lab-alone name l
 on-lab name l ([] ∷ more) e = absurd (true≢false (sym e))
 on-lab name l ((x ∷ xs) ∷ []) e =
@@ -221,14 +221,14 @@ unfolding clap_on_literals
 other x xs rest plain not-run not-check not-lab not-udp not-serve = rw (not-run, not-check, not-lab, not-udp, not-serve, plain, plain) refl
 
 -- the first word is this one, or another
-first-word : (name word : Text) (rest : List Text) → Verdict (name ∷ rest) → (bytes_eq word name ≡ false → Verdict (word ∷ rest)) → Verdict (word ∷ rest)
+first-word : (name word : Text) (rest : List Text) → IsParsed (name ∷ rest) → (bytes_eq word name ≡ false → IsParsed (word ∷ rest)) → IsParsed (word ∷ rest)
 first-word name word rest named unnamed = either (bytes_eq word name) refl
   where
-    either : (t : Bool) → bytes_eq word name ≡ t → Verdict (word ∷ rest)
-    either true is = subst (λ (w : Text). Verdict (w ∷ rest)) (sym ((bytes_eq-Decides word name).0 is)) named
+    either : (t : Bool) → bytes_eq word name ≡ t → IsParsed (word ∷ rest)
+    either true is = subst (λ (w : Text). IsParsed (w ∷ rest)) (sym ((bytes_eq-Decides word name).0 is)) named
     either false is = unnamed is
 
-pub judged : (words : List Text) → list_all is_plain words ≡ true → Verdict words
+pub judged : (words : List Text) → list_all is_plain words ≡ true → IsParsed words
 judged [] e = no-words
 judged ([] ∷ rest) e = absurd (true≢false (sym e))
 judged ((x ∷ xs) ∷ rest) e =

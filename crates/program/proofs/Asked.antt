@@ -8,7 +8,7 @@ use Rattle.std.proofs.lemmas.Slice.Eq.{bytes_eq-Decides}
 use Rattle.std.proofs.lemmas.List.{length-map}
 use Rattle.std.proofs.lemmas.Bool.{false_from_ne_true}
 use Rattle.clap.specs.Words.{Text}
-use Rattle.command_line.specs.Words.{Task, asked_by, asked_with, asked_with_two, is_plain, are_plain, is_in_line, are_in_line, texts, OtherWords}
+use Rattle.program.specs.Words.{Task, asked_by, asked_with, asked_with_two, is_plain, are_plain, is_in_line, are_in_line, texts, OtherWords}
 
 -- two words and more are asked for by none but the labs
 pub unasked-more : (command near far : Text) (more : List Text) → bytes_eq command (codes "lab") ≡ false → bytes_eq command (codes "lab-udp") ≡ false

@@ -1,18 +1,19 @@
 //! The program's arguments.
-#![tactic(auto)]
 
-ghost use Rattle.std.specs.Prelude.{◌≡◌, ◌≢◌, IfOk, IfErr, Some, option_map, true, false};
+ghost use Rattle.std.specs.Prelude.{◌≡◌, ◌≢◌, IfOk, IfErr, Some, option_map, true};
 ghost use Rattle.std.specs.List.{list_all};
-ghost use Rattle.clap.specs.Words.{app_of, kind_of, subcommand_rows_of};
-ghost use Rattle.clap.specs.declared.builder.command.Command.TheViews.{out-Command as fields_of};
+ghost use Rattle.clap.specs.Words.{kind_of, subcommand_rows_of};
 ghost use Rattle.clap.specs.declared.error.kind.ErrorKind.TheVariants.{OutOfMemory};
-ghost use Rattle.command_line.specs.Words.{asked_by, asked_by_command, asked_by_two, are_plain, asks_help, asks_version};
-ghost use Rattle.command_line.specs.Words.{are_network, are_in_line, are_told, found, found_by, is_in_line, is_plain, network_files, said, texts, told_words};
-ghost use Rattle.command_line.specs.Words.{OtherWords, AreReadAs, IsReadAs};
-ghost use Rattle.command_line.specs.Grammar.{stp, bare, run, check, lab, lab_udp, serve};
+ghost use Rattle.program.specs.Words.{asked_by, asked_by_command, asked_by_two, are_plain, asks_help, asks_version};
+ghost use Rattle.program.specs.Words.{are_network, are_in_line, are_told, found, found_by, is_in_line, is_plain};
+ghost use Rattle.program.specs.Words.{network_files, task_of, texts, told_words};
+ghost use Rattle.program.specs.Words.{OtherWords, AreReadAs, AreReadAsTask};
+
+mod grammar;
 
 use clap::error::ErrorKind;
-use clap::{Arg, ArgMatches, Command, Error};
+use clap::{ArgMatches, Error};
+use grammar::stp;
 use std::alloc::{AllocError, Global};
 
 /// What the program's arguments ask for.
@@ -137,7 +138,7 @@ fn asks_version(words: &[String]) -> bool
 /// Which command the arguments ask for. If one of them is empty or begins with `-` they ask for none, and no memory is
 /// allocated for them; for all others it may run out.
 fn read_command<'a>(alloc: Global, words: &'a [String]) -> Words<'a>
-    ensures { IsReadAs (asked_by (texts words.now)) (are_plain words.now) result }
+    ensures { AreReadAsTask (asked_by (texts words.now)) (are_plain words.now) result }
 {
     if !are_plain(words) {
         return Words::Usage;
@@ -180,7 +181,7 @@ fn parse<'a>(alloc: Global, words: &'a [String]) -> Result<ArgMatches<'a>, Error
 
 /// What arguments that were parsed like this ask for.
 fn found<'a>(alloc: Global, matches: &ArgMatches<'_>) -> Result<Words<'a>, AllocError>
-    ensures { IfOk result (λ read. said read ≡ Some (found (subcommand_rows_of matches.now))) }
+    ensures { IfOk result (λ read. task_of read ≡ Some (found (subcommand_rows_of matches.now))) }
 {
     match matches.subcommand() {
         Some((command, inner)) => {
@@ -201,7 +202,7 @@ fn with_files<'a>(
     near: Option<&str>,
     far: Option<&str>,
 ) -> Result<Words<'a>, AllocError>
-    ensures { IfOk result (λ read. said read ≡ Some (found_by command.now (option_map (λ name. name.now) file.entry)
+    ensures { IfOk result (λ read. task_of read ≡ Some (found_by command.now (option_map (λ name. name.now) file.entry)
         (option_map (λ name. name.now) near.entry) (option_map (λ name. name.now) far.entry))) }
 {
     if command == "lab" || command == "lab-udp" {
@@ -214,7 +215,7 @@ fn with_files<'a>(
 /// What a command asks for, by the file after it.
 fn with_file<'a>(alloc: Global, command: &str, file: Option<&str>) -> Result<Words<'a>, AllocError>
     ensures { IfOk result (λ read.
-        said read ≡ Some (asked_by_command command.now (option_map (λ name. name.now) file.entry))) }
+        task_of read ≡ Some (asked_by_command command.now (option_map (λ name. name.now) file.entry))) }
 {
     match (command, file) {
         ("run", None) => Ok(Words::Run(None)),
@@ -232,7 +233,7 @@ fn with_two_files<'a>(
     near: Option<&str>,
     far: Option<&str>,
 ) -> Result<Words<'a>, AllocError>
-    ensures { IfOk result (λ read. said read ≡ Some (asked_by_two command.now
+    ensures { IfOk result (λ read. task_of read ≡ Some (asked_by_two command.now
         (option_map (λ name. name.now) near.entry) (option_map (λ name. name.now) far.entry))) }
 {
     let (Some(near), Some(far)) = (near, far) else {
@@ -245,74 +246,4 @@ fn with_two_files<'a>(
         "lab-udp" => Ok(Words::DatagramLab(near, far)),
         _ => Ok(Words::Usage),
     }
-}
-
-/// The program's command line.
-fn stp<'a>(alloc: Global) -> Result<Command<'a>, AllocError>
-    ensures { IfOk result (λ command. app_of command ≡ stp) }
-{
-    bare(alloc)
-        .subcommand(run(alloc)?)?
-        .subcommand(check(alloc)?)?
-        .subcommand(lab(alloc)?)?
-        .subcommand(lab_udp(alloc)?)?
-        .subcommand(serve(alloc)?)
-}
-
-/// A command line of commands, one of which is required, without a help command.
-fn bare<'a>(alloc: Global) -> Command<'a>
-    ensures app { app_of result ≡ bare }
-    ensures local { (fields_of result).has_globals ≡ false }
-{
-    Command::new(alloc, "stp")
-        .no_binary_name(true)
-        .disable_help_flag(true)
-        .disable_help_subcommand(true)
-        .subcommand_required(true)
-}
-
-/// `run [FILE]`.
-fn run<'a>(alloc: Global) -> Result<Command<'a>, AllocError>
-    ensures app { IfOk result (λ command. app_of command ≡ run) }
-    ensures local { IfOk result (λ command. (fields_of command).has_globals ≡ false) }
-{
-    Command::new(alloc, "run").arg(Arg::new(alloc, "file"))
-}
-
-/// `check FILE`.
-fn check<'a>(alloc: Global) -> Result<Command<'a>, AllocError>
-    ensures app { IfOk result (λ command. app_of command ≡ check) }
-    ensures local { IfOk result (λ command. (fields_of command).has_globals ≡ false) }
-{
-    let file = Arg::new(alloc, "file").required(true);
-    Command::new(alloc, "check").arg(file)
-}
-
-/// `lab NEAR FAR`.
-fn lab<'a>(alloc: Global) -> Result<Command<'a>, AllocError>
-    ensures app { IfOk result (λ command. app_of command ≡ lab) }
-    ensures local { IfOk result (λ command. (fields_of command).has_globals ≡ false) }
-{
-    let near = Arg::new(alloc, "near").required(true);
-    let far = Arg::new(alloc, "far").required(true);
-    Command::new(alloc, "lab").arg(near)?.arg(far)
-}
-
-/// `lab-udp NEAR FAR`.
-fn lab_udp<'a>(alloc: Global) -> Result<Command<'a>, AllocError>
-    ensures app { IfOk result (λ command. app_of command ≡ lab_udp) }
-    ensures local { IfOk result (λ command. (fields_of command).has_globals ≡ false) }
-{
-    let near = Arg::new(alloc, "near").required(true);
-    let far = Arg::new(alloc, "far").required(true);
-    Command::new(alloc, "lab-udp").arg(near)?.arg(far)
-}
-
-/// `serve FILE`.
-fn serve<'a>(alloc: Global) -> Result<Command<'a>, AllocError>
-    ensures app { IfOk result (λ command. app_of command ≡ serve) }
-    ensures local { IfOk result (λ command. (fields_of command).has_globals ≡ false) }
-{
-    let file = Arg::new(alloc, "file").required(true);
-    Command::new(alloc, "serve").arg(file)
 }

@@ -3,9 +3,9 @@ use Rattle.std.specs.Prelude.{option_map}
 use Rattle.std.proofs.lemmas.Result.{IfOk-weaker}
 use Rattle.clap.specs.Words.{found_of, rows_of, first_of}
 use Rattle.clap.proofs.WalkLemmas.{first_value-rows}
-use Rattle.command_line.specs.Words.{Task, found, found_by}
-use Rattle.command_line.proofs.Reading.{rows-are}
-use Rattle.command_line.proofs.found.Goals as goal
+use Rattle.program.specs.Words.{Task, found, found_by}
+use Rattle.program.proofs.Parsing.{rows-are}
+use Rattle.program.proofs.command_line.found.Goals as goal
 
 pub returns-in-Some : goal.returns-in-Some
 returns-in-Some c =
