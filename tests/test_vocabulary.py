@@ -7,7 +7,8 @@ from pathlib import Path
 TOP = Path(__file__).resolve().parent.parent
 
 # What was rewritten with the words of CONTRIBUTING's table.
-REWRITTEN = ["README.md", "docs/OPERATING.md", "packaging", "tools"]
+REWRITTEN = ["README.md", "docs/OPERATING.md", "packaging", "tools", "crates/program/src", "crates/program/specs",
+             "crates/program/proofs"]
 
 # How each word that the table replaces is found.
 REPLACED = {

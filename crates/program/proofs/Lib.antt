@@ -7,3 +7,7 @@ pub mod Files
 pub mod Labs
 pub mod Networks
 pub mod Consoles
+mod Called
+mod Coming
+mod Owing
+mod ConsoleTexts

@@ -1,5 +1,9 @@
 pub mod Words
 pub mod Grammar
+pub mod ConsoleAnswers
+pub mod ConsoleLines
+pub mod ConsoleCalls
+pub mod ConsoleLaws
 pub mod Folders
 pub mod Sentences
 pub mod Explaining

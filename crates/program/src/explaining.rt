@@ -7,9 +7,9 @@ ghost use Rattle.program.specs.Explaining.{IsWarned, IsFaultExplained};
 ghost use Rattle.program.specs.Explaining.{IsEndExplained, IsScriptExplained, IsLabEndExplained};
 ghost use Rattle.program.specs.Explaining.{strangers_sentence, lab_line_sentence};
 
+use crate::console_client::CallFault;
 use crate::folder::Unread;
 use crate::sentences::sentence;
-use console_caller::CallFault;
 use script::{LineFault, ScriptFault, Sink};
 use settings_file::SettingsFault;
 use settings_file::serve::{ConsolePlace, ServeFault};

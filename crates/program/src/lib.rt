@@ -1,8 +1,9 @@
-//! The program: what its arguments ask for, the files of settings, what is written to standard error, and the exit
-//! statuses.
+//! The program: what its arguments ask for, the files of settings, the client of a console, what is written to standard
+//! error, and the exit statuses.
 #![tactic(auto)]
 
 pub mod command_line;
+pub mod console_client;
 mod ending;
 mod explaining;
 pub mod folder;

@@ -7,12 +7,12 @@ ghost use Rattle.program.specs.Folders.{FileRead};
 ghost use Rattle.program.specs.Program.{streams};
 ghost use Rattle.program.specs.Telling.{TellsFile, TellsDocument};
 
+use crate::console_client::{CallFault, Verdict, call};
 use crate::ending::{tell_no_memory, tell_server_fault};
 use crate::explaining::explain_call;
 use crate::folder::Folder;
 use crate::program::Status;
 use crate::settings_files::document_of;
-use console_caller::{CallFault, Told, call};
 use script::{Sink, Source};
 use settings_file::serve::{ConsolePlace, read_console};
 use toml::Table;
@@ -72,8 +72,8 @@ fn tell_console<R: Source, W: Sink, E: Sink>(
     errors: &mut E,
 ) -> Status {
     match call(rt, place, words, reader, writer) {
-        Ok(Told::Done) => Status::Done,
-        Ok(Told::Refused) => Status::Refused,
+        Ok(Verdict::Done) => Status::Done,
+        Ok(Verdict::Refused) => Status::Refused,
         Err(CallFault::NoMemory) => tell_no_memory(writer),
         Err(fault) => {
             explain_call(rt.alloc(), place, fault, errors);

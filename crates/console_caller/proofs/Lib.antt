@@ -1,4 +1,0 @@
-mod Called
-mod Coming
-mod Owing
-mod Read

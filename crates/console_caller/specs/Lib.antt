@@ -1,4 +1,0 @@
-pub mod Answering
-pub mod Sending
-pub mod Calling
-pub mod Laws

@@ -1,0 +1,92 @@
+-- What a console answers and shows, as its client reads it.
+use Rattle.std.specs.Prelude.{◌≡◌, ◌⊎◌, ℕ, ◌≤◌, Bool, true, false, List, [], ◌∷◌, ◌++◌, length, take}
+use Rattle.std.specs.Prelude.{Some}
+use Rattle.settings_rows.specs.Configuration.{Configuration, TitleEntry}
+use Rattle.signalling_types.specs.declared.limits.TheConstants.Limits.{NAME_OCTETS}
+use Rattle.signalling_types.specs.declared.notice.Notice.{Notice}
+use Rattle.signalling_types.specs.declared.outcome.Outcome.{Outcome}
+use Rattle.signalling_types.specs.declared.outcome.Outcome.TheVariants.{Queued, Held, Local, Handled, Ignored, Refused}
+use Rattle.point_format.specs.declared.point.PointFormat.{PointFormat}
+use Rattle.sccp_relay.specs.declared.subsystem.Subsystem.{Subsystem}
+use Rattle.exchange.specs.declared.view.LinkView.{LinkView}
+use Rattle.exchange.specs.declared.view.RouteView.{RouteView}
+use Rattle.exchange.specs.Calls.{Kept}
+use Rattle.served_link.specs.Counting.{NodeCounters}
+use Rattle.served_link.specs.declared.counter.Counter.{Counter}
+use Rattle.served_link.specs.Lines.{counter_line, datagram_line}
+use Rattle.console.specs.Texts.{link_text, route_text, title_text, subsystem_text, notice_text, flag_line}
+use Rattle.script.specs.Texts.{outcome_line}
+use Rattle.console_session.specs.Clients.{ClientState, told_of}
+use Rattle.console_session.specs.Lines.{Heard as Line, HearsUsers, HearsNotices, HearsFrames, HearsHelp, HearsStop}
+use Rattle.console_session.specs.Lines.{HearsNoLine}
+use Rattle.console_session.specs.WholeLines.{DoesHeard, answered, unanswered}
+use Rattle.console_session.specs.declared.client.Ending.{Ending}
+use Rattle.console_session.specs.declared.client.News.TheVariants as news
+use Rattle.program.specs.ConsoleAnswers.{blanks, is_answer, is_last, is_refusal, read, nothing}
+
+-- ---- what is an answer
+
+-- A text is a line that answers another one, short enough to be looked at whole. It says whether something wasn't done,
+-- and whether the console closes the connection behind it, as the first line that comes or as a later one.
+pub record Answers (refuses closes_first closes : Bool) (text : List ℕ) : Type 0 where
+  pub line : List ℕ
+  pub whole : text ≡ line ++ 10 ∷ []
+  pub short : length line ≤ 64
+  pub answers : is_answer line ≡ true
+  pub says : is_refusal line ≡ refuses
+  pub first : is_last true line ≡ closes_first
+  pub later : is_last false line ≡ closes
+
+-- an outcome says that something wasn't done
+abbrev pub is_undone : Outcome → Bool
+is_undone (Queued link) = false
+is_undone Held = false
+is_undone Local = false
+is_undone Handled = false
+is_undone Ignored = true
+is_undone (Refused cause) = true
+
+-- each outcome is an answer, whichever name without a blank its link has
+abbrev pub outcomes_answer : Type 0
+outcomes_answer =
+    (name : List ℕ) (outcome : Outcome) → blanks name ≡ 0 → length name ≤ NAME_OCTETS
+    → Answers (is_undone outcome) false false (outcome_line name outcome)
+
+-- what a line of a client does: it is answered such a text, unless there was no room for that
+abbrev pub IsSaid : (IsText : List ℕ → Type 0) → (old new : ClientState) → Type 0
+IsSaid IsText old new = (new ≡ unanswered old) ⊎ ((text : List ℕ) × IsText text × (new ≡ answered old text))
+
+abbrev pub Says : Line → (ClientState → ClientState) → (IsText : List ℕ → Type 0) → Type 0
+Says line begun IsText =
+    (is_first : Bool) (counters : NodeCounters) (ending : Ending) (s after : Kept) (old new : ClientState)
+    → DoesHeard line is_first counters ending s after old new → IsSaid IsText (begun old) new
+
+-- of the text of `help` the first line is an answer, and no other
+abbrev pub IsHelp : List ℕ → Type 0
+IsHelp text = read text nothing ≡ record nothing { is_first = false; answers = 1 }
+
+-- what other lines are answered
+pub record LinesAnswer : Type 0 where
+  pub malformed : Says HearsNoLine (λ old. old) (Answers true true false)
+  pub users : Says HearsUsers (λ old. told_of old news.Message) (Answers false false false)
+  pub notices : Says HearsNotices (λ old. told_of old news.Notice) (Answers false false false)
+  pub frames : Says HearsFrames (λ old. told_of old news.Frame) (Answers false false false)
+  pub help : Says HearsHelp (λ old. old) IsHelp
+  pub stop : Says HearsStop (λ old. old) (Answers false true true)
+
+-- ---- what is none
+
+-- a line answers none, by what is looked at of it
+abbrev pub IsNone : List ℕ → Type 0
+IsNone line = is_answer (take 64 line) ≡ false
+
+-- what is shown, and notices, answer none
+pub record ShownAnswersNone : Type 0 where
+  pub links : (name : List ℕ) (v : LinkView) → IsNone (link_text name v)
+  pub routes : (points : PointFormat) (c : Configuration) (v : RouteView) → IsNone (route_text points c v)
+  pub titles : (points : PointFormat) (row : TitleEntry) → IsNone (title_text points row)
+  pub subsystems : (points : PointFormat) (subsystem : Subsystem) → IsNone (subsystem_text points subsystem)
+  pub notices : (points : PointFormat) (c : Configuration) (notice : Notice) → IsNone (notice_text points c notice)
+  pub flags : (s : Kept) (k : ℕ) (line : List ℕ) → flag_line s k ≡ Some line → IsNone line
+  pub counters : (counter : Counter) (name : List ℕ) (value : ℕ) → IsNone (counter_line counter name value)
+  pub datagrams : (name : List ℕ) (value : ℕ) → IsNone (datagram_line name value)
