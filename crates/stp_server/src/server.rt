@@ -5,13 +5,14 @@ mod showing;
 mod stopping;
 mod waiting;
 
+use crate::served_page::ServedPage;
+use crate::tcp_links::TcpLinks;
 use exchange::{Event, Exchange};
 use mio::{Events, Poll};
 use script::Sink;
 use sctp_links::SctpSockets;
 use served_link::Watch;
 use served_node::{FileCapture, Log, Node};
-use served_page::ServedPage;
 use settings::{FailureReason, Outcome};
 use settings_file::serve::{ConsolePlace, Endpoint, SctpTimes};
 use status_page::NoticeLog;
@@ -20,7 +21,6 @@ use std::fs::Files;
 use std::marker::Model;
 use std::net::{Net, SocketAddr};
 use std::time::Duration;
-use tcp_links::TcpLinks;
 use trace::PointFormat;
 
 /// Where a server is reached, and how it shows points.

@@ -3,6 +3,7 @@
 ghost use Rattle.std.specs.Prelude.{◌≤◌};
 
 use super::{Places, Server};
+use crate::tcp_links::TcpLinks;
 use mio::{Events, Poll, Registry};
 use script::Sink;
 use sctp_links::{Keys, SctpSockets};
@@ -15,7 +16,6 @@ use std::fs::Files;
 use std::net::{Net, SocketAddr};
 use std::random::RandomSource;
 use std::time::Duration;
-use tcp_links::TcpLinks;
 use trace::PointFormat;
 
 /// Sockets that one wait tells of, at most. Further ones are told of by the next.

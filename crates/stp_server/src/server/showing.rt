@@ -1,10 +1,10 @@
 //! The status page of a server.
 
 use super::{Places, Server};
+use crate::served_page::ServedPage;
 use crate::serving::millis;
 use script::Sink;
 use served_node::{Log, OpenFault};
-use served_page::ServedPage;
 use status_page::StatusPage;
 use std::net::Net;
 use std::random::RandomSource;

@@ -2,7 +2,7 @@
 
 ghost use Rattle.std.specs.Prelude.{◌<◌};
 
-use crate::client::PageClient;
+use super::client::PageClient;
 use http_server::Service;
 use status_page::PAGE_CLIENTS;
 use std::alloc::{AllocError, Global};

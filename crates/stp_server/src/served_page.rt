@@ -1,15 +1,19 @@
-//! The status page and the sockets of those who look at it.
+//! The status page on sockets: where its clients come, and the clients, as sockets of a poll, each in a place of its
+//! own. What they are answered is `status_page`'s.
 
 ghost use Rattle.std.specs.Prelude.{◌≡◌};
-ghost use Rattle.served_page.specs.Turns.{AnswersOneAtMost};
+ghost use Rattle.stp_server.specs.Turns.{AnswersOneAtMost};
 
-use crate::client::PageClient;
-use crate::places::{
-    answer_next, are_busy, first_due_ms, free_place, free_places, put, read_each, write_each,
-};
+mod client;
+mod places;
+
+use client::PageClient;
 use mio::Registry;
 use mio::event::Event;
 use mio::net::TcpStream;
+use places::{
+    answer_next, are_busy, first_due_ms, free_place, free_places, put, read_each, write_each,
+};
 use script::Sink;
 use served_node::{Listener, Log, OpenFault, SocketName};
 use status_page::{Allowance, Content, PAGE_CLIENTS, PageNames, PageService};

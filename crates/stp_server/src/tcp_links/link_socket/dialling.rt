@@ -1,7 +1,7 @@
 //! Making the connection of a link that connects.
 
 use super::LinkSocket;
-use crate::connection::Connection;
+use crate::tcp_links::connection::Connection;
 use mio::Registry;
 use mio::net::TcpStream;
 use script::Sink;

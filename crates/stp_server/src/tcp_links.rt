@@ -1,7 +1,11 @@
-//! The sockets of all links over TCP.
+//! The links of a node over TCP: of each its listener or the address that it connects to, and its connection. An
+//! association of a link is a connection.
 
-use crate::link_socket::LinkSocket;
+mod connection;
+mod link_socket;
+
 use exchange::Wants;
+use link_socket::LinkSocket;
 use mio::Registry;
 use mio::event::Event;
 use script::Sink;

@@ -2,7 +2,7 @@
 
 mod dialling;
 
-use crate::connection::{CloseReason, Connection, Transfer, tell_open};
+use super::connection::{CloseReason, Connection, Transfer, tell_open};
 use exchange::Wants;
 use mio::Registry;
 use mio::event::Event as Readiness;
