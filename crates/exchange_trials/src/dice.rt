@@ -45,13 +45,11 @@ impl Dice {
         self.below(count) == 0
     }
 
-    /// One of these octets.
-    pub(crate) fn octet_of(&mut self, octets: &[u8]) -> u8 {
-        octets.get(self.below(octets.len())).copied().unwrap_or(0)
-    }
-
-    /// One of these numbers.
-    pub(crate) fn number_of(&mut self, numbers: &[u32]) -> u32 {
-        numbers.get(self.below(numbers.len())).copied().unwrap_or(0)
+    /// One of these.
+    pub(crate) fn one_of<T: Copy + Default>(&mut self, items: &[T]) -> T {
+        items
+            .get(self.below(items.len()))
+            .copied()
+            .unwrap_or_default()
     }
 }

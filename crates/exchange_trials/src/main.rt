@@ -1,8 +1,8 @@
 //! `exchange_trials [SECTION [N]]`: exchanges that are tried from outside. What comes of them is judged by marks in
 //! their messages and by the outcomes of their steps, and by no contract.
 //!
-//! Without a SECTION it runs all of them; it fails if there is none of this name. N is how many runs of each shape the
-//! section `networks` makes.
+//! Without a SECTION, or with `all`, it runs all of them; it fails if there is none of this name. N is how many runs of
+//! each shape the section `networks` makes.
 #![tactic(auto)]
 
 mod dice;
@@ -12,8 +12,9 @@ mod node;
 mod node_settings;
 mod octets;
 mod pairs;
-mod settings_text;
+mod rounds;
 mod shape;
+mod throws;
 
 use std::process::ExitCode;
 use std::{env, io};
@@ -24,8 +25,8 @@ const RUNS: u64 = 50;
 fn main(rt: HostRuntime) -> io::Result<ExitCode> {
     let words: Vec<String> = env::args(&rt)?.skip(1).collect(rt.alloc())?;
     match words.first() {
-        Some(section) => run_section(&rt, section.as_str(), count_of(words.get(1))),
-        None => run_all(&rt),
+        Some(section) => run(&rt, section.as_str(), count_of(words.get(1))),
+        None => run(&rt, "all", RUNS),
     }
 }
 
@@ -37,17 +38,14 @@ fn count_of(word: Option<&String>) -> u64 {
     }
 }
 
-/// Runs each section.
-fn run_all(rt: &HostRuntime) -> io::Result<ExitCode> {
-    pairs::run(rt)?;
-    networks::run(rt, RUNS)?;
-    octets::run(rt)?;
-    Ok(ExitCode::SUCCESS)
-}
-
-/// Runs one section. Fails if there is none of this name.
-fn run_section(rt: &HostRuntime, section: &str, runs: u64) -> io::Result<ExitCode> {
+/// Runs a section, or all. Fails if there is none of this name.
+fn run(rt: &HostRuntime, section: &str, runs: u64) -> io::Result<ExitCode> {
     match section {
+        "all" => {
+            pairs::run(rt)?;
+            networks::run(rt, runs)?;
+            octets::run(rt)?;
+        }
         "pairs" => pairs::run(rt)?,
         "networks" => networks::run(rt, runs)?,
         "octets" => octets::run(rt)?,

@@ -5,7 +5,7 @@
 //! an adjacent point. In the square two lead to the opposite one, and each end of the mated pair shares its messages
 //! for the other among two. To point 9, which isn't there, sets lead by which the last node refuses what comes. Timers
 //! are as built in, but L7, T1, T2 and T4 are longer than most schedules: so what one end waits for comes by frames,
-//! unless a set fails whole. All that is done in a schedule is a `Network::turn`.
+//! unless a set fails whole. All that is done in a schedule is a turn of the plain harness.
 //!
 //! # A run
 //!
@@ -23,7 +23,7 @@
 //! (`Network::restart`), and they are thrown 80 times more; in half of these runs, by the dice too, a random node does
 //! so once more, and 80 throws follow. Each is as above, but for one of eight: there a random end of a link loses it
 //! and gives up following, if the other end is down. Then each link is lost at both ends, no end may follow
-//! (`Network::give_up`), and 16 ticks pass at each node: the network is to be quiet by then (`Network::is_quiet`). If
+//! (`Deed::Fall`), and 16 ticks pass at each node: the network is to be quiet by then (`Network::is_quiet`). If
 //! it is, the books begin anew (`Network::begin_anew`), and so does what is submitted; and a schedule passes as above,
 //! from the links that come up to the end.
 //!
@@ -57,9 +57,8 @@
 mod book;
 mod deliberate;
 mod judge;
-mod rounds;
+mod rest;
 mod schedule;
-mod seen;
 mod total;
 mod world;
 

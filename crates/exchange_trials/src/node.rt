@@ -1,11 +1,9 @@
 //! A node.
 
-use crate::settings_text::settings_of;
 use exchange::{
-    BUFFER_OCTETS, DraftFault, Event, Exchange, FrameText, LinkId, LinkView, NoMemory, Outcome,
-    Settings,
+    BUFFER_OCTETS, Event, Exchange, FrameText, LinkId, LinkStanding, NoMemory, Outcome, Settings,
 };
-use settings_file::SettingsFault;
+use signalling_types::Number24;
 use std::alloc::Global;
 use std::marker::Model;
 
@@ -29,15 +27,6 @@ impl Drop for Node {
 }
 
 impl Node {
-    /// A node with the settings of a text (`settings_of`), before its first event.
-    pub(crate) fn new(alloc: Global, text: &str) -> Result<Node, SettingsFault> {
-        let settings = settings_of(alloc, text)?;
-        match Node::boot(alloc, settings) {
-            Ok(node) => Ok(node),
-            Err(NoMemory) => Err(SettingsFault::Draft(DraftFault::NoMemory)),
-        }
-    }
-
     /// A node with these settings, before its first event.
     pub(crate) fn boot(alloc: Global, settings: Settings) -> Result<Node, NoMemory> {
         let exchange = Exchange::boot(alloc, settings)?;
@@ -56,23 +45,26 @@ impl Node {
 
     /// Fetches the next frame of a link, as a text of its own.
     pub(crate) fn fetch(&mut self, link: LinkId) -> Option<FrameText> {
-        fetch(&mut self.exchange, link)
+        let mut buffer = [0; BUFFER_OCTETS];
+        let count = self.exchange.take(link, &mut buffer)?;
+        Some(FrameText::new(&buffer[..count]))
     }
 
-    /// A link, as it is shown.
-    pub(crate) fn link(&self, link: LinkId) -> Option<LinkView> {
-        self.exchange.link(link)
+    /// How a link stands; Down if there is none.
+    pub(crate) fn standing(&self, link: LinkId) -> LinkStanding {
+        match self.exchange.link(link) {
+            Some(view) => view.standing,
+            None => LinkStanding::Down,
+        }
+    }
+
+    /// The number of the last message that it accepted on a link.
+    pub(crate) fn last_accepted(&self, link: LinkId) -> Option<Number24> {
+        Some(self.exchange.link(link)?.last_accepted)
     }
 
     /// What it shows.
     pub(crate) fn shown(&self) -> &Exchange {
         &self.exchange
     }
-}
-
-/// Fetches the next frame of a link, as a text of its own.
-fn fetch(exchange: &mut Exchange, link: LinkId) -> Option<FrameText> {
-    let mut buffer = [0; BUFFER_OCTETS];
-    let count = exchange.take(link, &mut buffer)?;
-    Some(FrameText::new(&buffer[..count]))
 }

@@ -1,36 +1,41 @@
 //! The settings of the nodes of a shape.
 
-use crate::settings_text::settings_of;
 use crate::shape::{Shape, UNKNOWN};
 use exchange::Settings;
+use settings_file::read;
 use std::alloc::{AllocError, Global};
 
-/// What isn't as built in, but in a pair and a ring. L7, T1, T2 and T4 are longer than most schedules, so that a
-/// changeover or a changeback waits for the other node rather than for time: what is given up by time is named as lost.
-const COMMON: &str = "version = 2\n\
+/// What two ends and their neighbours have.
+const OF_ENDS: &str = "version = 1\n\
+    timers = { l1 = 10, l2 = 10, l3 = 10, l4 = 3, l6 = 20, l7 = 5, \
+    t1 = 4, t2 = 6, t3 = 4, t4 = 4, t6 = 4, t8 = 3, t10 = 8 }\n";
+
+/// What other nodes have. L7, T1, T2 and T4 are longer than most schedules, so that a changeover or a changeback waits
+/// for the other node rather than for time: what is given up by time is named as lost.
+const OF_NETWORKS: &str = "version = 2\n\
     timers = { l1 = 10, l2 = 10, l3 = 10, l4 = 3, l6 = 20, l7 = 12, \
     t1 = 12, t2 = 12, t3 = 4, t4 = 12, t6 = 4, t8 = 3, t10 = 8 }\n";
 
-/// The settings of all nodes. None where memory ran out.
-pub(crate) fn settings_of_all(alloc: Global, shape: Shape) -> Option<Vec<Settings>> {
-    let mut settings = Vec::new(alloc);
-    for point in shape.points() {
-        settings.push(settings_at(alloc, shape, *point)?).ok()?;
-    }
-    Some(settings)
-}
+/// What all have.
+const COMMON: &str = "network = 2\n\
+    window = 128\n\
+    pool = 1000\n\
+    users = [5]\n\
+    subsystems = [8]\n";
 
 /// The settings of a node. None where memory ran out.
 pub(crate) fn settings_at(alloc: Global, shape: Shape, point: u16) -> Option<Settings> {
-    let common = match shape {
-        Shape::Pair(_) | Shape::Ring => "",
-        Shape::Line | Shape::Triangle | Shape::Square | Shape::MatedPair => COMMON,
+    let first = if shape.has_ends() {
+        OF_ENDS
+    } else {
+        OF_NETWORKS
     };
-    let mut text = String::from_str(alloc, common).ok()?;
+    let mut text = String::from_str(alloc, first).ok()?;
+    text.push_str(COMMON).ok()?;
     write_sets(&mut text, shape, point).ok()?;
     write_links(&mut text, shape, point).ok()?;
     write_destinations(&mut text, shape, point).ok()?;
-    settings_of(alloc, text.as_str()).ok()
+    read(alloc, text.as_str()).ok()
 }
 
 /// A set for each adjacent point.

@@ -38,7 +38,7 @@ mod target;
 
 use crate::dice::Dice;
 use found::KINDS;
-use groups::{Links, try_frames, try_streams};
+use groups::{ALIGNING, IN_SERVICE, Links, try_frames, try_streams};
 use std::io;
 use target::Target;
 
@@ -55,14 +55,17 @@ enum Kind {
     Streams,
 }
 
+/// Each group, and its seed.
+const GROUPS: [(u64, Kind, Links); 4] = [
+    (1, Kind::Frames, IN_SERVICE),
+    (2, Kind::Frames, ALIGNING),
+    (3, Kind::Streams, IN_SERVICE),
+    (4, Kind::Streams, ALIGNING),
+];
+
 /// Tries each group of frames and streams, and prints what became of it.
 pub(crate) fn run(rt: &HostRuntime) -> io::Result<()> {
-    for (seed, kind, links) in [
-        (1, Kind::Frames, Links::InService),
-        (2, Kind::Frames, Links::Aligning),
-        (3, Kind::Streams, Links::InService),
-        (4, Kind::Streams, Links::Aligning),
-    ] {
+    for (seed, kind, links) in GROUPS {
         try_group(rt, kind, links, seed)?;
     }
     Ok(())
@@ -87,42 +90,20 @@ fn report_group(
     seed: u64,
 ) -> io::Result<()> {
     let mut dice = Dice::new(seed);
+    let name = links.name;
     match kind {
-        Kind::Frames => report_frames(rt, target, &mut dice, links)?,
-        Kind::Streams => report_streams(rt, target, &mut dice, links)?,
+        Kind::Frames => {
+            try_frames(target, &mut dice, links, FRAMES);
+            let (returned, kinds) = (target.found.returned, target.found.kinds());
+            print!(rt; "frames on links {name}: {returned} of {FRAMES} returned, ")?;
+            print!(rt; "{kinds} kinds of outcome of {KINDS}")?;
+        }
+        Kind::Streams => {
+            let alike = try_streams(target, &mut dice, links, STREAMS);
+            print!(rt; "streams on links {name}: {alike} of {STREAMS} the same in other pieces")?;
+        }
     }
     let through = target.count_through();
     let changed = target.found.changed;
     println!(rt; "; {changed} changed what they may not; {through} of 64 messages through")
-}
-
-/// Tries frames, and prints how many returned, and with how many kinds of outcome.
-fn report_frames(
-    rt: &HostRuntime,
-    target: &mut Target,
-    dice: &mut Dice,
-    links: Links,
-) -> io::Result<()> {
-    try_frames(target, dice, links, FRAMES);
-    let found = target.found;
-    print!(rt;
-        "frames on links {}: {} of {FRAMES} returned, {} kinds of outcome of {KINDS}",
-        links.name(),
-        found.returned,
-        found.kinds()
-    )
-}
-
-/// Tries streams, and prints how many are the same in other pieces.
-fn report_streams(
-    rt: &HostRuntime,
-    target: &mut Target,
-    dice: &mut Dice,
-    links: Links,
-) -> io::Result<()> {
-    let alike = try_streams(target, dice, links, STREAMS);
-    print!(rt;
-        "streams on links {}: {alike} of {STREAMS} the same in other pieces",
-        links.name()
-    )
 }

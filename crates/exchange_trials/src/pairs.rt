@@ -2,7 +2,7 @@
 //! neighbour each, whose routes fail and return meanwhile.
 //!
 //! Two nodes with the built-in timers have one to four links of one set between them, and each other as the one
-//! destination. All that is done is a `Network::turn` of the plain harness. A round is, for each end and each link in
+//! destination. All that is done is a turn of the plain harness. A round is, for each end and each link in
 //! order, a frame that is taken and then delivered at the other end. Each message carries its flow in its label, and
 //! after that its number in the flow: the accepted messages of a flow are numbered 1, 2, 3 and so on.
 //!
@@ -17,7 +17,7 @@
 //!   many `flows` were `out of order`.
 //! - `lost_any`, `late_any`: in how many runs an end set the flag.
 //! - `sums compared`: while no end had set `lost_any`, before each 16th step, the sums of both ends were compared: as
-//!   many messages were accepted as the other end received and as `Network::waiting` counts, of all, of one flow, and
+//!   many messages were accepted as the other end received and as wait, of all, of one flow, and
 //!   of one message. That is done in every group; only the lines of the random groups say how often. If a sum is wrong,
 //!   the line says how many `sums` were `wrong`.
 //! - `unended`: in how many runs a link that was to open didn't, rounds never came to rest, not all messages came while
@@ -86,145 +86,212 @@
 //! - An acknowledgement also lifts the hold of a changeover: at random, over 3 and 4 links.
 
 mod chance;
-mod end;
+mod choices;
+mod ends;
 mod first;
-mod group;
 mod late;
 mod mark;
 mod ring;
-mod rounds;
 mod stop;
-mod sums;
 mod tally;
-mod titles;
-mod traffic;
-mod world;
 
-use first::Way;
-use group::{Group, try_all};
-use rounds::Clock;
+use crate::harness::Network;
+use crate::rounds::Clock;
+use crate::shape::Shape;
+use chance::{throw_steps, translate};
+use first::{FIRST_FALLS, FOLLOWS_FALLEN, IN_TURN, NEVER_FOLLOWS, Way, open_at_one_first};
+use late::answer_late;
+use ring::stop_in_ring;
+use std::alloc::Global;
 use std::io;
+use stop::{stop_again, stop_once};
 use tally::Tally;
 
+/// What passes in the runs of a group.
+#[derive(Clone, Copy)]
+enum Play {
+    /// A link stops, and comes back.
+    Stop(Clock),
+    /// So it does while end 1 relays.
+    Relay,
+    /// A link stops, and opens at one end before the other.
+    First(Way),
+    /// A link stops while another that stopped before takes its flows back.
+    Again,
+    /// A link stops, and an answer about it comes late, once T2 has run out or before.
+    Late(bool),
+    /// A random schedule.
+    Chance,
+    /// A link stops between ends that have a third neighbour each.
+    Ring,
+}
+
+/// How many schedules there are over each number of links.
+const SCHEDULES: u16 = 1250;
+
+const THREE: Shape = Shape::Pair(3);
+
 /// So many ticks pass at the two ends between two rounds.
-const STILL: Clock = Clock::STILL;
+const STILL: Play = Play::Stop(Clock::STILL);
 
-const BOTH: Clock = Clock { one: 1, two: 1 };
+const BOTH: Play = Play::Stop(Clock { one: 1, two: 1 });
 
-const ONE: Clock = Clock { one: 1, two: 0 };
+const ONE: Play = Play::Stop(Clock { one: 1, two: 0 });
 
-const TWO: Clock = Clock { one: 0, two: 2 };
+const TWO: Play = Play::Stop(Clock { one: 0, two: 2 });
 
-/// All groups, and what they are called.
-const GROUPS: [(Group, &str); 19] = [
+/// All groups of runs that are alike, what they are called, and how many runs they have.
+const GROUPS: [(Shape, Play, u16, &str); 19] = [
     (
-        Group::Stop(3, STILL),
+        THREE,
+        STILL,
+        97 * 3 * 3,
         "stopped at 97 places, 3 links, 3 ends",
     ),
-    (Group::Stop(3, BOTH), "the same, a tick at both ends"),
-    (Group::Stop(3, ONE), "the same, a tick at end 1"),
-    (Group::Stop(3, TWO), "the same, 2 ticks at end 2"),
+    (THREE, BOTH, 97 * 3 * 3, "the same, a tick at both ends"),
+    (THREE, ONE, 97 * 3 * 3, "the same, a tick at end 1"),
+    (THREE, TWO, 97 * 3 * 3, "the same, 2 ticks at end 2"),
     (
-        Group::Relay,
+        THREE,
+        Play::Relay,
+        97 * 3 * 3,
         "SCCP by title, stopped at 97 places, 3 links, 3 ends",
     ),
     (
-        Group::First(Way::InTurn),
+        THREE,
+        Play::First(IN_TURN),
+        97 * 3 * 2,
         "one end first at 97 places, 3 links, 2 orders",
     ),
     (
-        Group::First(Way::FirstFalls),
+        THREE,
+        Play::First(FIRST_FALLS),
+        97 * 3 * 2,
         "the same, it falls and opens again before the other follows",
     ),
     (
-        Group::First(Way::FollowsFallen),
+        THREE,
+        Play::First(FOLLOWS_FALLEN),
+        97 * 3 * 2,
         "the same, it falls before the other follows, and both open again",
     ),
     (
-        Group::First(Way::NeverFollows),
+        THREE,
+        Play::First(NEVER_FOLLOWS),
+        97 * 3 * 2,
         "the same, the other never follows, and opens first",
     ),
-    (Group::Again, "stopped again at 13 places, 3 links, end 1"),
-    (Group::Late, "an answer late, 3 links, 2 ends, 16 counts"),
-    (Group::LateForT2, "the same, T2 runs out before it comes"),
     (
-        Group::Stop(2, BOTH),
+        THREE,
+        Play::Again,
+        13 * 3,
+        "stopped again at 13 places, 3 links, end 1",
+    ),
+    (
+        THREE,
+        Play::Late(false),
+        3 * 2 * 16,
+        "an answer late, 3 links, 2 ends, 16 counts",
+    ),
+    (
+        THREE,
+        Play::Late(true),
+        3 * 2 * 16,
+        "the same, T2 runs out before it comes",
+    ),
+    (
+        Shape::Pair(2),
+        BOTH,
+        65 * 2 * 3,
         "stopped at 65 places, 2 links, 3 ends, a tick at both ends",
     ),
     (
-        Group::Stop(1, BOTH),
+        Shape::Pair(1),
+        BOTH,
+        33 * 3,
         "stopped at 33 places, 1 link, 3 ends, a tick at both ends",
     ),
-    (Group::Chance(1), "400 steps by chance, 1 link"),
-    (Group::Chance(2), "400 steps by chance, 2 links"),
-    (Group::Chance(3), "400 steps by chance, 3 links"),
-    (Group::Chance(4), "400 steps by chance, 4 links"),
     (
-        Group::Ring,
+        Shape::Pair(1),
+        Play::Chance,
+        SCHEDULES,
+        "400 steps by chance, 1 link",
+    ),
+    (
+        Shape::Pair(2),
+        Play::Chance,
+        SCHEDULES,
+        "400 steps by chance, 2 links",
+    ),
+    (
+        THREE,
+        Play::Chance,
+        SCHEDULES,
+        "400 steps by chance, 3 links",
+    ),
+    (
+        Shape::Pair(4),
+        Play::Chance,
+        SCHEDULES,
+        "400 steps by chance, 4 links",
+    ),
+    (
+        Shape::Ring,
+        Play::Ring,
+        65 * 2 * 3,
         "third neighbours, stopped at 65 places, 2 links, 3 ends",
     ),
 ];
 
 /// Runs all groups, and prints a line for each.
 pub(crate) fn run(rt: &HostRuntime) -> io::Result<()> {
-    for (group, name) in GROUPS {
-        let total = try_all(rt.alloc(), group);
-        print_group(rt, name, &total)?;
-        print_rest(rt, group, &total)?;
+    for (shape, play, runs, name) in GROUPS {
+        let mut total = Tally::default();
+        for run in 0..runs {
+            try_run(rt.alloc(), shape, play, run, &mut total);
+        }
+        total.print(rt, name)?;
+        print_rest(rt, play, &total)?;
     }
     Ok(())
 }
 
+/// Adds what becomes of the run of a number. Networks are dropped only here, since a function that does it has a long
+/// proof.
+fn try_run(alloc: Global, shape: Shape, play: Play, run: u16, total: &mut Tally) {
+    match Network::new(alloc, shape) {
+        Some(mut network) => {
+            let ended = pass(&mut network, play, run);
+            total.add(&network, ended);
+        }
+        None => total.starved = true,
+    }
+}
+
+/// The run of a number. Says whether all ended as it should.
+fn pass(network: &mut Network, play: Play, run: u16) -> bool {
+    match play {
+        Play::Stop(clock) => stop_once(network, run, clock),
+        Play::Relay => {
+            network.relays = translate(network, 1);
+            network.relays && stop_once(network, run, Clock::STILL)
+        }
+        Play::First(way) => open_at_one_first(network, run, way),
+        Play::Again => stop_again(network, run),
+        Play::Late(expires) => answer_late(network, run, expires),
+        Play::Chance => throw_steps(network, run),
+        Play::Ring => stop_in_ring(network, run),
+    }
+}
+
 /// Prints what else is said of a group, and ends the line.
-fn print_rest(rt: &HostRuntime, group: Group, total: &Tally) -> io::Result<()> {
-    match group {
-        Group::Chance(_) => println!(rt; ", sums compared {}", total.compared),
-        Group::Ring => println!(rt;
+fn print_rest(rt: &HostRuntime, play: Play, total: &Tally) -> io::Result<()> {
+    match play {
+        Play::Chance => println!(rt; ", sums compared {}", total.compared),
+        Play::Ring => println!(rt;
             ", failures {}, reroutings {}, refused in transit {}, passed through {}",
             total.failures, total.reroutings, total.refused, total.passed
         ),
         _ => println!(rt;),
-    }
-}
-
-/// Prints what became of a group, without the end of the line.
-fn print_group(rt: &HostRuntime, name: &str, total: &Tally) -> io::Result<()> {
-    if total.starved {
-        return print!(rt; "{name}: memory ran out");
-    }
-    print!(rt;
-        "{name}: {} runs, {} frames, {} messages; ",
-        total.runs, total.frames, total.messages
-    )?;
-    print_once(rt, total)?;
-    print_in_order(rt, total)?;
-    print!(rt;
-        "; lost_any {}, late_any {}, unended {}",
-        total.lost_any, total.late_any, total.unended
-    )?;
-    print_wrong(rt, total.wrong)
-}
-
-/// Prints whether each message came once, and how many messages that was judged for.
-fn print_once(rt: &HostRuntime, total: &Tally) -> io::Result<()> {
-    match (total.lost, total.doubled) {
-        (0, 0) => print!(rt; "all once ({}), ", total.once),
-        (lost, doubled) => print!(rt; "{lost} lost, {doubled} doubled ({}), ", total.once),
-    }
-}
-
-/// Prints whether each flow came in order, and how many messages that was judged for.
-fn print_in_order(rt: &HostRuntime, total: &Tally) -> io::Result<()> {
-    match total.turned {
-        0 => print!(rt; "in order ({})", total.in_order),
-        turned => print!(rt; "{turned} flows out of order ({})", total.in_order),
-    }
-}
-
-/// Prints how many sums were wrong, if any was.
-fn print_wrong(rt: &HostRuntime, wrong: u64) -> io::Result<()> {
-    match wrong {
-        0 => Ok(()),
-        _ => print!(rt; ", {wrong} sums wrong"),
     }
 }

@@ -1,7 +1,7 @@
 //! The shapes of networks.
 
 use crate::harness::{Link, Place};
-use exchange::PointCode;
+use exchange::{LinkId, PointCode};
 use std::alloc::Global;
 
 /// Which nodes there are, at points 1, 2, 3 and so on, and which of them are joined.
@@ -127,12 +127,24 @@ impl Shape {
         links
     }
 
-    /// Whether one end of a link is of a set to this adjacent point.
-    pub(crate) fn is_between(self, place: Place, far: PointCode) -> bool {
-        let number = place
-            .number
-            .wrapping_sub(self.links_before(place.code, far.code()));
-        number < self.links_between(place.code, far.code())
+    /// Whether a link of a node leads to this adjacent point.
+    pub(crate) fn leads_to(self, point: u16, link: LinkId, far: u16) -> bool {
+        let number = link.index() as u8;
+        number.wrapping_sub(self.links_before(point, far)) < self.links_between(point, far)
+    }
+
+    /// A link between two adjacent nodes, by its number among these.
+    pub(crate) fn link_between(self, from: u16, to: u16, code: u8) -> Link {
+        Link {
+            here: Place {
+                point: from,
+                number: self.links_before(from, to).wrapping_add(code),
+            },
+            there: Place {
+                point: to,
+                number: self.links_before(to, from).wrapping_add(code),
+            },
+        }
     }
 
     /// A link of a node by its number. None if the node has fewer.
@@ -140,27 +152,26 @@ impl Shape {
         for far in self.neighbours(point) {
             let code = number.wrapping_sub(self.links_before(point, *far));
             if code < self.links_between(point, *far) {
-                return Some(Link {
-                    here: Place {
-                        code: point,
-                        number,
-                    },
-                    there: Place {
-                        code: *far,
-                        number: self.links_before(*far, point).wrapping_add(code),
-                    },
-                });
+                return Some(self.link_between(point, *far, code));
             }
         }
         None
     }
 
-    /// Each link from each of its ends, node by node. None where memory ran out.
+    /// Whether points 1 and 2 are two ends, of which all messages are judged (`pairs`).
+    pub(crate) fn has_ends(self) -> bool {
+        matches!(self, Shape::Pair(_) | Shape::Ring)
+    }
+
+    /// Each link from each of its ends, node by node; of two ends those between them. None where memory ran out.
     pub(crate) fn links(self, alloc: Global) -> Option<Vec<Link>> {
         let mut links = Vec::new(alloc);
         for point in self.points() {
             for number in 0..self.links_at(*point) {
-                links.push(self.link(*point, number)?).ok()?;
+                let link = self.link(*point, number)?;
+                if !self.has_ends() || link.is_between_ends() {
+                    links.push(link).ok()?;
+                }
             }
         }
         Some(links)

@@ -1,30 +1,17 @@
-//! Where the links of a network lead.
+//! Links and their ends.
 
-use exchange::{LinkId, PointCode, SetId, Settings};
+use exchange::LinkId;
 
 /// One end of a link. It has plain numbers, since only these are copied wherever they are used again.
 #[derive(Clone, Copy)]
 pub(crate) struct Place {
     /// The code of its node's point.
-    pub code: u16,
+    pub point: u16,
     /// The link's number there.
     pub number: u8,
 }
 
 impl Place {
-    /// The end of a link at a point.
-    pub(crate) fn new(point: PointCode, link: LinkId) -> Place {
-        Place {
-            code: point.code(),
-            number: link.index() as u8,
-        }
-    }
-
-    /// The point of its node.
-    pub(crate) fn point(self) -> PointCode {
-        PointCode::of_low_bits(self.code as u32)
-    }
-
     /// The link.
     pub(crate) fn link(self) -> LinkId {
         LinkId::new(self.number)
@@ -49,33 +36,20 @@ impl Link {
         }
     }
 
+    /// Whether this is the end at the lower point.
+    pub(crate) fn is_lower(self) -> bool {
+        self.here.point < self.there.point
+    }
+
+    /// Whether it joins points 1 and 2.
+    pub(crate) fn is_between_ends(self) -> bool {
+        self.here.point <= 2 && self.there.point <= 2
+    }
+
     /// Whether this and another link of a node are in one set.
     pub(crate) fn is_beside(self, other: Link) -> bool {
-        self.here.code == other.here.code
-            && self.there.code == other.there.code
+        self.here.point == other.here.point
+            && self.there.point == other.there.point
             && self.here.number != other.here.number
     }
-}
-
-/// The point that a link leads to.
-pub(crate) fn adjacent_point(near: &Settings, link: LinkId) -> Option<PointCode> {
-    let row = near.links().get(link.index())?;
-    Some(near.sets().get(row.set().index())?.adjacent())
-}
-
-/// The other end of a link, at the node with the far settings: the link there with the same signalling link code, in
-/// the set that leads back.
-pub(crate) fn far_end(near: &Settings, link: LinkId, far: &Settings) -> Option<Place> {
-    let slc = near.links().get(link.index())?.slc();
-    let link = link_in_set(far, far.set_to(near.own())?, slc)?;
-    Some(Place::new(far.own(), link))
-}
-
-/// The link of a signalling link code in a set.
-fn link_in_set(settings: &Settings, set: SetId, slc: u8) -> Option<LinkId> {
-    let links = settings.links();
-    let place = links
-        .iter()
-        .position(|row| row.set() == set && row.slc() == slc)?;
-    Some(LinkId::new(u8::try_from(place).ok()?))
 }

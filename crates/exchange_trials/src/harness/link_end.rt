@@ -1,6 +1,6 @@
 //! One end of a link, and what is in flight to it.
 
-use exchange::{FrameText, LinkId, NoMemory, Outcome};
+use exchange::{FrameText, LinkId};
 use std::alloc::Global;
 use std::collections::VecDeque;
 use std::marker::Model;
@@ -14,7 +14,7 @@ const LINK_STATUS: u8 = 2;
 /// One end of a link, and the link statuses and the User Data in flight to it, each in the order in which they went
 /// out.
 pub(crate) struct LinkEnd {
-    /// The link's number.
+    /// The link.
     pub link: LinkId,
     statuses: VecDeque<FrameText>,
     user_data: VecDeque<FrameText>,
@@ -41,7 +41,7 @@ impl Drop for LinkEnd {
 }
 
 impl LinkEnd {
-    /// An end of a link of this number, with nothing in flight to it.
+    /// An end of a link, with nothing in flight to it.
     pub(crate) fn new(alloc: Global, link: LinkId) -> LinkEnd {
         LinkEnd {
             link,
@@ -51,34 +51,31 @@ impl LinkEnd {
         }
     }
 
-    /// A frame is in flight to it, behind the others of its stream.
-    pub(crate) fn push(&mut self, text: FrameText) -> Result<(), NoMemory> {
-        if is_link_status(&text) {
-            self.statuses.push_back(text)?;
+    /// A frame is in flight to it, behind the others of its stream. Says whether there was memory for it.
+    pub(crate) fn push(&mut self, text: FrameText) -> bool {
+        if text.octets().get(MESSAGE_TYPE_PLACE) == Some(&LINK_STATUS) {
+            self.statuses.push_back(text).is_ok()
         } else {
-            self.user_data.push_back(text)?;
+            self.user_data.push_back(text).is_ok()
         }
-        Ok(())
     }
 
-    /// The first link status in flight to it.
-    pub(crate) fn pop_status(&mut self) -> Option<FrameText> {
-        self.statuses.pop_front()
+    /// The first link status in flight to it, or else the first User Data.
+    pub(crate) fn pop(&mut self, is_status: bool) -> Option<FrameText> {
+        if is_status {
+            self.statuses.pop_front()
+        } else {
+            self.user_data.pop_front()
+        }
     }
 
-    /// The first User Data in flight to it.
-    pub(crate) fn pop_data(&mut self) -> Option<FrameText> {
-        self.user_data.pop_front()
-    }
-
-    /// The first link status in flight to it is so twice. Ignored where there is none.
-    pub(crate) fn double_status(&mut self) -> Result<Outcome, NoMemory> {
+    /// The first link status in flight to it is so twice. Says whether there is one, and memory for another.
+    pub(crate) fn double_status(&mut self) -> bool {
         let Some(first) = self.statuses.front() else {
-            return Ok(Outcome::Ignored);
+            return false;
         };
         let again = FrameText::new(first.octets());
-        self.statuses.push_front(again)?;
-        Ok(Outcome::Handled)
+        self.statuses.push_front(again).is_ok()
     }
 
     /// Nothing is in flight to it any more, and it may follow the other end, or not.
@@ -87,25 +84,4 @@ impl LinkEnd {
         self.user_data.clear();
         self.may_follow = may_follow;
     }
-
-    /// It may not follow any more. Says whether it might.
-    pub(crate) fn give_up(&mut self) -> bool {
-        let might = self.may_follow;
-        self.may_follow = false;
-        might
-    }
-}
-
-/// The ends of this many links, with nothing in flight to them.
-pub(crate) fn ends_of(alloc: Global, links: usize) -> Result<Vec<LinkEnd>, NoMemory> {
-    let mut ends = Vec::new(alloc);
-    for link in 0..u8::try_from(links).unwrap_or(u8::MAX) {
-        ends.push(LinkEnd::new(alloc, LinkId::new(link)))?;
-    }
-    Ok(ends)
-}
-
-/// Whether a frame is a link status.
-fn is_link_status(text: &FrameText) -> bool {
-    text.octets().get(MESSAGE_TYPE_PLACE) == Some(&LINK_STATUS)
 }

@@ -1,23 +1,35 @@
 //! Any number of exchanges, joined by links in any shape.
 
-use super::arrival::Arrival;
-use super::doing::Doing;
-use super::joining::{Link, Place, adjacent_point, far_end};
+use super::doing::{Deed, Doing, is_accepted};
+use super::joining::{Link, Place};
 use super::site::Site;
-use super::waiting::{PickedTo, count_waiting};
+use crate::harness::count;
 use crate::node::Node;
-use exchange::{
-    Exchange, FrameText, LinkId, LinkStanding, Msu, NoMemory, Outcome, Pick, PointCode, SetId,
-    Settings,
-};
+use crate::node_settings::settings_at;
+use crate::shape::Shape;
+use exchange::{FrameText, LinkStanding, Msu, Outcome};
 use std::alloc::Global;
 use std::marker::Model;
 
-/// Any number of exchanges, each at a point of its own, and the frames in flight between them, on two streams of each
-/// link each way (RFC 4165 §4.1.2).
+/// The nodes of a shape, and the frames in flight between them, on two streams of each link each way (RFC 4165 §4.1.2).
 pub(crate) struct Network {
-    alloc: Global,
-    sites: Vec<Site>,
+    pub alloc: Global,
+    /// Which nodes there are.
+    pub shape: Shape,
+    /// The links of which rounds carry frames, each from each of its ends, node by node (`Shape::links`).
+    pub links: Vec<Link>,
+    /// The nodes, in the order of their points.
+    pub sites: Vec<Site>,
+    /// How often something was done at a node.
+    pub steps: u64,
+    /// How many frames were taken on links between points 1 and 2.
+    pub frames: u64,
+    /// How many sums were compared,
+    pub compared: u64,
+    /// and how many of them had two sides that aren't the same.
+    pub wrong: u64,
+    /// Whether node 1 hands over SCCP for its own point, which it relays to node 2, and that returns it.
+    pub relays: bool,
 }
 
 impl Model for Network {
@@ -29,79 +41,51 @@ impl Model for Network {
 // By hand, so that no proof above has what a network owns.
 impl Drop for Network {
     fn drop(self) {
-        let Network { alloc: _, sites: _ } = self;
+        let Network {
+            alloc: _,
+            shape: _,
+            links: _,
+            sites: _,
+            steps: _,
+            frames: _,
+            compared: _,
+            wrong: _,
+            relays: _,
+        } = self;
     }
 }
 
 impl Network {
-    /// A network of nodes that were just booted with these settings, with nothing in flight. A link to a point that
-    /// isn't among theirs leads nowhere.
-    pub(crate) fn new(alloc: Global, settings: Vec<Settings>) -> Result<Network, NoMemory> {
-        let mut sites = Vec::with_capacity(alloc, settings.len())?;
-        for own in settings {
-            sites.push(Site::boot(alloc, own)?)?;
-        }
-        Ok(Network { alloc, sites })
+    /// A network before anything was done. None where memory ran out.
+    pub(crate) fn new(alloc: Global, shape: Shape) -> Option<Network> {
+        let links = shape.links(alloc)?;
+        let sites = sites_of(alloc, shape)?;
+        Some(Network {
+            alloc,
+            shape,
+            links,
+            sites,
+            steps: 0,
+            frames: 0,
+            compared: 0,
+            wrong: 0,
+            relays: false,
+        })
     }
 
-    /// Does one thing at the node at a point, and says what became of it. Ignored where no node is at the point.
-    pub(crate) fn turn(&mut self, at: PointCode, doing: Doing) -> Result<Outcome, NoMemory> {
-        match doing {
-            Doing::Take(link) => self.take(at, link),
-            Doing::OpenFirst(link) => Ok(self.open_first(at, link)),
-            doing => match self.site_mut(at) {
-                Some(site) => site.act(doing),
-                None => Ok(Outcome::Ignored),
-            },
-        }
+    /// The node at a point.
+    pub(crate) fn site(&self, point: u16) -> Option<&Site> {
+        self.sites.get(place_of(point))
     }
 
-    /// The messages that the node at a point queued or held, as they were handed in or came, in order.
-    pub(crate) fn accepted(&self, at: PointCode) -> &[Msu] {
-        match self.site(at) {
-            Some(site) => site.accepted.as_slice(),
-            None => &[],
-        }
-    }
-
-    /// All messages that frames newly brought to the node at a point, in order, each with the link by which it came.
-    pub(crate) fn arrived(&self, at: PointCode) -> &[Arrival] {
-        match self.site(at) {
-            Some(site) => site.arrived.as_slice(),
-            None => &[],
-        }
-    }
-
-    /// The user messages for other points that frames newly brought to the node at a point, and that it refused, in
-    /// order.
-    pub(crate) fn refused(&self, at: PointCode) -> &[Msu] {
-        match self.site(at) {
-            Some(site) => site.refused.as_slice(),
-            None => &[],
-        }
-    }
-
-    /// How many user messages for another node that a choice takes wait at the node at a point: on a link between the
-    /// two, behind the last message that the other accepted there, or in Held. 0 where one of the points has no node.
-    pub(crate) fn waiting<P: Pick>(&self, at: PointCode, far: PointCode, pick: &P) -> usize {
-        match (self.at(at), self.at(far)) {
-            (Some(near), Some(other)) => count_waiting(near, other, &PickedTo { point: far, pick }),
-            (Some(_), None) | (None, _) => 0,
-        }
-    }
-
-    /// The exchange of the node at a point. None where no node is there.
-    pub(crate) fn at(&self, at: PointCode) -> Option<&Exchange> {
-        match self.site(at) {
-            Some(site) => Some(site.node.shown()),
-            None => None,
-        }
+    fn site_mut(&mut self, point: u16) -> Option<&mut Site> {
+        self.sites.get_mut(place_of(point))
     }
 
     /// How a link stands at one end; Down if there is none.
     fn standing(&self, place: Place) -> LinkStanding {
-        match self.site(place.point()) {
-            Some(site) => site.standing(place.link()),
+        match self.site(place.point) {
+            Some(site) => site.node.standing(place.link()),
             None => LinkStanding::Down,
         }
     }
@@ -117,31 +101,37 @@ impl Network {
             && self.standing(link.there) == LinkStanding::InService
     }
 
-    /// The first set that messages of the node at a point take for a destination, by the destination's number.
-    pub(crate) fn first_set(&self, at: PointCode, destination: usize) -> Option<SetId> {
-        self.at(at)?.route(destination)?.sets.first().copied()
+    /// Whether all are of which rounds carry frames.
+    pub(crate) fn serves_all(&self) -> bool {
+        self.links.iter().all(|link| self.serves(*link))
     }
 
-    /// The node at the point of these settings, which are its own, starts again: its exchange is as they boot it, and
-    /// nothing is in flight to it. It may follow the other end of no link. Its books stay. What it sent is in flight
-    /// yet, and the other end of each of its links still has its association: that loses it later, by a `Doing::Lose`,
-    /// and may still follow, until it gives that up. Ignored where no node is at their point.
-    pub(crate) fn restart(&mut self, settings: Settings) -> Result<Outcome, NoMemory> {
-        let point = settings.own();
-        let node = Node::boot(self.alloc, settings)?;
-        match self.site_mut(point) {
-            Some(site) => {
-                site.restart(node);
-                Ok(Outcome::Handled)
-            }
-            None => Ok(Outcome::Ignored),
+    /// Whether each link of each node may open, no node may follow the other end of one, and nothing is in Held.
+    pub(crate) fn is_quiet(&self) -> bool {
+        self.sites.iter().all(|site| site.is_quiet())
+    }
+
+    /// Whether memory ran out: then not all was done, or booked.
+    pub(crate) fn is_starved(&self) -> bool {
+        self.sites.iter().any(|site| site.starved)
+    }
+
+    /// How often nodes lost a link since that is counted.
+    pub(crate) fn failures(&self) -> u64 {
+        let mut all = 0u64;
+        for site in self.sites.as_slice() {
+            count(&mut all, site.failures);
         }
+        all
     }
 
-    /// An end may not follow the other end of its link any more, as when its transport has seen that nobody answers.
-    pub(crate) fn give_up(&mut self, end: Place) {
-        if let Some(site) = self.site_mut(end.point()) {
-            site.give_up(end.link());
+    /// From now on steps, failures, reroutings, and messages that pass through or are refused are counted.
+    pub(crate) fn count_anew(&mut self) {
+        self.steps = 0;
+        for site in self.sites.iter_mut() {
+            site.failures = 0;
+            site.passed = 0;
+            site.seen.reroutings = 0;
         }
     }
 
@@ -152,80 +142,138 @@ impl Network {
         }
     }
 
-    /// Whether each link of each node may open, no node may follow the other end of one, and nothing is in Held.
-    pub(crate) fn is_quiet(&self) -> bool {
-        self.sites.iter().all(|site| site.is_quiet())
+    /// A node starts again: its exchange is as its settings boot it, and nothing is in flight to it. It may follow the
+    /// other end of no link. Its books stay. What it sent is in flight yet, and the other end of each of its links
+    /// still has its association: that loses it later, and may still follow, until it falls.
+    pub(crate) fn restart(&mut self, point: u16) {
+        let node = booted(self.alloc, self.shape, point);
+        if let Some(site) = self.site_mut(point) {
+            site.restart(node);
+        }
     }
 }
 
 impl Network {
-    /// The other end of a link. None where none of the nodes has it.
-    fn far(&self, at: PointCode, link: LinkId) -> Option<Place> {
-        let near = self.at(at)?.settings();
-        let far = self.at(adjacent_point(near, link)?)?.settings();
-        far_end(near, link, far)
+    /// Does one thing at a node, and looks at it. Says what became of it.
+    pub(crate) fn turn(&mut self, at: u16, doing: Doing) -> Outcome {
+        count(&mut self.steps, 1);
+        self.compare_now_and_then();
+        let outcome = self.turn_unseen(at, doing);
+        self.look(at);
+        outcome
     }
 
-    /// The next frame of a link is fetched, and is in flight to the other end, if that is there.
-    fn take(&mut self, at: PointCode, link: LinkId) -> Result<Outcome, NoMemory> {
-        let far = self.far(at, link);
-        match self.fetch(at, link) {
-            Some(text) => {
-                self.push(far, text)?;
-                Ok(Outcome::Handled)
-            }
-            None => Ok(Outcome::Ignored),
+    fn turn_unseen(&mut self, at: u16, doing: Doing) -> Outcome {
+        match doing {
+            Doing::Link(Deed::Take, place) => self.take(place),
+            Doing::Link(Deed::OpenFirst, place) => self.open_first(place),
+            doing => match self.site_mut(at) {
+                Some(site) => site.act(doing),
+                None => Outcome::Ignored,
+            },
         }
     }
 
-    /// The next frame of a link is fetched.
-    fn fetch(&mut self, at: PointCode, link: LinkId) -> Option<FrameText> {
-        self.site_mut(at)?.take(link)
+    /// A node is looked at, and how many messages have come to it.
+    fn look(&mut self, at: u16) {
+        let Some(site) = self.site_mut(at) else {
+            return;
+        };
+        let arrivals = site.look();
+        for site in self.sites.iter_mut() {
+            site.seen.note_arrivals(place_of(at), arrivals);
+        }
     }
 
-    /// A frame is in flight to an end of a link, if that is there.
-    fn push(&mut self, end: Option<Place>, text: FrameText) -> Result<(), NoMemory> {
-        let Some(end) = end else {
-            return Ok(());
+    /// Does something about a link at one end. Says whether something came of it.
+    pub(crate) fn act(&mut self, place: Place, deed: Deed) -> bool {
+        self.turn(place.point, Doing::Link(deed, place)) != Outcome::Ignored
+    }
+
+    /// This many ticks pass at a node.
+    pub(crate) fn tick(&mut self, point: u16, count: u8) {
+        for _ in 0..count {
+            self.turn(point, Doing::Tick);
+        }
+    }
+
+    /// A node submits a message, if there is one. Says whether it accepted it.
+    pub(crate) fn submit(&mut self, point: u16, message: Option<Msu>) -> bool {
+        match message {
+            Some(message) => is_accepted(self.turn(point, Doing::Submit(message))),
+            None => false,
+        }
+    }
+
+    /// The next frame of a link is fetched, and is in flight to the other end.
+    fn take(&mut self, place: Place) -> Outcome {
+        let Some(link) = self.shape.link(place.point, place.number) else {
+            return Outcome::Ignored;
         };
-        match self.site_mut(end.point()) {
-            Some(site) => site.push(end.link(), text),
-            None => Ok(()),
+        let Some(text) = self.fetch(place) else {
+            return Outcome::Ignored;
+        };
+        count(&mut self.frames, link.is_between_ends() as u64);
+        self.push(link.there, text);
+        Outcome::Handled
+    }
+
+    fn fetch(&mut self, place: Place) -> Option<FrameText> {
+        self.site_mut(place.point)?.node.fetch(place.link())
+    }
+
+    /// A frame is in flight to an end of a link.
+    fn push(&mut self, end: Place, text: FrameText) {
+        if let Some(site) = self.site_mut(end.point) {
+            site.push(end.link(), text);
         }
     }
 
     /// A link opens at one end, if that wants it to and it may open at the other, which may then follow.
-    fn open_first(&mut self, at: PointCode, link: LinkId) -> Outcome {
-        let Some(far) = self.far(at, link) else {
+    fn open_first(&mut self, place: Place) -> Outcome {
+        let Some(Link { there: far, .. }) = self.shape.link(place.point, place.number) else {
             return Outcome::Ignored;
         };
-        if !self.may_open_first(at, link, far) {
+        if !self.may_open_first(place, far) {
             return Outcome::Ignored;
         }
-        if let Some(site) = self.site_mut(at) {
-            site.open_first(link);
+        if let Some(site) = self.site_mut(place.point) {
+            site.open_first(place.link());
         }
-        if let Some(site) = self.site_mut(far.point()) {
+        if let Some(site) = self.site_mut(far.point) {
             site.clear(far.link(), true);
         }
         Outcome::Handled
     }
 
     /// Whether one end wants a link to open, and it may open at the other.
-    fn may_open_first(&self, at: PointCode, link: LinkId, far: Place) -> bool {
-        match (self.site(at), self.site(far.point())) {
+    fn may_open_first(&self, place: Place, far: Place) -> bool {
+        match (self.site(place.point), self.site(far.point)) {
             (Some(near), Some(other)) => {
-                near.wants_open(link) && other.node.shown().may_restart(far.link())
+                near.wants_open(place.link()) && other.node.shown().may_restart(far.link())
             }
             (Some(_), None) | (None, _) => false,
         }
     }
+}
 
-    fn site(&self, at: PointCode) -> Option<&Site> {
-        self.sites.iter().find(|site| site.point == at)
+/// The nodes of a shape. None where memory ran out.
+fn sites_of(alloc: Global, shape: Shape) -> Option<Vec<Site>> {
+    let mut sites = Vec::new(alloc);
+    for point in shape.points() {
+        sites
+            .push(Site::boot(alloc, settings_at(alloc, shape, *point)?)?)
+            .ok()?;
     }
+    Some(sites)
+}
 
-    fn site_mut(&mut self, at: PointCode) -> Option<&mut Site> {
-        self.sites.iter_mut().find(|site| site.point == at)
-    }
+/// A node of a shape, before its first event. None where memory ran out.
+fn booted(alloc: Global, shape: Shape, point: u16) -> Option<Node> {
+    Node::boot(alloc, settings_at(alloc, shape, point)?).ok()
+}
+
+/// The place of a point's node among all: points are 1, 2, 3 and so on.
+pub(crate) fn place_of(point: u16) -> usize {
+    (point as usize).wrapping_sub(1)
 }

@@ -1,21 +1,26 @@
 //! One node of a network: its exchange, what is in flight to it, and its books.
 
-use super::arrival::Arrival;
-use super::became::Became;
-use super::doing::Doing;
-use super::link_end::{LinkEnd, ends_of};
+use super::doing::{Deed, Doing, done, is_accepted};
+use super::link_end::LinkEnd;
+use super::seen::Seen;
+use crate::harness::count;
 use crate::node::Node;
 use exchange::{
-    Event, Frame, FrameText, Label, LinkId, LinkStanding, LinkView, Msu, NoMemory, Order, Outcome,
-    PointCode, Settings, Wants, decode,
+    Event, Frame, FrameText, Label, LinkId, Msu, Order, Outcome, Settings, Wants, decode,
 };
 use std::alloc::Global;
 use std::marker::Model;
+use std::mem::replace;
+
+/// A message that a frame newly carried to a node, and the link by which it came.
+#[derive(Clone, Copy)]
+pub(crate) struct Arrival {
+    pub link: LinkId,
+    pub message: Msu,
+}
 
 /// One node, the ends of its links, and what it booked.
 pub(crate) struct Site {
-    /// Its point.
-    pub point: PointCode,
     /// Its exchange.
     pub node: Node,
     ends: Vec<LinkEnd>,
@@ -25,6 +30,14 @@ pub(crate) struct Site {
     pub arrived: Vec<Arrival>,
     /// The user messages for other points that came and were refused.
     pub refused: Vec<Msu>,
+    /// How many of those that came were queued or held.
+    pub passed: u64,
+    /// How often it lost a link.
+    pub failures: u64,
+    /// What was seen of it.
+    pub seen: Seen,
+    /// Whether memory ran out: then not all was done, or booked.
+    pub starved: bool,
 }
 
 impl Model for Site {
@@ -37,29 +50,34 @@ impl Model for Site {
 impl Drop for Site {
     fn drop(self) {
         let Site {
-            point: _,
             node: _,
             ends: _,
             accepted: _,
             arrived: _,
             refused: _,
+            passed: _,
+            failures: _,
+            seen: _,
+            starved: _,
         } = self;
     }
 }
 
 impl Site {
-    /// A node with these settings, before anything was done at it.
-    pub(crate) fn boot(alloc: Global, settings: Settings) -> Result<Site, NoMemory> {
-        let point = settings.own();
+    /// A node with these settings, before anything was done at it. None where memory ran out.
+    pub(crate) fn boot(alloc: Global, settings: Settings) -> Option<Site> {
         let ends = ends_of(alloc, settings.link_count())?;
-        let node = Node::boot(alloc, settings)?;
-        Ok(Site {
-            point,
+        let node = Node::boot(alloc, settings).ok()?;
+        Some(Site {
             node,
             ends,
             accepted: Vec::new(alloc),
             arrived: Vec::new(alloc),
             refused: Vec::new(alloc),
+            passed: 0,
+            failures: 0,
+            seen: Seen::default(),
+            starved: false,
         })
     }
 
@@ -68,33 +86,37 @@ impl Site {
         self.node.shown().wants(link) == Wants::Open
     }
 
-    /// How a link stands; Down if there is none.
-    pub(crate) fn standing(&self, link: LinkId) -> LinkStanding {
-        match self.node.link(link) {
-            Some(view) => view.standing,
-            None => LinkStanding::Down,
-        }
-    }
-
     /// Whether each of its links may open, it may follow on none, and nothing is in Held.
     pub(crate) fn is_quiet(&self) -> bool {
-        self.node.shown().count_held() == 0 && self.ends.iter().all(|end| self.does_rest(end))
+        let node = self.node.shown();
+        node.count_held() == 0
+            && self
+                .ends
+                .iter()
+                .all(|end| node.may_restart(end.link) && !end.may_follow)
     }
 
-    /// Whether a link may open, and it may not follow there.
-    fn does_rest(&self, end: &LinkEnd) -> bool {
-        self.node.shown().may_restart(end.link) && !end.may_follow
+    /// It is looked at. Says how many messages have come to it.
+    pub(crate) fn look(&mut self) -> usize {
+        self.seen.look(self.node.shown());
+        self.arrived.len()
     }
 
-    /// Its books begin anew.
+    /// Its books begin anew. What it counted before counts no more.
     pub(crate) fn begin_anew(&mut self) {
         self.accepted.clear();
         self.arrived.clear();
         self.refused.clear();
+        self.seen.begin_anew(self.node.shown());
     }
 
-    /// It starts again as this node: nothing is in flight to it, and it may follow on no link. Its books stay.
-    pub(crate) fn restart(&mut self, node: Node) {
+    /// It starts again as this node, if there was memory for one: nothing is in flight to it, and it may follow on no
+    /// link. Its books stay.
+    pub(crate) fn restart(&mut self, node: Option<Node>) {
+        let Some(node) = node else {
+            self.starved = true;
+            return;
+        };
         self.node = node;
         for end in self.ends.iter_mut() {
             end.clear(false);
@@ -104,30 +126,35 @@ impl Site {
 
 impl Site {
     /// Does what is done at this node alone; a fetch and a link that opens first do nothing.
-    pub(crate) fn act(&mut self, what: Doing) -> Result<Outcome, NoMemory> {
+    pub(crate) fn act(&mut self, what: Doing) -> Outcome {
         match what {
             Doing::Submit(message) => self.submit(message),
-            Doing::Deliver(link) => {
-                let text = self.next_data(link);
-                self.hear(link, text)
+            Doing::Tick => self.node.step(&Event::Tick),
+            Doing::AddTitle(row) => self.order(Order::AddTitle(row)),
+            Doing::RemoveTitle(key, digits) => self.order(Order::RemoveTitle(key, digits)),
+            Doing::Link(deed, place) => self.act_on(deed, place.link()),
+        }
+    }
+
+    /// Does what is done about a link at this node alone.
+    fn act_on(&mut self, deed: Deed, link: LinkId) -> Outcome {
+        match deed {
+            Deed::Deliver => self.hear(link, false),
+            Deed::DeliverStatus => self.hear(link, true),
+            Deed::LoseStatus => done(self.pop(link, true).is_some()),
+            Deed::DoubleStatus => self.double_status(link),
+            Deed::Lose => self.lose(link),
+            Deed::Fall => {
+                self.give_up(link);
+                self.lose(link)
             }
-            Doing::DeliverStatus(link) => {
-                let text = self.next_status(link);
-                self.hear(link, text)
-            }
-            Doing::LoseStatus(link) => Ok(self.lose_status(link)),
-            Doing::DoubleStatus(link) => self.double_status(link),
-            Doing::Lose(link) => Ok(self.node.step(&Event::AssociationDown(link))),
-            Doing::Tick => Ok(self.node.step(&Event::Tick)),
-            Doing::Activate(link) => Ok(self.order(Order::Activate {
+            Deed::Activate => self.order(Order::Activate {
                 link,
                 emergency: false,
-            })),
-            Doing::Deactivate(link) => Ok(self.order(Order::Deactivate(link))),
-            Doing::AddTitle(row) => Ok(self.order(Order::AddTitle(row))),
-            Doing::RemoveTitle(key, digits) => Ok(self.order(Order::RemoveTitle(key, digits))),
-            Doing::OpenSecond(link) => Ok(self.open_second(link)),
-            Doing::Take(_) | Doing::OpenFirst(_) => Ok(Outcome::Ignored),
+            }),
+            Deed::Deactivate => self.order(Order::Deactivate(link)),
+            Deed::OpenSecond => self.open_second(link),
+            Deed::Take | Deed::OpenFirst => Outcome::Ignored,
         }
     }
 
@@ -137,65 +164,56 @@ impl Site {
     }
 
     /// A user part hands over a message.
-    fn submit(&mut self, message: Msu) -> Result<Outcome, NoMemory> {
+    fn submit(&mut self, message: Msu) -> Outcome {
         let outcome = self.node.step(&Event::Submit(message.lend()));
-        if is_accepted(&outcome) {
-            self.accepted.push(message)?;
+        if is_accepted(outcome) {
+            self.starved |= self.accepted.push(message).is_err();
         }
-        Ok(outcome)
+        outcome
     }
 
-    /// The first link status in flight on a link is lost.
-    fn lose_status(&mut self, link: LinkId) -> Outcome {
-        match self.next_status(link) {
-            Some(_) => Outcome::Handled,
-            None => Outcome::Ignored,
-        }
+    /// The association of a link is lost.
+    fn lose(&mut self, link: LinkId) -> Outcome {
+        let outcome = self.node.step(&Event::AssociationDown(link));
+        count(&mut self.failures, (outcome != Outcome::Ignored) as u64);
+        outcome
     }
 
-    fn next_data(&mut self, link: LinkId) -> Option<FrameText> {
-        self.end(link)?.pop_data()
-    }
-
-    fn next_status(&mut self, link: LinkId) -> Option<FrameText> {
-        self.end(link)?.pop_status()
-    }
-
-    /// The first link status in flight on a link is so twice.
-    fn double_status(&mut self, link: LinkId) -> Result<Outcome, NoMemory> {
-        match self.end(link) {
-            Some(end) => end.double_status(),
-            None => Ok(Outcome::Ignored),
-        }
-    }
-
-    /// A frame comes on a link, if there is one.
-    fn hear(&mut self, link: LinkId, text: Option<FrameText>) -> Result<Outcome, NoMemory> {
-        let Some(text) = text else {
-            return Ok(Outcome::Ignored);
+    /// The next link status in flight on a link comes, or the next User Data, if there is one.
+    fn hear(&mut self, link: LinkId, is_status: bool) -> Outcome {
+        let Some(text) = self.pop(link, is_status) else {
+            return Outcome::Ignored;
         };
-        let before = self.node.link(link);
+        let before = self.node.last_accepted(link);
         let outcome = self.node.step(&Event::Frame(link, text.octets()));
-        if accepted_another(before, self.node.link(link)) {
-            self.book(link, text.octets(), &outcome)?;
+        if before != self.node.last_accepted(link) {
+            self.book(link, text.octets(), outcome);
         }
-        Ok(outcome)
+        outcome
     }
 
     /// Books the message that a frame newly carried, and what became of it.
-    fn book(&mut self, link: LinkId, octets: &[u8], outcome: &Outcome) -> Result<(), NoMemory> {
+    fn book(&mut self, link: LinkId, octets: &[u8], outcome: Outcome) {
         let Some(message) = carried(octets) else {
-            return Ok(());
+            return;
         };
-        self.arrived.push(Arrival { link, message })?;
-        match Became::of(*outcome) {
-            Became::Accepted => self.accepted.push(message)?,
-            Became::Refused if goes_onward(self.point, &message) => self.refused.push(message)?,
-            _ => (),
+        self.starved |= self.arrived.push(Arrival { link, message }).is_err();
+        if is_accepted(outcome) {
+            count(&mut self.passed, 1);
+            self.starved |= self.accepted.push(message).is_err();
+        } else if matches!(outcome, Outcome::Refused(_)) && self.goes_onward(&message) {
+            self.starved |= self.refused.push(message).is_err();
         }
-        Ok(())
     }
 
+    /// Whether a user message is for another point than this.
+    fn goes_onward(&self, message: &Msu) -> bool {
+        let own = self.node.shown().settings().own();
+        !message.is_management() && Label::at(message.sif()).dpc != own
+    }
+}
+
+impl Site {
     /// A link opens before it does at the other end, and nothing is in flight to this one.
     pub(crate) fn open_first(&mut self, link: LinkId) {
         self.node.step(&Event::AssociationUp(link));
@@ -219,24 +237,31 @@ impl Site {
     }
 
     /// It may not follow the other end of a link any more. Says whether it might.
-    pub(crate) fn give_up(&mut self, link: LinkId) -> bool {
+    fn give_up(&mut self, link: LinkId) -> bool {
         match self.end(link) {
-            Some(end) => end.give_up(),
+            Some(end) => replace(&mut end.may_follow, false),
             None => false,
         }
     }
 
-    /// The next frame of a link is fetched.
-    pub(crate) fn take(&mut self, link: LinkId) -> Option<FrameText> {
-        self.node.fetch(link)
+    /// A frame is in flight to it on a link.
+    pub(crate) fn push(&mut self, link: LinkId, text: FrameText) {
+        if let Some(end) = self.end(link) {
+            let has_room = end.push(text);
+            self.starved |= !has_room;
+        }
     }
 
-    /// A frame is in flight to it on a link.
-    pub(crate) fn push(&mut self, link: LinkId, text: FrameText) -> Result<(), NoMemory> {
+    /// The first link status in flight on a link is so twice.
+    fn double_status(&mut self, link: LinkId) -> Outcome {
         match self.end(link) {
-            Some(end) => end.push(text),
-            None => Ok(()),
+            Some(end) => done(end.double_status()),
+            None => Outcome::Ignored,
         }
+    }
+
+    fn pop(&mut self, link: LinkId, is_status: bool) -> Option<FrameText> {
+        self.end(link)?.pop(is_status)
     }
 
     fn end(&mut self, link: LinkId) -> Option<&mut LinkEnd> {
@@ -244,12 +269,13 @@ impl Site {
     }
 }
 
-/// Whether a link accepted another message between two looks at it.
-fn accepted_another(before: Option<LinkView>, after: Option<LinkView>) -> bool {
-    match (before, after) {
-        (Some(before), Some(after)) => before.last_accepted != after.last_accepted,
-        (Some(_), None) | (None, _) => false,
+/// The ends of this many links, with nothing in flight to them. None where memory ran out.
+fn ends_of(alloc: Global, links: usize) -> Option<Vec<LinkEnd>> {
+    let mut ends = Vec::new(alloc);
+    for link in 0..u8::try_from(links).unwrap_or(u8::MAX) {
+        ends.push(LinkEnd::new(alloc, LinkId::new(link))).ok()?;
     }
+    Some(ends)
 }
 
 /// The message of a frame.
@@ -258,17 +284,4 @@ fn carried(octets: &[u8]) -> Option<Msu> {
         Ok(Frame::Message { sio, sif, .. }) => Msu::new(sio, sif).ok(),
         Ok(Frame::Empty { .. }) | Ok(Frame::Status { .. }) | Err(_) => None,
     }
-}
-
-/// Whether an outcome says that a message was queued or is held.
-fn is_accepted(outcome: &Outcome) -> bool {
-    match outcome {
-        Outcome::Queued(_) | Outcome::Held => true,
-        Outcome::Local | Outcome::Handled | Outcome::Ignored | Outcome::Refused(_) => false,
-    }
-}
-
-/// Whether a user message is for another point than this.
-fn goes_onward(point: PointCode, message: &Msu) -> bool {
-    !message.is_management() && Label::at(message.sif()).dpc != point
 }

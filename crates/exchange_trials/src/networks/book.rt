@@ -26,6 +26,8 @@ pub(super) struct Book {
     pub entries: Vec<Entry>,
     /// The mark of the first one.
     first: u32,
+    /// Whether there was no memory for one.
+    pub starved: bool,
 }
 
 impl Book {
@@ -34,6 +36,7 @@ impl Book {
         Book {
             entries: Vec::new(alloc),
             first: 0,
+            starved: false,
         }
     }
 
@@ -43,9 +46,9 @@ impl Book {
         self.first.wrapping_add(count)
     }
 
-    /// One more. Says whether there was memory for it.
-    pub(super) fn add(&mut self, entry: Entry) -> bool {
-        self.entries.push(entry).is_ok()
+    /// One more.
+    pub(super) fn add(&mut self, entry: Entry) {
+        self.starved |= self.entries.push(entry).is_err();
     }
 
     /// It begins anew: no message is in it, and marks go on, so that none is of two messages.

@@ -1,9 +1,9 @@
 //! A run in which the books are made wrong, so that the judge has something to find.
 
 use super::book::Entry;
-use super::rounds::{bring_up, come_to_rest, fall_to_rest};
-use super::total::Totals;
-use super::world::{Tally, World};
+use super::rest::{bring_up, come_to_rest};
+use super::total::{Ending, Totals};
+use super::world::World;
 use crate::shape::Shape;
 use std::alloc::Global;
 
@@ -22,7 +22,7 @@ const ENTRY: Entry = Entry {
 /// rest, and once the books have begun anew the same is done, and a message is submitted with a mark of before.
 pub(super) fn make_wrong(alloc: Global) -> Totals {
     let mut totals = Totals::default();
-    match World::new(alloc, Shape::Line) {
+    match World::new(alloc, Shape::Line, 0) {
         Some(mut world) => pass_wrongly(&mut world, &mut totals),
         None => totals.first.starved = true,
     }
@@ -33,38 +33,42 @@ pub(super) fn make_wrong(alloc: Global) -> Totals {
 fn pass_wrongly(world: &mut World, totals: &mut Totals) {
     bring_up_and_count(world);
     let former = world.book.next_mark();
-    let ended = submit_wrongly(world);
-    totals.first.add(world, ended);
-    world.restart(MIDDLE);
-    let rests = fall_to_rest(world);
-    if totals.begin_anew(world, 1, rests) {
+    let ending = submit_wrongly(world);
+    totals.first.add(world, ending);
+    world.network.restart(MIDDLE);
+    if totals.begin_anew(world, 1) {
         bring_up_and_count(world);
         world.hand_over(Entry { from: 3, ..ENTRY }, former);
-        let ended = submit_wrongly(world);
-        totals.anew.add(world, ended);
+        let ending = submit_wrongly(world);
+        totals.anew.add(world, ending);
     }
 }
 
 /// All links come into service, and what is done from then on is counted.
 fn bring_up_and_count(world: &mut World) {
-    bring_up(world);
-    world.tally = Tally::default();
+    bring_up(&mut world.network);
+    world.network.count_anew();
 }
 
 /// All that is wrong in one book: a message is in it that was never submitted, one is submitted twice, and two are
-/// submitted the other way round than the book has them. Says whether frames came to rest behind it.
-fn submit_wrongly(world: &mut World) -> bool {
-    world.note_entry(ENTRY);
+/// submitted the other way round than the book has them. Then frames come to rest.
+fn submit_wrongly(world: &mut World) -> Ending {
+    world.book.add(ENTRY);
     note_and_hand_over(world, Entry { flow: 1, ..ENTRY }, 1, &[0, 0]);
     note_and_hand_over(world, Entry { flow: 2, ..ENTRY }, 2, &[1, 0]);
-    come_to_rest(world)
+    let ended = come_to_rest(&mut world.network);
+    Ending {
+        steps: world.network.steps,
+        failures: world.network.failures(),
+        ended,
+    }
 }
 
 /// So many messages are noted, and those at these places among them are submitted, one after another.
 fn note_and_hand_over(world: &mut World, entry: Entry, count: usize, places: &[u32]) {
     let mark = world.book.next_mark();
     for _ in 0..count {
-        world.note_entry(entry);
+        world.book.add(entry);
     }
     for place in places {
         world.hand_over(entry, mark.wrapping_add(*place));

@@ -1,10 +1,12 @@
 //! What was accepted, compared with what came and with what was refused on its way, by the marks alone.
 
 use super::book::{Entry, is_marked};
-use super::total::{Total, count};
+use super::total::Total;
 use super::world::World;
-use crate::shape::{Shape, code_of};
+use crate::harness::{Site, count, place_of};
+use crate::shape::Shape;
 use exchange::{Limits, Msu};
+use std::alloc::Global;
 use std::marker::Model;
 
 /// Points of nodes are below this.
@@ -26,10 +28,10 @@ impl Promise {
     /// What is promised of a network.
     pub(super) fn of(world: &World) -> Promise {
         let mut whole = true;
-        let mut steady = world.tally.reroutings == 0;
-        for seen in world.seen.as_slice() {
-            whole &= !seen.lost_any;
-            steady &= !seen.late_any;
+        let mut steady = true;
+        for site in world.network.sites.as_slice() {
+            whole &= !site.seen.lost_any;
+            steady &= !site.seen.late_any && site.seen.reroutings == 0;
         }
         Promise {
             whole,
@@ -41,10 +43,13 @@ impl Promise {
     /// adjacent, and so joined by one set alone, if the first node hadn't counted that one may be late; in the line, if
     /// the run is steady.
     fn is_in_order(self, world: &World, entry: Entry, number: usize) -> bool {
-        self.whole
-            && world.shape.are_adjacent(entry.from, entry.to)
-            && world.is_in_time(entry.from, entry.to, number)
-            || self.steady && world.shape == Shape::Line
+        let Some(site) = world.network.site(entry.from) else {
+            return false;
+        };
+        let shape = world.network.shape;
+        let is_in_time = number < site.seen.came(place_of(entry.to)).in_time;
+        self.whole && is_in_time && shape.are_adjacent(entry.from, entry.to)
+            || self.steady && shape == Shape::Line
     }
 }
 
@@ -70,20 +75,24 @@ impl Model for Fates {
     ghost view = { λ _. tt };
 }
 
-/// Adds what became of the messages of a run. Says whether there was memory for it.
-pub(super) fn judge(world: &World, promise: Promise, total: &mut Total) -> bool {
+/// Adds what became of the messages of a run. None where memory ran out.
+pub(super) fn judge(world: &World, promise: Promise, total: &mut Total) -> Option<()> {
     let entries = world.book.entries.as_slice();
-    let Some(mut fates) = Fates::new(world, entries.len()) else {
-        return false;
-    };
-    for point in world.shape.points() {
-        fates.read_arrived(world, promise, *point, total);
-        fates.read_refused(world, *point);
+    let mut fates = Fates::new(world.network.alloc, entries.len())?;
+    for (point, site) in world
+        .network
+        .shape
+        .points()
+        .iter()
+        .zip(world.network.sites.as_slice())
+    {
+        fates.read_arrived(world, promise, *point, site, total);
+        fates.read_refused(world, site);
     }
     for (entry, fate) in entries.iter().zip(fates.fates.as_slice()) {
         add(total, *entry, *fate, promise.whole);
     }
-    true
+    Some(())
 }
 
 /// Adds what became of a message, in a run in which none may be lost, or some may.
@@ -101,15 +110,22 @@ fn add(total: &mut Total, entry: Entry, Fate { came, refused }: Fate, whole: boo
 
 impl Fates {
     /// Before the books of the nodes are read. None where memory ran out.
-    fn new(world: &World, messages: usize) -> Option<Fates> {
-        let fates = vec![in world.alloc; Fate::default(); messages].ok()?;
-        let last = vec![in world.alloc; 0; POINTS * POINTS * FLOWS].ok()?;
+    fn new(alloc: Global, messages: usize) -> Option<Fates> {
+        let fates = vec![in alloc; Fate::default(); messages].ok()?;
+        let last = vec![in alloc; 0; POINTS * POINTS * FLOWS].ok()?;
         Some(Fates { fates, last })
     }
 
-    /// Reads what came to a node.
-    fn read_arrived(&mut self, world: &World, promise: Promise, point: u16, total: &mut Total) {
-        for (number, arrival) in world.network.arrived(code_of(point)).iter().enumerate() {
+    /// Reads what came to the node at a point.
+    fn read_arrived(
+        &mut self,
+        world: &World,
+        promise: Promise,
+        point: u16,
+        site: &Site,
+        total: &mut Total,
+    ) {
+        for (number, arrival) in site.arrived.iter().enumerate() {
             match world.book.find(&arrival.message) {
                 Some((place, entry)) if entry.to == point => {
                     self.come(place);
@@ -143,8 +159,8 @@ impl Fates {
     }
 
     /// Reads what a node refused on its way.
-    fn read_refused(&mut self, world: &World, point: u16) {
-        for message in world.network.refused(code_of(point)) {
+    fn read_refused(&mut self, world: &World, site: &Site) {
+        for message in site.refused.as_slice() {
             if let Some(fate) = self.fate_of(world, message) {
                 fate.refused = fate.refused.saturating_add(1);
             }

@@ -1,14 +1,29 @@
 //! What became of some runs, and what is printed of it.
 
 use super::judge::{Promise, judge};
-use super::world::{Tally, World};
+use super::rest::fall_to_rest;
+use super::world::World;
+use crate::harness::count;
 use std::io;
+
+/// How a schedule ended.
+#[derive(Clone, Copy)]
+pub(super) struct Ending {
+    /// How often something was done at a node in it,
+    pub steps: u64,
+    /// and a node lost a link.
+    pub failures: u64,
+    /// Whether frames came to rest, with all links in service.
+    pub ended: bool,
+}
 
 /// What became of some runs, in the words of a line (`networks`).
 #[derive(Clone, Copy, Default)]
 pub(super) struct Total {
     pub runs: u64,
-    pub tally: Tally,
+    pub steps: u64,
+    pub failures: u64,
+    pub reroutings: u64,
     pub submitted: u64,
     pub accepted: u64,
     pub received: u64,
@@ -28,42 +43,35 @@ pub(super) struct Total {
 
 impl Total {
     /// Adds what became of one more run since its books began.
-    pub(super) fn add(&mut self, world: &World, ended: bool) {
+    pub(super) fn add(&mut self, world: &World, ending: Ending) {
         let promise = Promise::of(world);
-        let Tally {
-            steps,
-            failures,
-            reroutings,
-        } = world.tally;
         count(&mut self.runs, 1);
-        count(&mut self.tally.steps, steps);
-        count(&mut self.tally.failures, failures);
-        count(&mut self.tally.reroutings, reroutings);
+        count(&mut self.steps, ending.steps);
+        count(&mut self.failures, ending.failures);
+        for site in world.network.sites.as_slice() {
+            count(&mut self.reroutings, site.seen.reroutings);
+        }
         count(&mut self.lost_any, !promise.whole as u64);
         count(&mut self.steady, promise.steady as u64);
-        count(&mut self.unended, !ended as u64);
-        self.starved |= world.starved || !judge(world, promise, self);
+        count(&mut self.unended, !ending.ended as u64);
+        self.starved |= world.network.is_starved() || world.book.starved;
+        self.starved |= judge(world, promise, self).is_none();
     }
 
     /// Prints it.
     fn print(&self, rt: &HostRuntime) -> io::Result<()> {
-        self.print_counts(rt)?;
-        self.print_verdict(rt)?;
-        print!(rt;
-            "; lost_any {}, steady {}; unended {}",
-            self.lost_any, self.steady, self.unended
-        )
-    }
-
-    /// Prints how many runs, steps and messages there were, and what failed.
-    fn print_counts(&self, rt: &HostRuntime) -> io::Result<()> {
         print!(rt;
             "{} runs, {} steps, {} failures, {} reroutings; ",
-            self.runs, self.tally.steps, self.tally.failures, self.tally.reroutings
+            self.runs, self.steps, self.failures, self.reroutings
         )?;
         print!(rt;
             "{} submitted, {} accepted, {} received, {} refused in transit; ",
             self.submitted, self.accepted, self.received, self.refused
+        )?;
+        self.print_verdict(rt)?;
+        print!(rt;
+            "; lost_any {}, steady {}; unended {}",
+            self.lost_any, self.steady, self.unended
         )
     }
 
@@ -85,11 +93,6 @@ impl Total {
     }
 }
 
-/// So many more.
-pub(super) fn count(counted: &mut u64, more: u64) {
-    *counted = counted.wrapping_add(more);
-}
-
 /// What became of the runs of a shape.
 #[derive(Clone, Copy, Default)]
 pub(super) struct Totals {
@@ -102,12 +105,15 @@ pub(super) struct Totals {
 }
 
 impl Totals {
-    /// So many nodes started again, and all books begin anew if the network is quiet. Says whether they do.
-    pub(super) fn begin_anew(&mut self, world: &mut World, restarts: u64, rests: bool) -> bool {
+    /// So many nodes started again. All links fall, and if the network is quiet then, all books begin anew. Says whether
+    /// they do.
+    pub(super) fn begin_anew(&mut self, world: &mut World, restarts: u64) -> bool {
+        let rests = fall_to_rest(&mut world.network);
         count(&mut self.restarts, restarts);
         count(&mut self.restless, !rests as u64);
         if rests {
-            world.begin_anew();
+            world.network.begin_anew();
+            world.book.begin_anew();
         }
         rests
     }

@@ -11,43 +11,38 @@ use exchange::{Limits, LinkId, LinkStanding};
 
 /// Which links frames come on.
 #[derive(Clone, Copy)]
-pub(crate) enum Links {
-    /// Links in service; one that is down is brought up first.
-    InService,
-    /// Links that align, or are in any state.
-    Aligning,
-}
-
-impl Links {
+pub(crate) struct Links {
     /// As it is printed.
-    pub(crate) fn name(self) -> &'static str {
-        match self {
-            Links::InService => "in service",
-            Links::Aligning => "that align",
-        }
-    }
-
+    pub name: &'static str,
+    /// Whether they are in service; one that is down is brought up first. If not, they align, or are in any state.
+    in_service: bool,
     /// How many of sixteen frames are a Link Status, before they are harmed.
-    fn statuses(self) -> u8 {
-        match self {
-            Links::InService => 2,
-            Links::Aligning => 13,
-        }
-    }
+    statuses: u8,
 }
+
+pub(crate) const IN_SERVICE: Links = Links {
+    name: "in service",
+    in_service: true,
+    statuses: 2,
+};
+
+pub(crate) const ALIGNING: Links = Links {
+    name: "that align",
+    in_service: false,
+    statuses: 13,
+};
 
 /// A random link. It is brought into service, or goes on as it may; sometimes a tick passes before that.
 fn random_link(target: &mut Target, dice: &mut Dice, links: Links) -> LinkId {
     let link = LinkId::new(dice.octet() % LINKS);
-    match links {
-        Links::InService => {
-            if dice.one_in(8) {
-                target.tend_and_tick(1);
-            }
-            target.restore(link);
-        }
-        Links::Aligning => go_on(target, dice, link),
+    if !links.in_service {
+        go_on(target, dice, link);
+        return link;
     }
+    if dice.one_in(8) {
+        target.tend_and_tick(1);
+    }
+    target.restore(link);
     link
 }
 
@@ -72,14 +67,15 @@ pub(crate) fn try_frames(target: &mut Target, dice: &mut Dice, links: Links, cou
         let link = random_link(target, dice, links);
         let far = target.far_end(link);
         frame.cut(0);
-        match links {
-            Links::Aligning if dice.one_in(2) => {
-                add_leading(dice, &far, target.standing(link), &mut frame);
-            }
-            Links::Aligning | Links::InService => add_harmed(dice, &far, links, &mut frame),
+        if !links.in_service && dice.one_in(2) {
+            add_leading(dice, &far, target.standing(link), &mut frame);
+        } else {
+            add_good(dice, &far, links.statuses, &mut frame);
+            harm(dice, &far, 0, &mut frame);
+            frame.cut(Limits::FRAME_OCTETS);
         }
         target.try_frame(link, frame.as_slice());
-        if matches!(links, Links::InService) && dice.one_in(4) {
+        if links.in_service && dice.one_in(4) {
             target.tend(link);
         }
     }
@@ -91,15 +87,8 @@ fn add_leading(dice: &mut Dice, far: &FarEnd, standing: LinkStanding, frame: &mu
         add_good(dice, far, 0, frame);
     } else {
         // Proving Normal or Ready (RFC 4165 §2.3.2), which lead the link on or are ignored.
-        add_status(far, dice.octet_of(&[2, 4]), frame);
+        add_status(far, dice.one_of(&[2, 4]), frame);
     }
-}
-
-/// Adds a frame that is mostly harmed.
-fn add_harmed(dice: &mut Dice, far: &FarEnd, links: Links, frame: &mut Octets) {
-    add_good(dice, far, links.statuses(), frame);
-    harm(dice, far, 0, frame);
-    frame.cut(Limits::FRAME_OCTETS);
 }
 
 /// Tries this many streams. Returns how many were cut into the same frames in other pieces.
@@ -123,7 +112,7 @@ fn add_stream(dice: &mut Dice, far: FarEnd, links: Links, stream: &mut Octets) {
     let mut far = far;
     for _ in 0..=dice.octet() % 7 {
         let start = stream.len();
-        far.sent = add_good(dice, &far, links.statuses(), stream);
+        far.sent = add_good(dice, &far, links.statuses, stream);
         if dice.one_in(2) {
             harm(dice, &far, start, stream);
         }
@@ -140,7 +129,7 @@ fn try_stream(target: &mut Target, dice: &mut Dice, link: LinkId, octets: &[u8])
     } else {
         target.tend(link);
     }
-    is_cut_so_again(dice, octets, &cutter)
+    cutter.agrees_with(&Cutter::of(dice, octets))
 }
 
 /// Tries the frames of a stream, which have this many octets each, one after another.
@@ -150,9 +139,4 @@ fn try_pieces(target: &mut Target, link: LinkId, octets: &[u8], lengths: &[usize
         target.try_frame(link, piece_of(octets, from, *length));
         from = from.saturating_add(*length);
     }
-}
-
-/// Whether a stream is cut into the same frames in other pieces.
-fn is_cut_so_again(dice: &mut Dice, octets: &[u8], cutter: &Cutter) -> bool {
-    cutter.agrees_with(&Cutter::of(dice, octets))
 }

@@ -39,7 +39,7 @@ fn change_length(dice: &mut Dice, start: usize, out: &mut Octets) {
     let length = match dice.octet() % 4 {
         0 => right.wrapping_add(1),
         1 => right.wrapping_sub(1),
-        _ => dice.number_of(&LENGTHS),
+        _ => dice.one_of(&LENGTHS),
     };
     out.set_length(start, length);
 }
@@ -116,7 +116,7 @@ fn replace(dice: &mut Dice, far: &FarEnd, start: usize, out: &mut Octets) {
         add_some(dice, out);
         return;
     }
-    let kind = dice.octet_of(&[USER_DATA, USER_DATA, LINK_STATUS]);
+    let kind = dice.one_of(&[USER_DATA, USER_DATA, LINK_STATUS]);
     add_headers(kind, far.heard, next(far.sent), out);
     add_some(dice, out);
     out.mend_length(start);

@@ -21,7 +21,7 @@ pub(crate) fn add_message(dice: &mut Dice, far: &FarEnd, out: &mut Octets) {
 /// Appends the SIO of a service indicator in the international network, and a label of one of this many selections
 /// (Q.704 §2.2, §14.2). The message comes from the far end, or one time in sixteen from any point.
 fn add_front(dice: &mut Dice, far: &FarEnd, indicator: u8, to: u32, codes: u8, out: &mut Octets) {
-    let any = dice.number_of(&POINTS);
+    let any = dice.one_of(&POINTS);
     let from = if dice.one_in(16) { any } else { far.point };
     let code = u32::from(dice.octet() % codes.max(1) % 16);
     let label = to % (1 << 14) + from % (1 << 14) * (1 << 14) + code * (1 << 28);
@@ -32,7 +32,7 @@ fn add_front(dice: &mut Dice, far: &FarEnd, indicator: u8, to: u32, codes: u8, o
 /// A message of a user part, mostly of ISUP.
 fn add_user_message(dice: &mut Dice, far: &FarEnd, out: &mut Octets) {
     let indicator = if dice.one_in(8) { dice.octet() } else { 5 };
-    let to = dice.number_of(&POINTS);
+    let to = dice.one_of(&POINTS);
     add_front(dice, far, indicator, to, 16, out);
     // A few octets after the label, or about the most that there may be, 268.
     let many = if dice.one_in(16) { 262 } else { 0 };
@@ -48,7 +48,7 @@ const HEADINGS: [u8; 16] = [
 
 /// A management message: about a link, with the last number received or any; with a code; or about a point.
 fn add_management(dice: &mut Dice, far: &FarEnd, out: &mut Octets) {
-    let heading = dice.octet_of(&HEADINGS);
+    let heading = dice.one_of(&HEADINGS);
     add_front(dice, far, 0, OWN, 3, out);
     out.add(&[heading]);
     match heading {
@@ -59,7 +59,7 @@ fn add_management(dice: &mut Dice, far: &FarEnd, out: &mut Octets) {
         }
         0x51 | 0x61 => out.add(&[dice.octet() % 18]),
         0x14 | 0x34 | 0x54 | 0x15 | 0x25 => {
-            let [low, high, _, _] = dice.number_of(&POINTS).to_le_bytes();
+            let [low, high, _, _] = dice.one_of(&POINTS).to_le_bytes();
             out.add(&[low, high]);
         }
         _ => {}
@@ -68,7 +68,7 @@ fn add_management(dice: &mut Dice, far: &FarEnd, out: &mut Octets) {
 
 /// A link test, or the answer to one.
 fn add_link_test(dice: &mut Dice, far: &FarEnd, out: &mut Octets) {
-    let heading = dice.octet_of(&[0x11, 0x11, 0x21, 0x31]);
+    let heading = dice.one_of(&[0x11, 0x11, 0x21, 0x31]);
     let octets = dice.octet() % 16;
     add_front(dice, far, 1, OWN, 16, out);
     out.add(&[heading, octets << 4]);
@@ -95,8 +95,8 @@ fn address(number: u8) -> &'static [u8] {
 
 /// A UDT or a UDTS (Q.713 §4): three pointers, and then called address, calling address and data.
 fn add_unitdata(dice: &mut Dice, far: &FarEnd, out: &mut Octets) {
-    let kind = dice.octet_of(&[0x09, 0x09, 0x09, 0x0a, 0x0b]);
-    let class = dice.octet_of(&[0x80, 0x81, 0x00, 0x01, 0x82]);
+    let kind = dice.one_of(&[0x09, 0x09, 0x09, 0x0a, 0x0b]);
+    let class = dice.one_of(&[0x80, 0x81, 0x00, 0x01, 0x82]);
     let (called, calling) = (address(dice.octet()), address(dice.octet()));
     let (to, from) = ((called.len() % 16) as u8, (calling.len() % 16) as u8);
     let octets = dice.octet() % 24;

@@ -6,6 +6,7 @@ use crate::octets::found::Found;
 use crate::octets::good::{FarEnd, add_data, add_empty, add_status};
 use crate::octets::shown::{LINKS, Shown};
 use exchange::{BUFFER_OCTETS, Event, Frame, LinkId, LinkStanding, Outcome, Wants, decode};
+use settings_file::read;
 use signalling_types::Number24;
 use std::alloc::Global;
 use std::marker::Model;
@@ -14,8 +15,13 @@ use std::marker::Model;
 pub(crate) const OWN: u32 = 1;
 
 /// The settings: a window and a pool that fill, and timers that run out soon.
-const SETTINGS: &str = r#"window = 3
+const SETTINGS: &str = r#"version = 1
+own = 1
+network = 2
+window = 3
 pool = 4
+users = [5]
+subsystems = [8]
 timers = { l1 = 6, l2 = 6, l3 = 6, l4 = 2, l6 = 8, l7 = 4, t1 = 3, t2 = 3, t3 = 2, t4 = 2, t6 = 2, t8 = 2, t10 = 5 }
 set = [{ name = "east", adjacent = 2 }, { name = "west", adjacent = 3 }]
 link = [
@@ -55,7 +61,7 @@ impl Target {
     /// A node before its first event. None if memory ran out.
     pub(crate) fn new(alloc: Global) -> Option<Target> {
         Some(Target {
-            node: Node::new(alloc, SETTINGS).ok()?,
+            node: Node::boot(alloc, read(alloc, SETTINGS).ok()?).ok()?,
             taken: [0; BUFFER_OCTETS],
             found: Found::default(),
         })
@@ -63,16 +69,13 @@ impl Target {
 
     /// Where a link stands.
     pub(crate) fn standing(&self, link: LinkId) -> LinkStanding {
-        match self.node.link(link) {
-            Some(view) => view.standing,
-            None => LinkStanding::Down,
-        }
+        self.node.standing(link)
     }
 
     /// The far end of a link, which has received all that was taken.
     pub(crate) fn far_end(&self, link: LinkId) -> FarEnd {
         let none = Number24::zero().previous();
-        let (heard, sent) = match self.node.link(link) {
+        let (heard, sent) = match self.node.shown().link(link) {
             Some(view) => (view.last_sent, view.last_accepted),
             None => (none, none),
         };

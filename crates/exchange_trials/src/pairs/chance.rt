@@ -1,116 +1,114 @@
 //! Random schedules.
 
-use super::end::End;
-use super::mark::FLOWS;
-use super::rounds::{Clock, bring_up, open_all, prove_links, settle};
-use super::world::World;
+use super::ends::{bring_up, come_up, other, settle, submit};
 use crate::dice::Dice;
-use crate::harness::{Doing, Link, Place};
+use crate::harness::{Deed, Doing, Network};
+use crate::rounds::{Clock, Each, RETURNS, do_each, do_each_once};
+use crate::shape::code_of;
+use crate::throws::{FLOWS, Odds, Throw, play, throw};
+use exchange::{TitleDigits, TitleKey, TitleRoute, TitleRow};
 
 /// How many steps a schedule has.
 const STEPS: usize = 400;
 
-/// How many times the links come back after it, so that all that is waiting arrives.
-const RETURNS: usize = 3;
+/// What they are.
+const ODDS: Odds = Odds {
+    times: 200,
+    throws: [
+        (39, Throw::Submit),
+        (1, Throw::Translate),
+        (70, Throw::Do(Deed::Take)),
+        (67, Throw::Deliver),
+        (4, Throw::Do(Deed::LoseStatus)),
+        (4, Throw::Do(Deed::DoubleStatus)),
+        (3, Throw::Lose),
+        (3, Throw::Tick),
+        (1, Throw::Operate),
+        (5, Throw::Reopen),
+        (3, Throw::Do(Deed::OpenSecond)),
+    ],
+};
+
+/// What the translation row of operators has besides its one digit.
+const KEY: TitleKey = TitleKey {
+    translation: 0,
+    plan: 1,
+    nature: 4,
+};
+
+const DIGIT: u8 = 7;
 
 /// A schedule by the dice of its number. Says whether all ended as it should.
-pub(crate) fn throw_steps(world: &mut World, run: u16) -> bool {
+pub(crate) fn throw_steps(network: &mut Network, run: u16) -> bool {
     let mut dice = Dice::new(run as u64);
-    let up = bring_up(world);
+    let mut went = bring_up(network);
     for _ in 0..STEPS {
-        step(world, &mut dice);
+        went &= step(network, &mut dice);
     }
-    settle(world, Clock::STILL);
-    bring_back(world) && up
+    settle(network, Clock::STILL);
+    bring_back(network) && went
 }
 
-/// A step of a schedule.
-fn step(world: &mut World, dice: &mut Dice) {
-    let chance = dice.octet() % 200;
-    let number = dice.octet() % world.links().max(1);
-    let end = End::numbered(dice.octet());
-    let place = world.place(end, number);
-    match chance {
-        0..=38 => world.submit(end, dice.octet() % FLOWS),
-        39 => world.translate(end),
-        40..=109 => world.take(place),
-        110..=176 => deliver(world, dice, place),
-        177..=180 => world.act(place.point(), Doing::LoseStatus(place.link())),
-        181..=184 => world.act(place.point(), Doing::DoubleStatus(place.link())),
-        185..=187 => world.lose(place),
-        188..=190 => world.act(place.point(), Doing::Tick),
-        191 => operate(world, dice, place),
-        192..=196 => reopen(world, dice, end, number),
-        _ => world.follow(place),
-    };
-}
-
-/// The next frame of one of the two streams comes, as the dice say; if there is none, of the other.
-fn deliver(world: &mut World, dice: &mut Dice, place: Place) -> bool {
-    if dice.one_in(2) {
-        world.deliver(place)
-    } else {
-        world.deliver_data_first(place)
+/// A step of a schedule. Says whether a translation row was added or removed, if it was to be.
+fn step(network: &mut Network, dice: &mut Dice) -> bool {
+    match throw(network.shape, dice, ODDS) {
+        Some((Throw::Submit, link)) => {
+            submit(network, link.here.point, dice.octet() % FLOWS);
+            true
+        }
+        Some((Throw::Translate, link)) => translate(network, link.here.point),
+        Some((what, link)) => {
+            play(network, dice, what, link);
+            true
+        }
+        None => false,
     }
 }
 
-/// An operator keeps a link from opening, or lets it open.
-fn operate(world: &mut World, dice: &mut Dice, place: Place) -> bool {
-    if dice.one_in(2) {
-        world.act(place.point(), Doing::Deactivate(place.link()))
-    } else {
-        world.act(place.point(), Doing::Activate(place.link()))
+/// The operator of an end adds a translation row that leads to the other end, or removes it if it is there. Says
+/// whether that was done.
+pub(crate) fn translate(network: &mut Network, end: u16) -> bool {
+    let was_there = has_title(network, end);
+    if let Some(doing) = title_order(was_there, other(end)) {
+        network.turn(end, doing);
     }
+    has_title(network, end) != was_there
 }
 
-/// A link opens at an end, if it may. As the dice say, if it is down at one end it is lost at the other before.
-fn reopen(world: &mut World, dice: &mut Dice, end: End, number: u8) -> bool {
-    if dice.one_in(2) {
-        let Link { here, there } = world.link(End::One, number);
-        lose_half(world, here, there);
-        lose_half(world, there, here);
+/// To remove the row if it is there, and otherwise to add it, leading to this point.
+fn title_order(is_there: bool, point: u16) -> Option<Doing> {
+    if is_there {
+        let mut digits = TitleDigits::new();
+        digits.push(DIGIT);
+        return Some(Doing::RemoveTitle(KEY, digits));
     }
-    world.open_first(world.place(end, number))
+    let TitleKey {
+        translation,
+        plan,
+        nature,
+    } = KEY;
+    let route = TitleRoute::Title(None);
+    let row = TitleRow::new(translation, plan, nature, &[DIGIT], code_of(point), route)?;
+    Some(Doing::AddTitle(row))
 }
 
-/// A link that is down at one end is lost at the other.
-fn lose_half(world: &mut World, down: Place, other: Place) {
-    if world.network.is_down(down) {
-        world.lose(other);
+/// Whether an end has a translation row.
+fn has_title(network: &Network, end: u16) -> bool {
+    match network.site(end) {
+        Some(site) => site.node.shown().title_count() != 0,
+        None => false,
     }
 }
 
 /// Each operator lets all links open, and all that can come back do, several times. Says whether all came to rest after
 /// that.
-fn bring_back(world: &mut World) -> bool {
-    for number in 0..world.links() {
-        let Link { here, there } = world.link(End::One, number);
-        world.act(here.point(), Doing::Activate(here.link()));
-        world.act(there.point(), Doing::Activate(there.link()));
-    }
+fn bring_back(network: &mut Network) -> bool {
+    do_each(network, Each::Do(Deed::Activate));
     let mut settled = false;
     for _ in 0..RETURNS {
-        settled = bring_back_once(world);
+        do_each_once(network, Each::LoseUnserved);
+        settle(network, Clock::STILL);
+        settled = come_up(network);
     }
     settled
-}
-
-/// All links that can come back do, and rounds pass until one does nothing. Says whether one did nothing.
-fn bring_back_once(world: &mut World) -> bool {
-    lose_unserved(world);
-    settle(world, Clock::STILL);
-    open_all(world);
-    settle(world, Clock::STILL);
-    prove_links(world);
-    settle(world, Clock::STILL)
-}
-
-/// Each link that isn't in service at both ends is lost at both.
-fn lose_unserved(world: &mut World) {
-    for number in 0..world.links() {
-        let link = world.link(End::One, number);
-        if !world.network.serves(link) {
-            world.lose_both(link);
-        }
-    }
 }

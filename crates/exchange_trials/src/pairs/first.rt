@@ -1,93 +1,92 @@
 //! A link that stops at each place, and opens at one end before it opens at the other.
 
-use super::end::End;
-use super::group::Choices;
-use super::rounds::{Clock, pass_round, serve, settle, submit_all};
-use super::stop::{ROUNDS, Stop, Stopped, places, stop_and_settle};
-use super::world::World;
-use crate::harness::{Link, Place};
+use super::choices::Choices;
+use super::ends::{link_from, links, serve, settle, submit_all};
+use super::stop::{ROUNDS, Stop, WAYS, places, stop_and_settle};
+use crate::harness::{Deed, Link, Network};
+use crate::rounds::{Clock, Each, do_each, lose_both};
 
-/// How many orders of the ends there are.
-const ORDERS: u8 = 2;
-
-/// How a link opens at both ends.
+/// An end of the link: that which is to open first, or the other.
 #[derive(Clone, Copy)]
-pub(crate) enum Way {
-    /// At one end, and then at the other.
-    InTurn,
-    /// The first end falls before the other follows, and opens again.
-    FirstFalls,
-    /// The other end follows the first once that has fallen, and both open again.
-    FollowsFallen,
-    /// The other end never follows the first, but opens first once that has fallen.
-    NeverFollows,
+pub(crate) enum Side {
+    First,
+    Second,
 }
 
-/// One run for each place of eight rounds, each link, and each order of the ends.
-pub(crate) fn openings(links: u8) -> u16 {
-    let ways = links as u16 * ORDERS as u16;
-    ways.saturating_mul(places(ROUNDS, links) as u16)
-}
+/// What is done at the ends, one after another, till the link is open at both. A round passes behind each but
+/// `OpenSecond`.
+pub(crate) type Way = &'static [(Side, Deed)];
+
+/// It opens at one end, and then at the other.
+pub(crate) const IN_TURN: Way = &[
+    (Side::First, Deed::OpenFirst),
+    (Side::Second, Deed::OpenSecond),
+];
+
+/// The first end falls before the other follows, and opens again.
+pub(crate) const FIRST_FALLS: Way = &[
+    (Side::First, Deed::OpenFirst),
+    (Side::First, Deed::Lose),
+    (Side::First, Deed::OpenFirst),
+    (Side::Second, Deed::OpenSecond),
+];
+
+/// The other end follows the first once that has fallen, and both open again.
+pub(crate) const FOLLOWS_FALLEN: Way = &[
+    (Side::First, Deed::OpenFirst),
+    (Side::First, Deed::Lose),
+    (Side::Second, Deed::OpenSecond),
+    (Side::Second, Deed::Lose),
+    (Side::First, Deed::OpenFirst),
+    (Side::Second, Deed::OpenSecond),
+];
+
+/// The other end never follows the first, but opens first once that has fallen.
+pub(crate) const NEVER_FOLLOWS: Way = &[
+    (Side::First, Deed::OpenFirst),
+    (Side::First, Deed::Lose),
+    (Side::Second, Deed::OpenFirst),
+    (Side::First, Deed::OpenSecond),
+];
 
 /// A link stops at the end that is to open first, and comes back. Messages are submitted before it does, and after
 /// that. Says whether all ended as it should.
-pub(crate) fn open_at_one_first(world: &mut World, run: u16, way: Way) -> bool {
-    let links = world.links();
-    let mut choices = Choices::of(run);
-    let first = End::numbered(choices.below(ORDERS));
+pub(crate) fn open_at_one_first(network: &mut Network, run: u16, way: Way) -> bool {
+    let mut choices = Choices(run);
+    let first = choices.below(2);
     let stop = Stop {
-        link: choices.below(links),
-        place: choices.below(places(ROUNDS, links)),
-        ends: Stopped::At(first),
+        ends: WAYS.get(first as usize).copied().unwrap_or(&[]),
+        link: choices.below(links(network)),
+        place: choices.below(places(ROUNDS, links(network))),
     };
-    let stopped = stop_and_settle(world, &stop, Clock::STILL);
-    submit_all(world);
-    let back = come_back_by(world, way, first, stop.link);
-    submit_all(world);
-    settle(world, Clock::STILL) && stopped && back
+    let stopped = stop_and_settle(network, stop, Clock::STILL);
+    submit_all(network);
+    let link = link_from(network, 1 + first as u16, stop.link);
+    let back = come_back_by(network, way, link);
+    submit_all(network);
+    settle(network, Clock::STILL) && stopped && back
 }
 
-/// The link is lost at both ends, and comes back. Says whether it opened each time.
-fn come_back_by(world: &mut World, way: Way, first: End, number: u8) -> bool {
-    let link = world.link(End::One, number);
-    world.lose_both(link);
-    let Link { here, there } = world.link(first, number);
-    let opened = open_by(world, way, here, there);
-    serve(world, link);
-    opened
-}
-
-/// The link opens at both ends, one after the other, while rounds pass.
-fn open_by(world: &mut World, way: Way, first: Place, second: Place) -> bool {
-    let opened = open_alone(world, first);
-    match way {
-        Way::InTurn => opened && world.follow(second),
-        Way::FirstFalls => {
-            fall(world, first);
-            opened && open_alone(world, first) && world.follow(second)
-        }
-        Way::FollowsFallen => {
-            fall(world, first);
-            let followed = world.follow(second);
-            fall(world, second);
-            opened && followed && open_alone(world, first) && world.follow(second)
-        }
-        Way::NeverFollows => {
-            fall(world, first);
-            opened && open_alone(world, second) && world.follow(first)
-        }
+/// The link is lost at both ends, and comes back, at this end first. Says whether all was done that leads there.
+fn come_back_by(network: &mut Network, way: Way, link: Link) -> bool {
+    lose_both(network, link);
+    let mut came = true;
+    for (side, deed) in way {
+        came &= do_at(network, link, *side, *deed);
     }
+    serve(network, link);
+    came
 }
 
-/// The link opens at one end, and a round passes.
-fn open_alone(world: &mut World, first: Place) -> bool {
-    let opened = world.open_first(first);
-    pass_round(world);
-    opened
-}
-
-/// An end loses the link, and a round passes.
-fn fall(world: &mut World, end: Place) {
-    world.lose(end);
-    pass_round(world);
+/// It is done at one side of the link, and unless that follows the other, a round passes.
+fn do_at(network: &mut Network, link: Link, side: Side, deed: Deed) -> bool {
+    let place = match side {
+        Side::First => link.here,
+        Side::Second => link.there,
+    };
+    let is_done = network.act(place, deed);
+    if deed != Deed::OpenSecond {
+        do_each(network, Each::Exchange);
+    }
+    is_done
 }

@@ -1,18 +1,14 @@
 //! How messages carry their marks.
 
-use exchange::{Label, Limits, Msu, PointCode, Sls};
+use crate::harness::SCCP_SIO;
+use crate::shape::code_of;
+use exchange::{Label, Msu, Sls};
 
 /// The service information octet of the ISDN user part in the international network (Q.704 §14.2).
 const SIO: u8 = 0x85;
 
-/// The service information octet of SCCP in that network.
-const SCCP_SIO: u8 = 0x83;
-
 /// Octets of a number, which is at the end of each message.
 const NUMBER_OCTETS: usize = 2;
-
-/// How many flows there are to a point: one for each signalling link selection.
-pub(crate) const FLOWS: u8 = Limits::SELECTIONS as u8;
 
 /// What no two messages that a node accepted have in common: their flow, and their number in it. The accepted messages
 /// of a flow have the numbers 1, 2, 3 and so on.
@@ -37,7 +33,7 @@ impl Mark {
     }
 
     /// Its message, from a point to another: two octets after the label have the number.
-    pub(crate) fn message(self, from: PointCode, to: PointCode) -> Option<Msu> {
+    pub(crate) fn message(self, from: u16, to: u16) -> Option<Msu> {
         // The point that a message says it comes from isn't checked; on every other flow it is the far one.
         let origin = if self.flow % 2 == 0 { from } else { to };
         let [a, b, c, d] = self.label(origin, to).write();
@@ -48,7 +44,7 @@ impl Mark {
     /// Its UDT, which a user part hands over for its own point. The called address is by a title whose first digit is
     /// 7, the calling one by subsystem number. It asks for a return on error, and its data is the number (Q.713
     /// §4.10).
-    pub(crate) fn unitdata(self, own: PointCode) -> Option<Msu> {
+    pub(crate) fn unitdata(self, own: u16) -> Option<Msu> {
         let [a, b, c, d] = self.label(own, own).write();
         let [high, low] = self.number.to_be_bytes();
         let sif = [
@@ -60,22 +56,11 @@ impl Mark {
         Msu::new(SCCP_SIO, &sif).ok()
     }
 
-    fn label(self, from: PointCode, to: PointCode) -> Label {
+    fn label(self, from: u16, to: u16) -> Label {
         Label {
-            dpc: to,
-            opc: from,
+            dpc: code_of(to),
+            opc: code_of(from),
             sls: Sls::of_low_bits(self.flow as u32),
         }
     }
-
-    /// Its place among all, ordered by their numbers and then by their flows.
-    pub(crate) fn place(self) -> usize {
-        self.number as usize * FLOWS as usize + self.flow as usize
-    }
-}
-
-/// Whether a message goes to a point: a user message for it, or one of SCCP, which a translation row leads there.
-pub(crate) fn goes_to(point: PointCode, message: &Msu) -> bool {
-    let is_for_point = Label::at(message.sif()).dpc == point;
-    !message.is_management() && (is_for_point || message.sio() == SCCP_SIO)
 }

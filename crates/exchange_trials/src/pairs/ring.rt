@@ -1,16 +1,18 @@
 //! A link that stops at each place while both ends have a third neighbour: routes there fail and return, and messages
 //! pass through the two.
 
-use super::end::{ENDS, End};
-use super::mark::{FLOWS, Mark};
-use super::rounds::{
-    Clock, MOST_ROUNDS, PROVING_TICKS, bring_up, carry, come_back, pass_round, prove_links,
+use super::ends::{
+    ENDS, bring_up, come_back, has_brought_all, link_from, links, other, prove_links, submit,
 };
+use super::mark::Mark;
 use super::stop::{ROUNDS, Stop, round_with};
-use super::world::World;
-use crate::harness::Link;
-use crate::shape::{Shape, UNKNOWN, code_of};
-use exchange::PointCode;
+use crate::harness::{Link, Network};
+use crate::rounds::{Clock, Each, MOST_ROUNDS, PROVING_TICKS, do_each, do_one};
+use crate::shape::{Shape, UNKNOWN};
+use crate::throws::FLOWS;
+
+/// The points of the third neighbours of the two ends.
+const BESIDE: [u16; 2] = [3, 4];
 
 /// Before this round the third neighbours lose the link between them,
 const LOST_ACROSS: u8 = 2;
@@ -24,134 +26,112 @@ const OUTLASTING_TICKS: u8 = 4;
 /// The flows from there on are those of the third neighbours.
 const NEIGHBOURS_FLOW: u8 = FLOWS / 2;
 
-/// A link of a third neighbour: its point, and the link's number there.
-type Beside = (u16, u8);
+/// A link of a third neighbour: its point, the point to which it leads, and its number among those that lead there.
+type Beside = (u16, u16, u8);
 
 /// The link between the third neighbours,
-const ACROSS: [Beside; 1] = [(3, 2)];
+const ACROSS: [Beside; 1] = [(3, 4, 0)];
 
 /// a link of each to its end,
-const FIRST_BESIDE: [Beside; 2] = [(3, 0), (4, 0)];
+const FIRST_BESIDE: [Beside; 2] = [(3, 1, 0), (4, 2, 0)];
 
 /// and all links but those between the two ends.
-const ELSEWHERE: [Beside; 5] = [(3, 0), (3, 1), (4, 0), (4, 1), (3, 2)];
+const ELSEWHERE: [Beside; 5] = [(3, 1, 0), (3, 1, 1), (4, 2, 0), (4, 2, 1), (3, 4, 0)];
 
-/// The places of the point behind the other end's third neighbour, among the destinations of either end.
-const POINTS_ACROSS: (usize, usize) = (2, 1);
+fn at((from, to, code): Beside) -> Link {
+    Shape::Ring.link_between(from, to, code)
+}
+
+/// The third neighbour of an end.
+fn beside(end: u16) -> u16 {
+    if end == 1 { 3 } else { 4 }
+}
 
 /// A link stops while routes fail, and all come back. Says whether all ended as it should.
-pub(crate) fn stop_in_ring(world: &mut World, run: u16) -> bool {
-    let stop = Stop::numbered(run, world.links());
-    let stopped = stop_and_fail(world, &stop);
-    let link = world.link(End::One, stop.link);
-    return_all(world, link) && stopped
+pub(crate) fn stop_in_ring(network: &mut Network, run: u16) -> bool {
+    let stop = Stop::numbered(run, links(network));
+    let stopped = stop_and_fail(network, stop);
+    return_all(network, link_from(network, 1, stop.link)) && stopped
 }
 
 /// All links come up, and the link stops while routes fail. Says whether all went well, and all came meanwhile.
-fn stop_and_fail(world: &mut World, stop: &Stop) -> bool {
-    let up = bring_up(world) && open_each(world, &ELSEWHERE) && serve_everywhere(world);
-    world.count_anew();
-    let submitted = submit_everywhere(world, 1);
+fn stop_and_fail(network: &mut Network, stop: Stop) -> bool {
+    let up = bring_up(network) && do_all(network, Each::Open, &ELSEWHERE) && serve_all(network);
+    network.count_anew();
+    let submitted = submit_everywhere(network, 1);
     for round in 0..ROUNDS {
         if round == LOST_ACROSS {
-            lose_each(world, &ACROSS);
+            do_all(network, Each::Lose, &ACROSS);
         }
         if round == LOST_BESIDE {
-            lose_each(world, &FIRST_BESIDE);
+            do_all(network, Each::Lose, &FIRST_BESIDE);
         }
-        round_with(world, stop, round);
-        carry_elsewhere(world);
+        round_with(network, stop, round);
+        carry_elsewhere(network);
     }
-    stop.strike_behind(world, ROUNDS);
-    settle_everywhere(world) && up && submitted && world.has_brought_all()
+    stop.strike_behind(network, ROUNDS);
+    settle_all(network) && up && submitted && has_brought_all(network)
 }
 
 /// All is submitted again, the link comes back, and then the routes; and once more. Says whether all went well.
-fn return_all(world: &mut World, link: Link) -> bool {
-    let submitted = submit_everywhere(world, 2);
-    let back = come_back(world, link, Clock::STILL) && settle_everywhere(world);
-    let routes = return_routes(world);
-    submitted && back && routes && pass_again(world)
+fn return_all(network: &mut Network, link: Link) -> bool {
+    let submitted = submit_everywhere(network, 2);
+    let back = come_back(network, link, Clock::STILL) && settle_all(network);
+    tick_each(network, BESIDE, OUTLASTING_TICKS);
+    let across = do_all(network, Each::Open, &ACROSS);
+    let beside = do_all(network, Each::Open, &FIRST_BESIDE);
+    let routes = across && beside && serve_all(network);
+    submitted && back && routes && pass_again(network)
 }
 
 /// All is submitted once more, and comes. Says whether it did.
-fn pass_again(world: &mut World) -> bool {
-    let submitted = submit_everywhere(world, 3);
-    let settled = settle_everywhere(world);
+fn pass_again(network: &mut Network) -> bool {
+    let submitted = submit_everywhere(network, 3);
+    let settled = settle_all(network);
     // The holds of controlled reroutings end.
-    for end in ENDS {
-        world.tick(end.point(), OUTLASTING_TICKS);
-    }
-    settle_everywhere(world) && submitted && settled && world.has_brought_all()
-}
-
-/// The links that were lost come back: between the third neighbours, and from each end to its own. Says whether they
-/// did.
-fn return_routes(world: &mut World) -> bool {
-    tick_beside(world, OUTLASTING_TICKS);
-    let across = open_each(world, &ACROSS);
-    let beside = open_each(world, &FIRST_BESIDE);
-    across && beside && serve_everywhere(world)
+    tick_each(network, ENDS, OUTLASTING_TICKS);
+    settle_all(network) && submitted && settled && has_brought_all(network)
 }
 
 /// Links that are open come into service. Says whether all came to rest.
-fn serve_everywhere(world: &mut World) -> bool {
-    let told = settle_everywhere(world);
-    prove_links(world);
-    tick_beside(world, PROVING_TICKS);
-    settle_everywhere(world) && told
+fn serve_all(network: &mut Network) -> bool {
+    let told = settle_all(network);
+    prove_links(network);
+    tick_each(network, BESIDE, PROVING_TICKS);
+    settle_all(network) && told
 }
 
-/// This many ticks pass at both neighbours.
-fn tick_beside(world: &mut World, count: u8) {
-    for end in ENDS {
-        world.tick(end.point_beside(), count);
+/// This many ticks pass at two nodes.
+fn tick_each(network: &mut Network, points: [u16; 2], count: u8) {
+    for point in points {
+        network.tick(point, count);
     }
 }
 
-/// Links open at a third neighbour, and then at their other end. Says whether all did.
-fn open_each(world: &mut World, links: &[Beside]) -> bool {
-    let mut opened = true;
+/// It is done at links of third neighbours, from there. Says whether something moved at each.
+fn do_all(network: &mut Network, each: Each, links: &[Beside]) -> bool {
+    let mut moved = true;
     for link in links {
-        opened &= match at(*link) {
-            Some(link) => world.open(link),
-            None => false,
-        };
+        moved &= do_one(network, each, at(*link));
     }
-    opened
-}
-
-/// Links are lost at both ends.
-fn lose_each(world: &mut World, links: &[Beside]) {
-    for link in links {
-        if let Some(link) = at(*link) {
-            world.lose_both(link);
-        }
-    }
-}
-
-/// A frame is carried each way on all links but those between the two ends, and whether one was.
-fn carry_elsewhere(world: &mut World) -> bool {
-    let mut moved = false;
-    for link in ELSEWHERE {
-        if let Some(link) = at(link) {
-            moved |= carry(world, link.reversed());
-            moved |= carry(world, link);
-        }
-    }
-    world.note_first_sets(POINTS_ACROSS.0, POINTS_ACROSS.1);
     moved
 }
 
-fn at((point, number): Beside) -> Option<Link> {
-    Shape::Ring.link(point, number)
+/// A frame is carried each way on all links but those between the two ends, and whether one was.
+fn carry_elsewhere(network: &mut Network) -> bool {
+    let mut moved = false;
+    for link in ELSEWHERE {
+        moved |= do_one(network, Each::Exchange, at(link).reversed());
+        moved |= do_one(network, Each::Exchange, at(link));
+    }
+    moved
 }
 
 /// Rounds pass on all links until one does nothing. Says whether one did nothing.
-fn settle_everywhere(world: &mut World) -> bool {
+fn settle_all(network: &mut Network) -> bool {
     for _ in 0..MOST_ROUNDS {
-        let between = pass_round(world);
-        let elsewhere = carry_elsewhere(world);
+        let between = do_each(network, Each::Exchange);
+        let elsewhere = carry_elsewhere(network);
         if !between && !elsewhere {
             return true;
         }
@@ -162,31 +142,26 @@ fn settle_everywhere(world: &mut World) -> bool {
 /// Each end submits a message on each flow of its own, for the other end and for the other's neighbour, and each
 /// neighbour one on each of its flows for the far end, and one for a point that no other node knows. Says whether all
 /// were accepted.
-fn submit_everywhere(world: &mut World, number: u16) -> bool {
+fn submit_everywhere(network: &mut Network, number: u16) -> bool {
     let mut accepted = true;
     for flow in 0..NEIGHBOURS_FLOW {
         for end in ENDS {
-            accepted &= submit_at(world, end, Mark { flow, number });
+            accepted &= submit_at(network, end, flow, number);
         }
     }
     accepted
 }
 
-fn submit_at(world: &mut World, end: End, mark: Mark) -> bool {
+fn submit_at(network: &mut Network, end: u16, flow: u8, number: u16) -> bool {
+    let own = Mark { flow, number };
     let theirs = Mark {
-        flow: mark.flow.wrapping_add(NEIGHBOURS_FLOW),
-        number: mark.number,
+        flow: flow.wrapping_add(NEIGHBOURS_FLOW),
+        number,
     };
-    let (beside, far) = (end.point_beside(), end.other());
-    let straight = world.submit(end, mark.flow);
-    let past = submit_from(world, end, end.point(), mark, far.point_beside());
-    let through = submit_from(world, end, beside, theirs, far.point());
-    let unknown = mark.flow != 0 || submit_from(world, end, beside, theirs, code_of(UNKNOWN));
+    let far = other(end);
+    let straight = submit(network, end, flow);
+    let past = network.submit(end, own.message(end, beside(far)));
+    let through = network.submit(beside(end), theirs.message(end, far));
+    let unknown = flow != 0 || network.submit(beside(end), theirs.message(end, UNKNOWN));
     straight && past && through && unknown
-}
-
-/// A node submits the message of a mark from an end to some point. Says whether it was accepted.
-fn submit_from(world: &mut World, end: End, at: PointCode, mark: Mark, to: PointCode) -> bool {
-    let message = mark.message(end.point(), to);
-    world.submit_message(at, message)
 }
