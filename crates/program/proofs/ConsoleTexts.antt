@@ -18,11 +18,11 @@ use Rattle.exchange.specs.Calls.{Kept}
 use Rattle.console.specs.Names.{name_in}
 use Rattle.console.specs.Texts.{refused_text, notice_text, flag_line}
 use Rattle.program.specs.ConsoleAnswers.{blanks, is_answer, is_last, is_refusal}
-use Rattle.console_session.specs.Clients.{ClientState}
-use Rattle.console_session.specs.WholeLines.{IsTold, IsRefused}
-use Rattle.console_session.specs.declared.client.Ending.{Ending}
-use Rattle.console_session.specs.declared.client.Ending.TheVariants.{Stays, Closes, Stops}
-use Rattle.console_session.specs.declared.help.TheConstants.{HELP}
+use Rattle.served_node.specs.Clients.{ClientState}
+use Rattle.served_node.specs.WholeLines.{IsTold, IsRefused}
+use Rattle.served_node.specs.declared.console_session.client.Ending.{Ending}
+use Rattle.served_node.specs.declared.console_session.client.Ending.TheVariants.{Stays, Closes, Stops}
+use Rattle.served_node.specs.declared.console_session.help.TheConstants.{HELP}
 use Rattle.program.specs.ConsoleLaws.{Answers, IsSaid, IsHelp, LinesAnswer, IsNone, ShownAnswersNone, outcomes_answer}
 
 -- a line without anything unknown is judged by computing

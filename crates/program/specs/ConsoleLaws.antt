@@ -16,12 +16,12 @@ use Rattle.served_link.specs.declared.counter.Counter.{Counter}
 use Rattle.served_link.specs.Lines.{counter_line, datagram_line}
 use Rattle.console.specs.Texts.{link_text, route_text, title_text, subsystem_text, notice_text, flag_line}
 use Rattle.script.specs.Texts.{outcome_line}
-use Rattle.console_session.specs.Clients.{ClientState, told_of}
-use Rattle.console_session.specs.Lines.{Heard as Line, HearsUsers, HearsNotices, HearsFrames, HearsHelp, HearsStop}
-use Rattle.console_session.specs.Lines.{HearsNoLine}
-use Rattle.console_session.specs.WholeLines.{DoesHeard, answered, unanswered}
-use Rattle.console_session.specs.declared.client.Ending.{Ending}
-use Rattle.console_session.specs.declared.client.News.TheVariants as news
+use Rattle.served_node.specs.Clients.{ClientState, told_of}
+use Rattle.served_node.specs.Lines.{Heard as Line, HearsUsers, HearsNotices, HearsFrames, HearsHelp, HearsStop}
+use Rattle.served_node.specs.Lines.{HearsNoLine}
+use Rattle.served_node.specs.WholeLines.{DoesHeard, answered, unanswered}
+use Rattle.served_node.specs.declared.console_session.client.Ending.{Ending}
+use Rattle.served_node.specs.declared.console_session.client.News.TheVariants as news
 use Rattle.program.specs.ConsoleAnswers.{blanks, is_answer, is_last, is_refusal, read, nothing}
 
 -- ---- what is an answer

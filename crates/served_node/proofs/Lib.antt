@@ -1,2 +1,4 @@
+pub mod Counted
 pub mod Sights
+pub mod Taking
 pub mod Written

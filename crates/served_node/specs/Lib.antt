@@ -1,5 +1,10 @@
+pub mod Answers
+pub mod Clients
+pub mod Counters
+pub mod Lines
 pub mod Listening
 pub mod Logging
 pub mod Naming
 pub mod Observers
 pub mod Progress
+pub mod WholeLines

@@ -1,9 +1,9 @@
 //! A client of the console and its socket.
 
 use crate::console_listener::CallerName;
+use crate::console_session::{ConsoleClient, ConsoleContext, Ending, News};
 use crate::console_stream::ConsoleStream;
 use crate::socket::Progress;
-use console_session::{ConsoleClient, ConsoleContext, Ending, News};
 use mio::event::Event;
 use std::alloc::Global;
 

@@ -2,11 +2,11 @@
 
 use crate::client_socket::ClientSocket;
 use crate::console_listener::{CallerName, ConsoleListener};
+use crate::console_session::{ConsoleContext, News};
 use crate::console_stream::ConsoleStream;
 use crate::log::Log;
 use crate::naming::SocketName;
 use arrayvec::ArrayString;
-use console_session::{ConsoleContext, News};
 use mio::Registry;
 use mio::event::Event;
 use script::Sink;

@@ -1,10 +1,12 @@
 //! A served node, without the connections of its links: the node, the sockets of a poll, and those who are told what
-//! happens in it, which are its log, its counters, its capture and the clients of its console.
+//! happens in it, which are its log, its counters, its capture and the clients of its console; and what such a client
+//! is answered (`console_session`).
 #![tactic(auto)]
 
 mod client_socket;
 pub mod clients;
 pub mod console_listener;
+pub mod console_session;
 pub mod console_stream;
 pub mod datagram_socket;
 pub mod dropping;

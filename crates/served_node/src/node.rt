@@ -8,10 +8,10 @@ ghost use Rattle.exchange_rules.specs.First.{first_state};
 ghost use Rattle.exchange_rules.specs.State.{Ticked};
 ghost use Rattle.served_link.specs.Counting.{first_counters};
 
+use crate::console_session::ConsoleContext;
 use crate::fault::OpenFault;
 use crate::log::Log;
 use crate::observers::Observers;
-use console_session::ConsoleContext;
 use exchange::{Event, Exchange};
 use script::Sink;
 use settings::{FailureReason, Outcome, Settings};

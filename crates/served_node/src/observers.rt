@@ -5,11 +5,11 @@ ghost use Rattle.served_link.specs.Counting.{first_counters};
 ghost use Rattle.served_node.specs.Observers.{counted_sight};
 
 use crate::clients::ConsoleClients;
+use crate::console_session::News;
 use crate::held_file::HeldFile;
 use crate::log::Log;
 use crate::noticing::Seen;
 use arrayvec::ArrayString;
-use console_session::News;
 use script::Sink;
 use served_link::{Counters, Watch};
 use settings::{Limits, LinkId, MsuRef, Outcome, Settings};

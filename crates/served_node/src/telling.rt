@@ -1,11 +1,11 @@
 //! What is told of notices and flags: the log and the clients that watch them, and what is counted of failures.
 
+use crate::console_session::News;
 use crate::log::Log;
 use crate::noticing::newly_raised;
 use crate::observers::Observers;
 use arrayvec::ArrayString;
 use console::{LINE_OCTETS, show_notices};
-use console_session::News;
 use exchange::Exchange;
 use script::Sink;
 use settings::{FailureReason, LinkId, Notice};

@@ -1,5 +1,0 @@
-pub mod Lines
-pub mod Answers
-pub mod Clients
-pub mod Counters
-pub mod WholeLines

@@ -1,0 +1,77 @@
+-- What a client of the console asks for by a line.
+use Rattle.std.specs.Prelude.{ℕ, Bool, true, false, if◌then◌else◌, List, codes, Option, None, Some, Result, Ok, Err}
+use Rattle.std.specs.Prelude.{bytes_eq}
+use Rattle.point_format.specs.declared.point.PointFormat.{PointFormat}
+use Rattle.script.specs.Asking.{Asked, AskUp, AskDown, AskFrame, AskTick, AskTake, AskWants, AskSubmit, AskOrder}
+use Rattle.script.specs.Asking.{AskShow, Reading, Skips, IsMalformed, Asks, asked_line, parsed_line}
+use Rattle.script.specs.declared.line.Malformed.{Malformed}
+use Rattle.served_node.specs.declared.console_session.command.ConsoleLine.{ConsoleLine}
+use Rattle.served_node.specs.declared.console_session.command.ConsoleLine.TheVariants as line
+
+-- what a line asks for: nothing, what a script asks for too, what only a client asks for; or it is malformed
+pub data Heard : Type 0 where
+  HearsNothing : Heard
+  HearsScript : Asked → Heard
+  HearsCounters : Heard
+  HearsHelp : Heard
+  HearsUsers : Heard
+  HearsNotices : Heard
+  HearsFrames : Heard
+  HearsStop : Heard
+  HearsNoLine : Heard
+
+-- the lines that only a client writes
+abbrev pub own_line : List ℕ → Option Heard
+own_line text =
+    if bytes_eq text (codes "help") then Some HearsHelp
+    else if bytes_eq text (codes "users") then Some HearsUsers
+    else if bytes_eq text (codes "watch") then Some HearsNotices
+    else if bytes_eq text (codes "watch frames") then Some HearsFrames
+    else if bytes_eq text (codes "show counters") then Some HearsCounters
+    else if bytes_eq text (codes "stop") then Some HearsStop
+    else None
+
+-- a client submits messages, gives orders and is shown texts; frames, associations and ticks come from the network and
+-- the clock
+abbrev pub is_for_clients : Asked → Bool
+is_for_clients (AskUp link) = false
+is_for_clients (AskDown link) = false
+is_for_clients (AskFrame link octets) = false
+is_for_clients (AskTick ticks) = false
+is_for_clients (AskTake link) = false
+is_for_clients (AskWants link) = false
+is_for_clients (AskSubmit octets) = true
+is_for_clients (AskOrder order) = true
+is_for_clients (AskShow what) = true
+
+abbrev pub heard_in_script : Reading → Heard
+heard_in_script Skips = HearsNothing
+heard_in_script IsMalformed = HearsNoLine
+heard_in_script (Asks asked) = if is_for_clients asked then HearsScript asked else HearsNoLine
+
+abbrev pub heard_unless : Option Heard → PointFormat → List ℕ → Heard
+heard_unless (Some own) points text = own
+heard_unless None points text = heard_in_script (parsed_line points text)
+
+-- a line without its end, with points in this format
+abbrev pub heard : PointFormat → List ℕ → Heard
+heard points text = heard_unless (own_line text) points text
+
+-- what was read says the same
+abbrev pub heard_line : ConsoleLine → Heard
+heard_line line.Skipped = HearsNothing
+heard_line (line.Script asked) = HearsScript (asked_line asked)
+heard_line line.Counters = HearsCounters
+heard_line line.Help = HearsHelp
+heard_line line.Users = HearsUsers
+heard_line line.Notices = HearsNotices
+heard_line line.Frames = HearsFrames
+heard_line line.Stop = HearsStop
+
+abbrev pub heard_of : Result ConsoleLine Malformed → Heard
+heard_of (Ok read) = heard_line read
+heard_of (Err malformed) = HearsNoLine
+
+abbrev pub own_line_of : Option ConsoleLine → Option Heard
+own_line_of None = None
+own_line_of (Some own) = Some (heard_line own)

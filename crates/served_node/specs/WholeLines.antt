@@ -1,0 +1,97 @@
+-- What a whole line of a client does.
+use Rattle.std.specs.Prelude.{◌≡◌, ℕ, ◌⊎◌, Bool, true, false, List, ◌++◌, take, Some, Result, Ok, Err}
+use Rattle.exchange.specs.Calls.{Kept}
+use Rattle.script.specs.Asking.{Asked}
+use Rattle.script.specs.Streams.{Output, counted}
+use Rattle.script.specs.declared.sink.WriteFailed.{WriteFailed}
+use Rattle.served_node.specs.Lines.{Heard, heard, HearsNothing, HearsScript, HearsCounters, HearsHelp, HearsUsers, HearsNotices, HearsFrames, HearsStop, HearsNoLine}
+use Rattle.served_node.specs.Answers.{Waiting, IsAnswered}
+use Rattle.served_node.specs.Clients.{ClientState, begun, OnlyOutboxChanges, told_of}
+use Rattle.served_node.specs.Counters.{counters_text}
+use Rattle.served_node.specs.declared.console_session.help.TheConstants.{HELP}
+use Rattle.served_node.specs.declared.console_session.client.TheConstants.{MALFORMED, WATCHING, STOPPING}
+use Rattle.served_link.specs.Counting.{NodeCounters}
+use Rattle.point_format.specs.declared.point.PointFormat.{PointFormat}
+use Rattle.served_node.specs.declared.console_session.client.Ending.{Ending}
+use Rattle.served_node.specs.declared.console_session.client.Ending.TheVariants.{Stays, Closes, Stops}
+use Rattle.served_node.specs.declared.console_session.client.News.TheVariants.{Message, Notice, Frame}
+
+-- the outbox of a client, as an output
+abbrev pub output_of : Waiting → Output
+output_of w = record { written = Some w.octets; failures = w.failures }
+
+-- a client that there was no room to answer is to be closed
+abbrev pub ending_of : Result Ending WriteFailed → Ending
+ending_of (Ok ending) = ending
+ending_of (Err failed) = Closes
+
+-- a line of a script is done and answered, and the client stays if there was room for the answer
+abbrev pub IsDone : Asked → Ending → (s after : Kept) → (old new : Waiting) → Type 0
+IsDone asked Stays s after old new = IsAnswered asked s (Ok tt) after (output_of old) (output_of new)
+IsDone asked Closes s after old new =
+    (failed : WriteFailed) × IsAnswered asked s (Err failed) after (output_of old) (output_of new)
+IsDone asked Stops s after old new = ⊥
+
+-- a text was added to what waits for the client
+abbrev pub answered : ClientState → List ℕ → ClientState
+answered old text = record old { outbox = record old.outbox { octets = old.outbox.octets ++ text } }
+
+-- there was no room for a text: only what waited before waits
+abbrev pub unanswered : ClientState → ClientState
+unanswered old = record old { outbox = record old.outbox { failures = counted old.outbox.failures } }
+
+-- one or the other
+abbrev pub IsAnsweredBy : (text : List ℕ) → Result Unit WriteFailed → (old new : ClientState) → Type 0
+IsAnsweredBy text (Ok x) old new = new ≡ answered old text
+IsAnsweredBy text (Err failed) old new = new ≡ unanswered old
+
+-- a line has one text for its answer; then the client stays, or the node stops
+abbrev pub IsTold : (text : List ℕ) → (last : Ending) → Ending → (old new : ClientState) → Type 0
+IsTold text last Closes old new = new ≡ unanswered old
+IsTold text last Stays old new = (Stays ≡ last) × (new ≡ answered old text)
+IsTold text last Stops old new = (Stops ≡ last) × (new ≡ answered old text)
+
+-- a text of many lines is answered, or its first octets, as far as there was room
+abbrev pub IsShown : (text : List ℕ) → Ending → (old new : ClientState) → Type 0
+IsShown text Stays old new = new ≡ answered old text
+IsShown text Closes old new = (count : ℕ) × (new ≡ unanswered (answered old (take count text)))
+IsShown text Stops old new = ⊥
+
+-- A line that a client may not write has one text for its answer. Then the client stays, or, if it was its first line,
+-- is to be closed.
+abbrev pub IsRefused : (is_first : Bool) → Ending → (old new : ClientState) → Type 0
+IsRefused is_first Stays old new = (is_first ≡ false) × (new ≡ answered old MALFORMED.now)
+IsRefused is_first Closes old new =
+    (new ≡ unanswered old) ⊎ ((is_first ≡ true) × (new ≡ answered old MALFORMED.now))
+IsRefused is_first Stops old new = ⊥
+
+-- What a line does to the node and to its client, and what becomes of the client. Only a line of a script changes the
+-- node, and only `stop` asks it to stop.
+abbrev pub DoesHeard :
+    Heard → (is_first : Bool) → NodeCounters → Ending → (s after : Kept) → (old new : ClientState) → Type 0
+DoesHeard HearsNothing is_first counters ending s after old new = (ending ≡ Stays) × (after ≡ s) × (new ≡ old)
+DoesHeard (HearsScript asked) is_first counters ending s after old new =
+    IsDone asked ending s after old.outbox new.outbox × OnlyOutboxChanges old new
+DoesHeard HearsCounters is_first counters ending s after old new =
+    (after ≡ s) × IsShown (counters_text s counters) ending old new
+DoesHeard HearsHelp is_first counters ending s after old new = (after ≡ s) × IsTold HELP.now Stays ending old new
+DoesHeard HearsUsers is_first counters ending s after old new =
+    (after ≡ s) × IsTold WATCHING.now Stays ending (told_of old Message) new
+DoesHeard HearsNotices is_first counters ending s after old new =
+    (after ≡ s) × IsTold WATCHING.now Stays ending (told_of old Notice) new
+DoesHeard HearsFrames is_first counters ending s after old new =
+    (after ≡ s) × IsTold WATCHING.now Stays ending (told_of old Frame) new
+DoesHeard HearsStop is_first counters ending s after old new = (after ≡ s) × IsTold STOPPING.now Stops ending old new
+DoesHeard HearsNoLine is_first counters ending s after old new = (after ≡ s) × IsRefused is_first ending old new
+
+-- what a line of a client does, which is its first or isn't, with points in this format
+abbrev pub DoesLineAt : PointFormat → (is_first : Bool) → List ℕ → NodeCounters → Ending → (s after : Kept)
+    → (old new : ClientState) → Type 0
+DoesLineAt points is_first line counters ending s after old new =
+    DoesHeard (heard points line) is_first counters ending s after old new
+
+-- what a line of a client does. No line after it is the client's first
+abbrev pub DoesLine :
+    PointFormat → List ℕ → NodeCounters → Ending → (s after : Kept) → (old new : ClientState) → Type 0
+DoesLine points line counters ending s after old new =
+    DoesLineAt points old.is_first line counters ending s after (begun old) new

@@ -1,0 +1,16 @@
+//! A client of the console without its socket, octet by octet: the lines that it writes, and what it is answered and
+//! told.
+
+mod answering;
+mod client;
+mod command;
+mod counting;
+mod help;
+mod outbox;
+
+pub use answering::do_script_line;
+pub use client::{ConsoleClient, ConsoleContext, Ending, LINE_OCTETS, News};
+pub use command::{ConsoleLine, parse_console_line};
+pub use counting::print_counters;
+pub use help::HELP;
+pub use outbox::{OUTBOX_OCTETS, Outbox};

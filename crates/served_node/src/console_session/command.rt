@@ -1,0 +1,94 @@
+//! The lines of a client.
+
+ghost use Rattle.std.specs.Prelude.{◌≡◌};
+ghost use Rattle.served_node.specs.Lines.{heard, heard_of, own_line, own_line_of, is_for_clients};
+ghost use Rattle.served_node.specs.Clients.{without_return};
+ghost use Rattle.script.specs.Asking.{asked_line};
+
+use point_format::PointFormat;
+use script::{Line, Malformed, parse_line};
+
+/// What may come before the line feed.
+const CARRIAGE_RETURN: u8 = b'\r';
+
+/// What a line of a client asks for.
+#[derive(Drop)]
+pub enum ConsoleLine<'a> {
+    /// Nothing: an empty line, or one that begins with `#`.
+    Skipped,
+    /// `show ..`, `submit HEX`, `activate LINK`, `deactivate LINK` or `title ..`, as in a script.
+    Script(Line<'a>),
+    /// `show counters`: the counters of each link.
+    Counters,
+    /// `help`: what a client may write.
+    Help,
+    /// `users`: from now on the messages for this point.
+    Users,
+    /// `watch`: from now on the notices.
+    Notices,
+    /// `watch frames`: from now on the frames.
+    Frames,
+    /// `stop`: the node closes its connections and ends.
+    Stop,
+}
+
+/// What a line without its end asks for. What only a script can do, as `up`, `down`, `frame`, `tick`, `take` and
+/// `wants`, is malformed: here the connections and the clock do it. Points are read and shown in this format.
+pub fn parse_console_line(line: &[u8], points: PointFormat) -> Result<ConsoleLine<'_>, Malformed>
+    ensures { heard_of result ≡ heard points line.now }
+{
+    if let Some(own) = own_line(line) {
+        return Ok(own);
+    }
+    match parse_line(line, points) {
+        Ok(Some(line)) if is_for_clients(&line) => Ok(ConsoleLine::Script(line)),
+        Ok(None) => Ok(ConsoleLine::Skipped),
+        Ok(Some(_)) | Err(Malformed) => Err(Malformed),
+    }
+}
+
+/// What a line asks for that only a client writes.
+fn own_line(line: &[u8]) -> Option<ConsoleLine<'_>>
+    ensures { own_line_of result ≡ own_line line.now }
+{
+    if line == b"help".as_slice() {
+        Some(ConsoleLine::Help)
+    } else if line == b"users".as_slice() {
+        Some(ConsoleLine::Users)
+    } else if line == b"watch".as_slice() {
+        Some(ConsoleLine::Notices)
+    } else if line == b"watch frames".as_slice() {
+        Some(ConsoleLine::Frames)
+    } else if line == b"show counters".as_slice() {
+        Some(ConsoleLine::Counters)
+    } else if line == b"stop".as_slice() {
+        Some(ConsoleLine::Stop)
+    } else {
+        None
+    }
+}
+
+/// Whether a line of a script may come from a client.
+fn is_for_clients(line: &Line<'_>) -> bool
+    ensures { result ≡ is_for_clients (asked_line line.now) }
+{
+    match line {
+        Line::Submit { .. } | Line::Order { .. } | Line::Show { .. } => true,
+        Line::Up { .. }
+        | Line::Down { .. }
+        | Line::Frame { .. }
+        | Line::Tick { .. }
+        | Line::Take { .. }
+        | Line::Wants { .. } => false,
+    }
+}
+
+/// A line without the carriage return at its end, if it has one.
+pub(crate) fn without_return(line: &[u8]) -> &[u8]
+    ensures { result.now ≡ without_return line.now }
+{
+    match line {
+        [front @ .., CARRIAGE_RETURN] => front,
+        _ => line,
+    }
+}
