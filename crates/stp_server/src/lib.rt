@@ -1,14 +1,17 @@
-//! A node on sockets: its links over TCP, its status page and the clients of that, the server that owns these and its
-//! links over SCTP, its clock, and the loop that serves it.
+//! A node on sockets: its links over TCP and over SCTP, its status page and the clients of that, the server that owns
+//! these, its clock, and the loop that serves it.
 #![tactic(auto)]
 
 mod failure;
+pub mod sctp_links;
 pub mod served_page;
 mod server;
 mod serving;
 pub mod tcp_links;
+mod times;
 
 pub use failure::ServeFailure;
+pub use sctp_links::SctpSockets;
 pub use served_node::{FileCapture, OpenFault};
 pub use served_page::ServedPage;
 pub use server::{Places, Server};

@@ -5,12 +5,12 @@ mod showing;
 mod stopping;
 mod waiting;
 
+use crate::sctp_links::SctpSockets;
 use crate::served_page::ServedPage;
 use crate::tcp_links::TcpLinks;
 use exchange::{Event, Exchange};
 use mio::{Events, Poll};
 use script::Sink;
-use sctp_links::SctpSockets;
 use served_link::Watch;
 use served_node::{FileCapture, Log, Node};
 use settings::{FailureReason, Outcome};

@@ -4,6 +4,7 @@ ghost use Rattle.std.specs.Prelude.{◌≤◌};
 
 use crate::failure::ServeFailure;
 use crate::server::{Places, Server};
+use crate::times::millis;
 use script::Sink;
 use served_link::{MOST_TICKS, TickClock, Unwatched};
 use served_node::{DroppingLog, FileCapture, HeldFile, Log, OpenFault};
@@ -150,9 +151,4 @@ fn pass_tick<W: Sink>(
         server.tick(now, log);
     }
     is_behind
-}
-
-/// The whole milliseconds of a time.
-pub(crate) fn millis(time: Duration) -> u64 {
-    u64::try_from(time.as_millis()).unwrap_or(u64::MAX)
 }

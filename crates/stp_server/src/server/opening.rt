@@ -3,10 +3,11 @@
 ghost use Rattle.std.specs.Prelude.{◌≤◌};
 
 use super::{Places, Server};
+use crate::sctp_links::SctpSockets;
+use crate::sctp_links::keys::Keys;
 use crate::tcp_links::TcpLinks;
 use mio::{Events, Poll, Registry};
 use script::Sink;
-use sctp_links::{Keys, SctpSockets};
 use served_node::{ConsoleListener, Listener, Log, Node, OpenFault, SocketFile, SocketName};
 use settings::{LinkId, Settings};
 use settings_file::serve::{ConsolePlace, Endpoint, Remote, SctpTimes};

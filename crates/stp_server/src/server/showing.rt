@@ -2,7 +2,7 @@
 
 use super::{Places, Server};
 use crate::served_page::ServedPage;
-use crate::serving::millis;
+use crate::times::millis;
 use script::Sink;
 use served_node::{Log, OpenFault};
 use status_page::StatusPage;
