@@ -1,21 +1,21 @@
-//! A node on sockets.
+//! A node on sockets. It has its links, its status page and the clients of its console; a function is lent those of them
+//! that it uses, since a proof works out all that a whole server owns.
 
+mod links;
 mod opening;
 mod showing;
 mod stopping;
 mod waiting;
 
-use crate::sctp_links::SctpSockets;
-use crate::served_page::ServedPage;
-use crate::tcp_links::TcpLinks;
 use exchange::{Event, Exchange};
-use mio::{Events, Poll};
+use links::ServerLinks;
+use mio::{Events, Poll, Registry};
 use script::Sink;
 use served_link::Watch;
 use served_node::{FileCapture, Log, Node};
 use settings::{FailureReason, Outcome};
 use settings_file::serve::{ConsolePlace, Endpoint, SctpTimes};
-use status_page::NoticeLog;
+use showing::NodePage;
 use std::alloc::Global;
 use std::fs::Files;
 use std::marker::Model;
@@ -48,11 +48,8 @@ pub struct Places<'a> {
 pub struct Server {
     alloc: Global,
     node: Node,
-    tcp: TcpLinks,
-    sctp: Option<SctpSockets>,
-    page: Option<ServedPage>,
-    notices: NoticeLog,
-    points: PointFormat,
+    links: ServerLinks,
+    page: NodePage,
     poll: Poll,
     events: Events,
     is_busy: bool,
@@ -65,11 +62,8 @@ impl Drop for Server {
         let Server {
             alloc: _,
             node: _,
-            tcp: _,
-            sctp: _,
+            links: _,
             page: _,
-            notices: _,
-            points: _,
             poll: _,
             events: _,
             is_busy: _,
@@ -112,11 +106,9 @@ impl Server {
     pub fn tick<W: Sink>(&mut self, now: Duration, log: &mut W) {
         self.is_busy = true;
         self.node.tick(&mut Log { sink: log, now });
-        self.tcp.mark_listeners();
+        self.links.tcp.mark_listeners();
         self.node.observers.clients.listener.mark();
-        if let Some(page) = &mut self.page {
-            page.mark_listener();
-        }
+        self.page.mark_listener();
     }
 
     /// Removes the file of its console, if that is a Unix socket, and closes its sockets. Only this drops a server: its
@@ -137,61 +129,53 @@ impl Server {
         user: &mut U,
     ) {
         let mut log = Log { sink: log, now };
-        self.node.observers.now = now;
-        self.is_busy = false;
-        self.read(&mut log, user);
-        self.take_connections(&mut log);
-        self.read_clients(&mut log);
-        self.settle(net, &mut log, user);
-        self.write(&mut log, user);
-        self.show_page(now);
+        let registry = self.poll.registry();
+        let round = serve_sockets(
+            net,
+            self.alloc,
+            registry,
+            &mut self.links,
+            &mut self.node,
+            &mut log,
+            user,
+        );
+        let is_page_busy = self.page.show(self.alloc, registry, &self.node, now);
+        self.is_busy = round.is_busy || is_page_busy;
+        self.is_stopping |= round.stops;
         self.node.observers.flush_capture(&mut log);
     }
+}
 
-    /// Takes the connections that came.
-    fn take_connections<W: Sink>(&mut self, log: &mut Log<'_, W>) {
-        let registry = self.poll.registry();
-        self.tcp.accept(&mut self.node, registry, log);
-        self.node
-            .observers
-            .clients
-            .accept(self.alloc, registry, log);
-    }
+/// What a round over the sockets of the links and the clients came to.
+#[derive(Clone, Copy)]
+struct Round {
+    /// Whether there is more to do at once.
+    is_busy: bool,
+    /// Whether a client asked the node to stop.
+    stops: bool,
+}
 
-    /// Reads what came on the links.
-    fn read<W: Sink, U: Watch>(&mut self, log: &mut Log<'_, W>, user: &mut U) {
-        self.tcp.read(&mut self.node, log, user);
-        if let Some(sctp) = &mut self.sctp {
-            sctp.read(&mut self.node, log, user);
-        }
-    }
-
-    /// Does the lines that clients wrote.
-    fn read_clients<W: Sink>(&mut self, log: &mut Log<'_, W>) {
-        if self.node.read_clients() {
-            self.is_stopping = true;
-        }
-        self.node.look(FailureReason::Operator, log);
-    }
-
-    /// Opens and closes connections and associations as the links want. Timers of SCTP that are due run out.
-    fn settle<N: Net, W: Sink, U: Watch>(&mut self, net: &N, log: &mut Log<'_, W>, user: &mut U) {
-        let registry = self.poll.registry();
-        self.tcp.settle(net, &mut self.node, registry, log);
-        if let Some(sctp) = &mut self.sctp {
-            sctp.settle(&mut self.node, log, user);
-        }
-    }
-
-    /// Writes to the links and to the clients.
-    fn write<W: Sink, U: Watch>(&mut self, log: &mut Log<'_, W>, user: &mut U) {
-        self.is_busy |= self.tcp.write(&mut self.node, log, user);
-        if let Some(sctp) = &mut self.sctp {
-            sctp.write(&mut self.node, log, user);
-            self.is_busy |= sctp.is_busy();
-        }
-        let clients = &mut self.node.observers.clients;
-        clients.write(log);
-        self.is_busy |= clients.is_busy();
+/// Does what there is to do on each socket of the links and the clients, once or a few times.
+fn serve_sockets<N: Net, W: Sink, U: Watch>(
+    net: &N,
+    alloc: Global,
+    registry: &Registry,
+    links: &mut ServerLinks,
+    node: &mut Node,
+    log: &mut Log<'_, W>,
+    user: &mut U,
+) -> Round {
+    node.observers.now = log.now;
+    links.read(node, log, user);
+    links.tcp.accept(node, registry, log);
+    node.observers.clients.accept(alloc, registry, log);
+    let stops = node.read_clients();
+    node.look(FailureReason::Operator, log);
+    links.settle(net, node, registry, log, user);
+    let are_links_busy = links.write(node, log, user);
+    node.observers.clients.write(log);
+    Round {
+        is_busy: are_links_busy || node.observers.clients.is_busy(),
+        stops,
     }
 }

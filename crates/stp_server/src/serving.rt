@@ -108,47 +108,40 @@ fn run<W: Sink>(
     let mut clock = TickClock::new(tick_ms);
     let mut was_behind = false;
     for _ in 0..u64::MAX {
-        let elapsed = wait(rt, server, &clock, started)?;
-        server.turn(rt, elapsed, log, &mut Unwatched);
-        was_behind = pass_tick(&mut clock, was_behind, server, elapsed, log);
+        let before = since(rt, started)?;
+        let rest = Duration::from_millis(clock.until_next(millis(before)));
+        server.wait(before, rest)?;
+        let now = since(rt, started)?;
+        server.turn(rt, now, log, &mut Unwatched);
+        was_behind = tell_if_behind(&clock, was_behind, now, log);
+        if clock.is_due(millis(now)) {
+            server.tick(now, log);
+        }
         if server.is_stopping() {
-            server.stop(elapsed, log);
-            tell(&"stop", elapsed, log);
+            server.stop(now, log);
+            tell(&"stop", now, log);
             return Ok(());
         }
     }
     Ok(())
 }
 
-/// Waits until a socket is ready, or a tick is due. Returns how long after the start it is then.
-fn wait(
-    rt: &HostRuntime,
-    server: &mut Server,
-    clock: &TickClock,
-    started: Instant,
-) -> Result<Duration, ServeFailure> {
-    let before = Instant::now(rt)?.duration_since(started);
-    let rest = Duration::from_millis(clock.until_next(millis(before)));
-    server.wait(before, rest)?;
+/// How long after the start it is.
+fn since(rt: &HostRuntime, started: Instant) -> Result<Duration, ServeFailure> {
     Ok(Instant::now(rt)?.duration_since(started))
 }
 
-/// Lets a tick pass if one is due. Returns whether the clock is late; the log is told when that begins.
-fn pass_tick<W: Sink>(
-    clock: &mut TickClock,
+/// Returns whether the clock is late; the log is told when that begins.
+fn tell_if_behind<W: Sink>(
+    clock: &TickClock,
     was_behind: bool,
-    server: &mut Server,
     now: Duration,
     log: &mut W,
 ) -> bool {
-    let elapsed = millis(now);
-    let is_behind = clock.is_behind(elapsed);
+    let is_behind = clock.is_behind(millis(now));
     if is_behind && !was_behind {
         let text = format_args!("behind: more than {MOST_TICKS} ticks are due");
         tell(&text, now, log);
-    }
-    if clock.is_due(elapsed) {
-        server.tick(now, log);
     }
     is_behind
 }

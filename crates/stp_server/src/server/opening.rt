@@ -2,16 +2,14 @@
 
 ghost use Rattle.std.specs.Prelude.{◌≤◌};
 
+use super::links::ServerLinks;
+use super::showing::NodePage;
 use super::{Places, Server};
-use crate::sctp_links::SctpSockets;
-use crate::sctp_links::keys::Keys;
-use crate::tcp_links::TcpLinks;
 use mio::{Events, Poll, Registry};
 use script::Sink;
 use served_node::{ConsoleListener, Listener, Log, Node, OpenFault, SocketFile, SocketName};
 use settings::{LinkId, Settings};
-use settings_file::serve::{ConsolePlace, Endpoint, Remote, SctpTimes};
-use status_page::NoticeLog;
+use settings_file::serve::ConsolePlace;
 use std::alloc::Global;
 use std::fs::Files;
 use std::net::{Net, SocketAddr};
@@ -40,36 +38,23 @@ impl Server {
             now: Duration::ZERO,
         };
         let mut server = Server::boot(net, alloc, settings, places.points)?;
-        match server.add_sockets(net, places, &mut log) {
+        let added = add_sockets(
+            net,
+            alloc,
+            server.poll.registry(),
+            places,
+            &mut server.node,
+            &mut server.links,
+            &mut server.page,
+            &mut log,
+        );
+        match added {
             Ok(()) => Ok(server),
             Err(fault) => {
                 server.close(net);
                 Err(fault)
             }
         }
-    }
-
-    /// Adds the sockets of all links, the console and the status page.
-    fn add_sockets<N: Net + Files + RandomSource, W: Sink>(
-        &mut self,
-        net: &N,
-        places: Places<'_>,
-        log: &mut Log<'_, W>,
-    ) -> Result<(), OpenFault>
-        requires initial { places.sctp.rto_initial_ms ≤ places.sctp.rto_max_ms }
-        requires least { places.sctp.rto_min_ms ≤ places.sctp.rto_max_ms }
-        requires most { places.sctp.rto_max_ms ≤ 60000 }
-    {
-        if let Some(address) = places.udp {
-            let registry = self.poll.registry();
-            self.sctp = Some(SctpSockets::open(net, self.alloc, registry, address, log)?);
-        }
-        for (k, endpoint) in places.links.iter().enumerate() {
-            let link = LinkId::new(u8::try_from(k).unwrap_or(u8::MAX));
-            self.add_link(net, link, *endpoint, &places.sctp, log)?;
-        }
-        self.add_console(net, places.console, log)?;
-        self.add_page(net, places, log)
     }
 
     /// A server of a node with these settings that has no sockets of links, and no console.
@@ -80,16 +65,13 @@ impl Server {
         points: PointFormat,
     ) -> Result<Server, OpenFault> {
         match polled(net, alloc) {
-            Ok((poll, events, tcp)) => {
+            Ok((poll, events, links)) => {
                 let node = Node::boot(alloc, settings, points)?;
                 Ok(Server {
                     alloc,
                     node,
-                    tcp,
-                    sctp: None,
-                    page: None,
-                    notices: NoticeLog::new(),
-                    points,
+                    links,
+                    page: NodePage::none(points),
                     poll,
                     events,
                     is_busy: true,
@@ -102,69 +84,41 @@ impl Server {
             }
         }
     }
-
-    /// Adds the next link.
-    fn add_link<N: Net + RandomSource, W: Sink>(
-        &mut self,
-        net: &N,
-        link: LinkId,
-        endpoint: Endpoint,
-        times: &SctpTimes,
-        log: &mut Log<'_, W>,
-    ) -> Result<(), OpenFault>
-        requires initial { times.now.rto_initial_ms ≤ times.now.rto_max_ms }
-        requires least { times.now.rto_min_ms ≤ times.now.rto_max_ms }
-        requires most { times.now.rto_max_ms ≤ 60000 }
-    {
-        match endpoint {
-            Endpoint::Remote(remote) => match &mut self.sctp {
-                Some(sctp) => {
-                    add_association(net, self.alloc, sctp, link, &remote, times, &self.node, log)
-                }
-                // There is no socket for its datagrams.
-                None => Ok(()),
-            },
-            Endpoint::Listen(_) | Endpoint::Connect(_) => {
-                let registry = self.poll.registry();
-                self.tcp.add(net, registry, link, endpoint, &self.node, log)
-            }
-        }
-    }
-
-    /// Adds the console, if there is one.
-    fn add_console<N: Net + Files, W: Sink>(
-        &mut self,
-        net: &N,
-        place: Option<ConsolePlace<'_>>,
-        log: &mut Log<'_, W>,
-    ) -> Result<(), OpenFault> {
-        let registry = self.poll.registry();
-        if let Some(place) = place {
-            self.node.observers.clients.listener = console(net, self.alloc, registry, place, log)?;
-        }
-        Ok(())
-    }
 }
 
-/// Adds a link over SCTP, whose keys are drawn at random.
-fn add_association<N: RandomSource, W: Sink>(
+/// Adds the sockets of all links, the console and the status page.
+fn add_sockets<N: Net + Files + RandomSource, W: Sink>(
     net: &N,
     alloc: Global,
-    sctp: &mut SctpSockets,
-    link: LinkId,
-    remote: &Remote,
-    times: &SctpTimes,
-    node: &Node,
+    registry: &Registry,
+    places: Places<'_>,
+    node: &mut Node,
+    links: &mut ServerLinks,
+    page: &mut NodePage,
     log: &mut Log<'_, W>,
 ) -> Result<(), OpenFault>
-    requires initial { times.now.rto_initial_ms ≤ times.now.rto_max_ms }
-    requires least { times.now.rto_min_ms ≤ times.now.rto_max_ms }
-    requires most { times.now.rto_max_ms ≤ 60000 }
+    requires initial { places.sctp.rto_initial_ms ≤ places.sctp.rto_max_ms }
+    requires least { places.sctp.rto_min_ms ≤ places.sctp.rto_max_ms }
+    requires most { places.sctp.rto_max_ms ≤ 60000 }
 {
-    let Ok(keys) = Keys::draw(net) else {
-        return Err(OpenFault::Random);
-    };
-    sctp.add(alloc, link, remote, times, &keys, node, log)
+    links.open_datagrams(net, alloc, registry, places.udp, log)?;
+    for (k, endpoint) in places.links.iter().enumerate() {
+        let link = LinkId::new(u8::try_from(k).unwrap_or(u8::MAX));
+        links.add(
+            net,
+            alloc,
+            registry,
+            link,
+            *endpoint,
+            &places.sctp,
+            node,
+            log,
+        )?;
+    }
+    if let Some(place) = places.console {
+        node.observers.clients.listener = console(net, alloc, registry, place, log)?;
+    }
+    page.open(net, alloc, registry, places.page, places.is_page_open, log)
 }
 
 /// The console at its place.
@@ -206,12 +160,12 @@ fn console_socket<N: Net + Files, W: Sink>(
     Ok(ConsoleListener::Unix(socket))
 }
 
-/// A poll, room for what it tells, and no links over TCP yet.
-fn polled<N: Net>(net: &N, alloc: Global) -> Result<(Poll, Events, TcpLinks), OpenFault> {
+/// A poll, room for what it tells, and no links yet.
+fn polled<N: Net>(net: &N, alloc: Global) -> Result<(Poll, Events, ServerLinks), OpenFault> {
     let events = Events::with_capacity(alloc, EVENTS)?;
-    let tcp = TcpLinks::new(alloc)?;
+    let links = ServerLinks::new(alloc)?;
     match Poll::new(net) {
-        Ok(poll) => Ok((poll, events, tcp)),
+        Ok(poll) => Ok((poll, events, links)),
         Err(_) => Err(OpenFault::Poll),
     }
 }

@@ -1,62 +1,115 @@
 //! The status page of a server.
 
-use super::{Places, Server};
 use crate::served_page::ServedPage;
 use crate::times::millis;
+use mio::Registry;
+use mio::event::Event;
 use script::Sink;
-use served_node::{Log, OpenFault};
-use status_page::StatusPage;
-use std::net::Net;
+use served_node::{Log, Node, OpenFault};
+use status_page::{NoticeLog, StatusPage};
+use std::alloc::Global;
+use std::marker::Model;
+use std::net::{Net, SocketAddr};
 use std::random::RandomSource;
 use std::time::Duration;
+use trace::PointFormat;
 
-impl Server {
-    /// Adds the status page, if it has an address.
-    pub(crate) fn add_page<N: Net + RandomSource, W: Sink>(
+/// The status page of a node, if it has one, and what it shows of notices and points.
+pub(crate) struct NodePage {
+    page: Option<ServedPage>,
+    notices: NoticeLog,
+    points: PointFormat,
+}
+
+// By hand, so that no proof above has what the page owns.
+impl Drop for NodePage {
+    fn drop(self) {
+        let NodePage {
+            page: _,
+            notices: _,
+            points: _,
+        } = self;
+    }
+}
+
+// No contract can say what sockets give, so nothing is said of its state.
+impl Model for NodePage {
+    ghost Value = { Unit {0} };
+
+    ghost view = { λ _. tt };
+}
+
+impl NodePage {
+    /// No page yet.
+    pub(crate) fn none(points: PointFormat) -> NodePage {
+        NodePage {
+            page: None,
+            notices: NoticeLog::new(),
+            points,
+        }
+    }
+
+    /// Opens the page, if it has an address.
+    pub(crate) fn open<N: Net + RandomSource, W: Sink>(
         &mut self,
         net: &N,
-        places: Places<'_>,
+        alloc: Global,
+        registry: &Registry,
+        address: Option<SocketAddr>,
+        is_open: bool,
         log: &mut Log<'_, W>,
     ) -> Result<(), OpenFault> {
-        if let Some(address) = places.page {
-            let registry = self.poll.registry();
-            let page = ServedPage::open(
-                net,
-                self.alloc,
-                registry,
-                address,
-                places.is_page_open,
-                log,
-            )?;
-            self.page = Some(page);
+        if let Some(address) = address {
+            self.page = Some(ServedPage::open(net, alloc, registry, address, is_open, log)?);
         }
         Ok(())
     }
 
-    /// Shows the status page to those who look at it. Notices that are new came now.
-    pub(crate) fn show_page(&mut self, now: Duration) {
+    /// A client may have come.
+    pub(crate) fn mark_listener(&mut self) {
+        if let Some(page) = &mut self.page {
+            page.mark_listener();
+        }
+    }
+
+    /// The socket of the client in a place may be ready.
+    pub(crate) fn mark(&mut self, place: u8, event: &Event) {
+        if let Some(page) = &mut self.page {
+            page.mark(place, event);
+        }
+    }
+
+    /// Shows the page to those who look at it. Notices that are new came now. Returns whether there is more to do at
+    /// once.
+    pub(crate) fn show(
+        &mut self,
+        alloc: Global,
+        registry: &Registry,
+        node: &Node,
+        now: Duration,
+    ) -> bool {
         let Some(page) = &mut self.page else {
-            return;
+            return false;
         };
         let now_ms = millis(now);
-        let exchange = &self.node.exchange;
+        let exchange = &node.exchange;
         if exchange.notice_count() != self.notices.count {
             self.notices.look(exchange, now_ms);
         }
         let content = StatusPage {
-            alloc: self.alloc,
+            alloc,
             exchange,
-            counters: &self.node.observers.counters,
+            counters: &node.observers.counters,
             notices: &self.notices,
             points: self.points,
             uptime_ms: now_ms,
         };
-        page.turn(self.poll.registry(), &content, now_ms);
-        self.is_busy |= page.is_busy(now_ms);
+        page.turn(registry, &content, now_ms);
+        page.is_busy(now_ms)
     }
 
     /// How long it takes until something is due at the page, if there is one.
-    pub(crate) fn until_page_due(&self, now: Duration) -> Duration {
+    pub(crate) fn until_due(&self, now: Duration) -> Duration {
         match &self.page {
             Some(page) => Duration::from_millis(page.until_due_ms(millis(now))),
             None => Duration::MAX,

@@ -23,8 +23,7 @@ impl Server {
     /// messages the node keeps, if it keeps some: they end with it, and no notice says so.
     pub fn stop<W: Sink>(&mut self, now: Duration, log: &mut W) {
         let mut log = Log { sink: log, now };
-        if let Some(sctp) = &mut self.sctp {
-            sctp.close(&mut self.node, &mut log);
+        if self.links.close(&mut self.node, &mut log) {
             self.node.observers.flush_capture(&mut log);
         }
         if let Some(line) = kept_line(&self.node.exchange) {
