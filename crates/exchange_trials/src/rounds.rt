@@ -107,25 +107,3 @@ pub(crate) fn repeat(network: &mut Network, each: Each, clock: Clock) -> bool {
     }
     false
 }
-
-/// All that is in flight comes, and then frames are carried until no node has one. Says whether none has.
-pub(crate) fn settle(network: &mut Network) -> bool {
-    repeat(network, Each::Drain, Clock::STILL) && repeat(network, Each::Carry, Clock::STILL)
-}
-
-/// So many ticks pass at each node, and after each frames are carried until no node has one. Says whether none has.
-pub(crate) fn pass_ticks(network: &mut Network, count: u8) -> bool {
-    let mut settled = true;
-    for _ in 0..count {
-        tick_all(network, 1);
-        settled = repeat(network, Each::Carry, Clock::STILL);
-    }
-    settled
-}
-
-/// So many ticks pass at each node.
-pub(crate) fn tick_all(network: &mut Network, count: u8) {
-    for point in network.shape.points() {
-        network.tick(*point, count);
-    }
-}

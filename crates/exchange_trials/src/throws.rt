@@ -43,7 +43,7 @@ pub(crate) struct Odds {
 }
 
 /// Throws what is done, and the end of the link.
-pub(crate) fn throw(shape: Shape, dice: &mut Dice, odds: Odds) -> Option<(Throw, Link)> {
+pub(crate) fn thrown(shape: Shape, dice: &mut Dice, odds: Odds) -> Option<(Throw, Link)> {
     let chance = dice.octet();
     let link = thrown_link(shape, dice)?;
     Some((chosen(chance, odds)?, link))
@@ -78,8 +78,8 @@ pub(crate) fn thrown_point(shape: Shape, dice: &mut Dice) -> u16 {
     points.get(place).copied().unwrap_or(UNKNOWN)
 }
 
-/// Does what was thrown, but for messages and translation rows. Between two ends anything may fail; in other shapes sets
-/// are spared. Says whether something came of it.
+/// Does what was thrown, but for messages and translation rows. Between two ends anything may fail; in other shapes
+/// sets are spared. Says whether something came of it.
 pub(crate) fn play(network: &mut Network, dice: &mut Dice, throw: Throw, link: Link) -> bool {
     let here = link.here;
     match throw {

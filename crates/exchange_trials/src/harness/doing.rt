@@ -59,6 +59,6 @@ pub(super) fn done(is_done: bool) -> Outcome {
 }
 
 /// Whether an outcome says that a message was queued or is held.
-pub(super) fn is_accepted(outcome: Outcome) -> bool {
+pub(super) fn is_accepted(outcome: &Outcome) -> bool {
     matches!(outcome, Outcome::Queued(_) | Outcome::Held)
 }

@@ -30,6 +30,8 @@ pub(crate) struct Network {
     pub wrong: u64,
     /// Whether node 1 hands over SCCP for its own point, which it relays to node 2, and that returns it.
     pub relays: bool,
+    /// Whether memory ran out: then not all was done, or booked.
+    pub starved: bool,
 }
 
 impl Model for Network {
@@ -51,6 +53,7 @@ impl Drop for Network {
             compared: _,
             wrong: _,
             relays: _,
+            starved: _,
         } = self;
     }
 }
@@ -70,6 +73,7 @@ impl Network {
             compared: 0,
             wrong: 0,
             relays: false,
+            starved: false,
         })
     }
 
@@ -108,12 +112,11 @@ impl Network {
 
     /// Whether each link of each node may open, no node may follow the other end of one, and nothing is in Held.
     pub(crate) fn is_quiet(&self) -> bool {
-        self.sites.iter().all(|site| site.is_quiet())
-    }
-
-    /// Whether memory ran out: then not all was done, or booked.
-    pub(crate) fn is_starved(&self) -> bool {
-        self.sites.iter().any(|site| site.starved)
+        let mut quiet = true;
+        for site in self.sites.as_slice() {
+            quiet &= site.is_quiet();
+        }
+        quiet
     }
 
     /// How often nodes lost a link since that is counted.
@@ -180,6 +183,8 @@ impl Network {
             return;
         };
         let arrivals = site.look();
+        let starved = site.starved;
+        self.starved |= starved;
         for site in self.sites.iter_mut() {
             site.seen.note_arrivals(place_of(at), arrivals);
         }
@@ -200,7 +205,7 @@ impl Network {
     /// A node submits a message, if there is one. Says whether it accepted it.
     pub(crate) fn submit(&mut self, point: u16, message: Option<Msu>) -> bool {
         match message {
-            Some(message) => is_accepted(self.turn(point, Doing::Submit(message))),
+            Some(message) => is_accepted(&self.turn(point, Doing::Submit(message))),
             None => false,
         }
     }
@@ -210,16 +215,15 @@ impl Network {
         let Some(link) = self.shape.link(place.point, place.number) else {
             return Outcome::Ignored;
         };
-        let Some(text) = self.fetch(place) else {
+        let Some(site) = self.site_mut(place.point) else {
+            return Outcome::Ignored;
+        };
+        let Some(text) = site.node.fetch(place.link()) else {
             return Outcome::Ignored;
         };
         count(&mut self.frames, link.is_between_ends() as u64);
         self.push(link.there, text);
         Outcome::Handled
-    }
-
-    fn fetch(&mut self, place: Place) -> Option<FrameText> {
-        self.site_mut(place.point)?.node.fetch(place.link())
     }
 
     /// A frame is in flight to an end of a link.

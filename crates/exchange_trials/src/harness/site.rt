@@ -166,7 +166,7 @@ impl Site {
     /// A user part hands over a message.
     fn submit(&mut self, message: Msu) -> Outcome {
         let outcome = self.node.step(&Event::Submit(message.lend()));
-        if is_accepted(outcome) {
+        if is_accepted(&outcome) {
             self.starved |= self.accepted.push(message).is_err();
         }
         outcome
@@ -187,13 +187,13 @@ impl Site {
         let before = self.node.last_accepted(link);
         let outcome = self.node.step(&Event::Frame(link, text.octets()));
         if before != self.node.last_accepted(link) {
-            self.book(link, text.octets(), outcome);
+            self.book(link, text.octets(), &outcome);
         }
         outcome
     }
 
     /// Books the message that a frame newly carried, and what became of it.
-    fn book(&mut self, link: LinkId, octets: &[u8], outcome: Outcome) {
+    fn book(&mut self, link: LinkId, octets: &[u8], outcome: &Outcome) {
         let Some(message) = carried(octets) else {
             return;
         };

@@ -1,6 +1,6 @@
 //! A run in which the books are made wrong, so that the judge has something to find.
 
-use super::book::Entry;
+use super::book::{Entry, message_of};
 use super::rest::{bring_up, come_to_rest};
 use super::total::{Ending, Totals};
 use super::world::World;
@@ -31,23 +31,21 @@ pub(super) fn make_wrong(alloc: Global) -> Totals {
 
 /// The run.
 fn pass_wrongly(world: &mut World, totals: &mut Totals) {
-    bring_up_and_count(world);
+    bring_up(&mut world.network);
+    world.network.count_anew();
     let former = world.book.next_mark();
     let ending = submit_wrongly(world);
     totals.first.add(world, ending);
     world.network.restart(MIDDLE);
     if totals.begin_anew(world, 1) {
-        bring_up_and_count(world);
-        world.hand_over(Entry { from: 3, ..ENTRY }, former);
+        bring_up(&mut world.network);
+        world.network.count_anew();
+        world
+            .network
+            .submit(3, message_of(Entry { from: 3, ..ENTRY }, former));
         let ending = submit_wrongly(world);
         totals.anew.add(world, ending);
     }
-}
-
-/// All links come into service, and what is done from then on is counted.
-fn bring_up_and_count(world: &mut World) {
-    bring_up(&mut world.network);
-    world.network.count_anew();
 }
 
 /// All that is wrong in one book: a message is in it that was never submitted, one is submitted twice, and two are
@@ -71,6 +69,7 @@ fn note_and_hand_over(world: &mut World, entry: Entry, count: usize, places: &[u
         world.book.add(entry);
     }
     for place in places {
-        world.hand_over(entry, mark.wrapping_add(*place));
+        let message = message_of(entry, mark.wrapping_add(*place));
+        world.network.submit(entry.from, message);
     }
 }

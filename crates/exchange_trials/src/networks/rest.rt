@@ -1,7 +1,7 @@
 //! Networks that come to rest.
 
 use crate::harness::{Deed, Network};
-use crate::rounds::{Each, PROVING_TICKS, RETURNS, do_each, pass_ticks, settle, tick_all};
+use crate::rounds::{Clock, Each, PROVING_TICKS, RETURNS, do_each, repeat};
 
 /// So many ticks pass behind each return of links: T1 ends by then, and each hold.
 const RESTING_TICKS: u8 = 16;
@@ -37,7 +37,29 @@ pub(super) fn come_to_rest(network: &mut Network) -> bool {
 pub(super) fn fall_to_rest(network: &mut Network) -> bool {
     do_each(network, Each::Do(Deed::Fall));
     for _ in 0..RESTING_TICKS {
-        tick_all(network, 1);
+        tick_all(network);
     }
     network.is_quiet()
+}
+
+/// All that is in flight comes, and then frames are carried until no node has one. Says whether none has.
+fn settle(network: &mut Network) -> bool {
+    repeat(network, Each::Drain, Clock::STILL) && repeat(network, Each::Carry, Clock::STILL)
+}
+
+/// So many ticks pass at each node, and after each frames are carried until no node has one. Says whether none has.
+fn pass_ticks(network: &mut Network, count: u8) -> bool {
+    let mut settled = true;
+    for _ in 0..count {
+        tick_all(network);
+        settled = repeat(network, Each::Carry, Clock::STILL);
+    }
+    settled
+}
+
+/// A tick passes at each node.
+fn tick_all(network: &mut Network) {
+    for point in network.shape.points() {
+        network.tick(*point, 1);
+    }
 }

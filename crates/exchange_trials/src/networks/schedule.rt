@@ -6,7 +6,7 @@ use super::world::World;
 use crate::harness::Deed;
 use crate::rounds::{Each, do_one};
 use crate::shape::{Shape, UNKNOWN};
-use crate::throws::{FLOWS, Odds, Throw, play, throw, thrown_link, thrown_point};
+use crate::throws::{FLOWS, Odds, Throw, play, thrown, thrown_link, thrown_point};
 use std::alloc::Global;
 
 /// So many times the dice are thrown in a schedule; each throw is one step at least, but for a few that find nothing.
@@ -130,7 +130,7 @@ fn see(world: &mut World) {
 
 /// A throw.
 fn throw_once(world: &mut World) {
-    match throw(world.network.shape, &mut world.dice, ODDS) {
+    match thrown(world.network.shape, &mut world.dice, ODDS) {
         Some((Throw::Submit, link)) => submit(world, link.here.point),
         Some((what, link)) => {
             play(&mut world.network, &mut world.dice, what, link);

@@ -54,7 +54,7 @@ impl Total {
         count(&mut self.lost_any, !promise.whole as u64);
         count(&mut self.steady, promise.steady as u64);
         count(&mut self.unended, !ending.ended as u64);
-        self.starved |= world.network.is_starved() || world.book.starved;
+        self.starved |= world.network.starved || world.book.starved;
         self.starved |= judge(world, promise, self).is_none();
     }
 
@@ -105,8 +105,8 @@ pub(super) struct Totals {
 }
 
 impl Totals {
-    /// So many nodes started again. All links fall, and if the network is quiet then, all books begin anew. Says whether
-    /// they do.
+    /// So many nodes started again. All links fall, and if the network is quiet then, all books begin anew. Says
+    /// whether they do.
     pub(super) fn begin_anew(&mut self, world: &mut World, restarts: u64) -> bool {
         let rests = fall_to_rest(&mut world.network);
         count(&mut self.restarts, restarts);

@@ -40,12 +40,7 @@ impl World {
             flow,
             accepted: false,
         };
-        let accepted = self.hand_over(entry, mark);
+        let accepted = self.network.submit(from, message_of(entry, mark));
         self.book.add(Entry { accepted, ..entry });
-    }
-
-    /// A node submits the message of a mark. Says whether it accepted it.
-    pub(super) fn hand_over(&mut self, entry: Entry, mark: u32) -> bool {
-        self.network.submit(entry.from, message_of(entry, mark))
     }
 }

@@ -52,7 +52,7 @@ fn go_on(target: &mut Target, dice: &mut Dice, link: LinkId) {
         0..=4 => target.tick(),
         5..=6 => target.tend_and_tick(1),
         7 => target.lose(link),
-        8..=29 if target.standing(link) == LinkStanding::Down => {
+        8..=29 if target.node.standing(link) == LinkStanding::Down => {
             target.lose(link);
             target.serve(link);
         }
@@ -68,7 +68,7 @@ pub(crate) fn try_frames(target: &mut Target, dice: &mut Dice, links: Links, cou
         let far = target.far_end(link);
         frame.cut(0);
         if !links.in_service && dice.one_in(2) {
-            add_leading(dice, &far, target.standing(link), &mut frame);
+            add_leading(dice, &far, target.node.standing(link), &mut frame);
         } else {
             add_good(dice, &far, links.statuses, &mut frame);
             harm(dice, &far, 0, &mut frame);

@@ -45,7 +45,7 @@ const MESSAGE_AT: usize = 17;
 /// A node, and the frame that was taken last.
 #[derive(Drop)]
 pub(crate) struct Target {
-    node: Node,
+    pub node: Node,
     taken: [u8; BUFFER_OCTETS],
     /// What became of the frames.
     pub found: Found,
@@ -65,11 +65,6 @@ impl Target {
             taken: [0; BUFFER_OCTETS],
             found: Found::default(),
         })
-    }
-
-    /// Where a link stands.
-    pub(crate) fn standing(&self, link: LinkId) -> LinkStanding {
-        self.node.standing(link)
     }
 
     /// The far end of a link, which has received all that was taken.
@@ -93,8 +88,8 @@ impl Target {
     /// message changes queues and numbers even then: it is confirmed, and may be answered. And it brings a link into
     /// service that is ready.
     fn hand_in(&mut self, link: LinkId, octets: &[u8]) -> Outcome {
-        let message = is_message(octets);
-        let enters = message && self.standing(link) == LinkStanding::AlignedReady;
+        let message = matches!(decode(octets), Ok(Frame::Message { .. }));
+        let enters = message && self.node.standing(link) == LinkStanding::AlignedReady;
         let before = Shown::of(self.node.shown(), !message);
         let outcome = self.node.step(&Event::Frame(link, octets));
         let changed = before != Shown::of(self.node.shown(), !message);
@@ -103,11 +98,6 @@ impl Target {
         }
         outcome
     }
-}
-
-/// Whether octets are a frame with a message.
-fn is_message(octets: &[u8]) -> bool {
-    matches!(decode(octets), Ok(Frame::Message { .. }))
 }
 
 impl Target {
@@ -148,7 +138,7 @@ impl Target {
         for _ in 0..7 {
             self.node.take(link, &mut self.taken);
         }
-        if self.standing(link) == LinkStanding::InService {
+        if self.node.standing(link) == LinkStanding::InService {
             let mut frame = Octets::new();
             add_empty(&self.far_end(link), &mut frame);
             self.hand_in(link, frame.as_slice());
@@ -181,7 +171,7 @@ impl Target {
     pub(crate) fn restore(&mut self, link: LinkId) {
         // A changeover may have to end first.
         for _ in 0..12 {
-            if self.standing(link) != LinkStanding::InService {
+            if self.node.standing(link) != LinkStanding::InService {
                 self.bring_up(link);
             }
         }
@@ -191,7 +181,7 @@ impl Target {
     fn bring_up(&mut self, link: LinkId) {
         self.lose(link);
         self.serve(link);
-        if self.standing(link) == LinkStanding::Down {
+        if self.node.standing(link) == LinkStanding::Down {
             self.tend_and_tick(1);
             return;
         }

@@ -5,7 +5,7 @@ use crate::dice::Dice;
 use crate::harness::{Deed, Doing, Network};
 use crate::rounds::{Clock, Each, RETURNS, do_each, do_each_once};
 use crate::shape::code_of;
-use crate::throws::{FLOWS, Odds, Throw, play, throw};
+use crate::throws::{FLOWS, Odds, Throw, play, thrown};
 use exchange::{TitleDigits, TitleKey, TitleRoute, TitleRow};
 
 /// How many steps a schedule has.
@@ -51,7 +51,7 @@ pub(crate) fn throw_steps(network: &mut Network, run: u16) -> bool {
 
 /// A step of a schedule. Says whether a translation row was added or removed, if it was to be.
 fn step(network: &mut Network, dice: &mut Dice) -> bool {
-    match throw(network.shape, dice, ODDS) {
+    match thrown(network.shape, dice, ODDS) {
         Some((Throw::Submit, link)) => {
             submit(network, link.here.point, dice.octet() % FLOWS);
             true

@@ -112,13 +112,12 @@ fn next_message(network: &Network, end: u16, flow: u8) -> Option<Msu> {
     }
 }
 
-/// Whether as many messages came as were accepted, or an end says that one may be lost.
+/// Whether as many messages came from each end as it accepted for the other, or an end says that one may be lost.
 pub(crate) fn has_brought_all(network: &Network) -> bool {
-    network.may_have_lost() || has_brought(network, 1) && has_brought(network, 2)
-}
-
-/// Whether as many messages came from an end as it accepted for the other.
-fn has_brought(network: &Network, end: u16) -> bool {
-    let accepted = network.count_accepted(end, other(end), &AllMessages);
-    accepted == network.count_received(end, other(end), &AllMessages)
+    let mut all = true;
+    for end in ENDS {
+        let accepted = network.count_accepted(end, other(end), &AllMessages);
+        all &= accepted == network.count_received(end, other(end), &AllMessages);
+    }
+    all || network.may_have_lost()
 }

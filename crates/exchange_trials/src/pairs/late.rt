@@ -30,7 +30,10 @@ pub(crate) fn answer_late(network: &mut Network, run: u16, expires: bool) -> boo
     for _ in 0..behind {
         network.act(link.here, Deed::Take);
     }
-    stop_again(network, link);
+    // Both ends lose the link again, and the answer to the first order comes.
+    network.act(link.here, Deed::Lose);
+    carry_others(network, link.reversed());
+    network.act(link.there, Deed::Lose);
     let rests = settle(network, Clock::STILL);
     let back = come_back(
         network,
@@ -62,13 +65,6 @@ fn open_between(network: &mut Network, link: Link) {
     carry_others(network, link);
     carry_others(network, link);
     carry_statuses(network, first);
-}
-
-/// Both ends lose the link again, and the answer to the first order comes.
-fn stop_again(network: &mut Network, link: Link) {
-    network.act(link.here, Deed::Lose);
-    carry_others(network, link.reversed());
-    network.act(link.there, Deed::Lose);
 }
 
 /// The near end submits this many messages on a flow.

@@ -41,7 +41,7 @@ impl Tally {
         count(&mut self.unended, !ended as u64);
         count(&mut self.compared, network.compared);
         count(&mut self.wrong, network.wrong);
-        self.starved |= network.is_starved();
+        self.starved |= network.starved;
         let mut late_any = false;
         for site in network.sites.iter().take(2) {
             late_any |= site.seen.late_any;
@@ -68,7 +68,7 @@ impl Tally {
         self.judge_order(network, from, to, near.in_time.min(whole))?;
         let accepted = accepted_marks(network, from, to)?;
         let once = received_marks(network, from, to, whole)?;
-        let found = count_found(accepted.as_slice(), once.as_slice());
+        let found = accepted.iter().filter(|mark| once.contains(mark)).count();
         count(&mut self.messages, accepted.len() as u64);
         count(&mut self.once, once.len() as u64);
         count(&mut self.doubled, once.len().saturating_sub(found) as u64);
@@ -112,11 +112,6 @@ fn received_marks(network: &Network, from: u16, to: u16, most: usize) -> Option<
         }
     }
     Some(marks)
-}
-
-/// How many of the messages that were accepted came.
-fn count_found(accepted: &[Mark], came: &[Mark]) -> usize {
-    accepted.iter().filter(|mark| came.contains(mark)).count()
 }
 
 /// How many flows had a message that wasn't the next one.
