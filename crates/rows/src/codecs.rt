@@ -10,7 +10,7 @@ mod tables;
 mod traces;
 
 use crate::said::Said;
-use crate::words::{OCTETS, last, octets, word};
+use crate::words::{OCTETS, last, number, octets, word};
 use crate::{Rows, print_rows};
 use sccp_relay::{Titles, Trie};
 use std::io;
@@ -34,6 +34,8 @@ pub(crate) fn print<R: Print + AllocGlobal>(rt: &R, text: &str) -> io::Result<()
 }
 
 impl Rows for Codecs {
+    const PARTING: &'static str = "\n";
+
     fn say(&mut self, said: &mut Said, row: &str) {
         let mut buffer = [0; OCTETS];
         let octets = octets(last(row), &mut buffer);
@@ -58,15 +60,10 @@ impl Rows for Codecs {
             "sign" => cookies::sign(said, row),
             "open" => cookies::open(said, row, octets),
             "title" => tables::titles(said, &mut self.titles, row),
-            "links" => self.points = [point(row, 1), point(row, 2)],
+            "links" => self.points = [number(row, 1), number(row, 2)],
             "relay" => tables::relayed(said, &self.titles, &self.points, octets, false),
             "extended" => tables::relayed(said, &self.titles, &self.points, octets, true),
             _ => tables::digits_of(said, &mut self.trie, row),
         }
     }
-}
-
-/// The point of a word of a row; 0 if it is none.
-fn point(row: &str, index: usize) -> u16 {
-    word(row, index).parse().unwrap_or(0)
 }

@@ -48,12 +48,6 @@ fn main(rt: HostRuntime) -> io::Result<()> {
     Ok(())
 }
 
-/// What rows are about.
-trait Rows {
-    /// Says what comes of a row.
-    fn say(&mut self, said: &mut Said, row: &str);
-}
-
 /// Prints the rows of a file, each with what it says.
 fn print_file<R: Files + Print + AllocGlobal>(rt: &R, name: &str) -> io::Result<()> {
     let text = fs::read_to_string(rt, name)?;
@@ -69,22 +63,32 @@ fn print_file<R: Files + Print + AllocGlobal>(rt: &R, name: &str) -> io::Result<
     }
 }
 
+/// What rows are about.
+trait Rows {
+    /// What parts the calls of a row; nothing that is in a row, if a row is a call.
+    const PARTING: &'static str;
+
+    /// Says what comes of a call.
+    fn say(&mut self, said: &mut Said, call: &str);
+}
+
 /// Prints rows, each with what it says.
 fn print_rows<R: Print + AllocGlobal, T: Rows>(rt: &R, rows: &mut T, text: &str) -> io::Result<()> {
     for row in text.lines() {
-        print_row(rt, rows, row)?;
+        println!(rt; "{row}")?;
+        if !row.is_empty() && !row.starts_with('#') {
+            print_said(rt, rows, row)?;
+        }
     }
     Ok(())
 }
 
-/// Prints a row, and what it says.
-fn print_row<R: Print + AllocGlobal, T: Rows>(rt: &R, rows: &mut T, row: &str) -> io::Result<()> {
-    println!(rt; "{row}")?;
-    if row.is_empty() || row.starts_with('#') {
-        return Ok(());
-    }
+/// Prints what a row says.
+fn print_said<R: Print + AllocGlobal, T: Rows>(rt: &R, rows: &mut T, row: &str) -> io::Result<()> {
     let mut said = Said::new(rt.alloc());
-    rows.say(&mut said, row);
+    for call in row.split(T::PARTING) {
+        rows.say(&mut said, call);
+    }
     let text = said.text.as_str();
     println!(rt; " {text}")
 }

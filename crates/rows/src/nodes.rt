@@ -6,23 +6,20 @@
 //!   and scripts on a node whose links e0 and e1 lead to point 2, in order: what isn't done, and at each `doubts`
 //!   whether messages may be lost, and whether they may be late.
 //! - `streams.rows`: `prints`, `pieces`, `reads`, `writes`, `rooms` and `endless`, each of a script, done on a node or
-//!   in a lab over streams that give little, fail, or never end (`streams`); `joins` and `replays`, a script in a lab
-//!   whose links fail (`labs`).
+//!   in a lab over streams that give little, fail, or never end; `joins` and `replays`, a script in a lab whose links
+//!   fail (`runs`).
 //!
 //! In both `script NAME LINE; LINE ..` is a script of this name.
 
 mod calls;
-mod doubts;
 mod drafts;
-mod labs;
 mod node;
+mod runs;
 mod streams;
-mod two_nodes;
 
 use crate::said::Said;
 use crate::words::word;
 use crate::{Rows, print_rows};
-use script::ScriptFault;
 use std::alloc::{AllocError, Global};
 use std::io;
 
@@ -40,40 +37,36 @@ pub(crate) fn print<R: Print + AllocGlobal>(rt: &R, text: &str) -> io::Result<()
 }
 
 impl Rows for Nodes<'_> {
+    const PARTING: &'static str = "\n";
+
     fn say(&mut self, said: &mut Said, row: &str) {
         let (alloc, text) = (self.alloc, self.text);
         match word(row, 0) {
             "script" => {}
             "calls" => calls::calls(said, alloc, row),
             "absent" => calls::absent(said, alloc, row),
+            "plays" => calls::plays(said, alloc, text, row),
             "without" | "titles" => drafts::check(said, alloc, row),
-            "plays" => doubts::plays(said, alloc, text, row),
-            "joins" | "replays" => labs::say(said, alloc, text, row),
-            _ => streams::say(said, alloc, text, row),
+            _ => runs::say(said, alloc, text, row),
         }
     }
 }
 
-/// The lines of a script of the file, parted by `; `; none if there is no such script.
-fn script_of<'a>(text: &'a str, name: &str) -> &'a str {
+/// What is after this many words of a row.
+fn after_words(row: &str, count: usize) -> &str {
+    row.splitn(count.saturating_add(1), ' ')
+        .nth(count)
+        .unwrap_or("")
+}
+
+/// The lines of a script of the file, parted by `; `; if there is none of this name, the name itself, as a line.
+fn script_of<'a>(text: &'a str, name: &'a str) -> &'a str {
     for row in text.lines() {
         if word(row, 0) == "script" && word(row, 1) == name {
             return after_words(row, 2);
         }
     }
-    ""
-}
-
-/// What is after this many words of a row.
-fn after_words(row: &str, count: usize) -> &str {
-    let mut rest = row;
-    for _ in 0..count {
-        rest = match rest.split_once(' ') {
-            Some((_, after)) => after,
-            None => "",
-        };
-    }
-    rest
+    name
 }
 
 /// The text of a script, whose lines are parted by `; `.
@@ -84,24 +77,4 @@ fn text_of(alloc: Global, script: &str) -> Result<String, AllocError> {
         text.push_str("\n")?;
     }
     Ok(text)
-}
-
-/// How a script ended, in a word.
-fn end_of(run: Result<(), ScriptFault>) -> &'static str {
-    match run {
-        Ok(()) => "done",
-        Err(ScriptFault::Read) => "unread",
-        Err(ScriptFault::Write) => "unwritten",
-        Err(ScriptFault::Line(_)) => "line",
-        Err(ScriptFault::TooManyReads) => "endless",
-        Err(ScriptFault::NoMemory) => "memory",
-    }
-}
-
-/// Says lines that were printed, each before a `;`.
-fn say_lines(said: &mut Said, printed: &[u8]) {
-    for line in str::from_utf8(printed).unwrap_or("no text").lines() {
-        said.say(line);
-        said.push(';');
-    }
 }

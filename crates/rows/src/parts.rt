@@ -7,14 +7,5 @@ pub(crate) mod route_rows;
 pub(crate) mod store_rows;
 pub(crate) mod timer_rows;
 
-use crate::words::word;
-
-/// The number that a word of a call says, or the greatest.
-fn number(call: &str, place: usize) -> usize {
-    word(call, place).parse().unwrap_or(usize::MAX)
-}
-
-/// The octet that a word of a call says, or the greatest.
-fn octet(call: &str, place: usize) -> u8 {
-    word(call, place).parse().unwrap_or(u8::MAX)
-}
+/// What parts the calls of a row.
+const PARTING: &str = "; ";

@@ -18,14 +18,17 @@ impl Said {
         }
     }
 
-    /// Says a word.
-    pub fn say<T: Display + Drop>(&mut self, value: T) {
-        let _ = write!(self.text, " {value}");
+    /// Says a word, or several.
+    pub fn say<T: Display + Drop>(&mut self, words: T) {
+        let _ = write!(self.text, " {words}");
     }
 
-    /// Says a word, and a value after it.
-    pub fn name<T: Display + Drop>(&mut self, name: &str, value: T) {
-        let _ = write!(self.text, " {name} {value}");
+    /// Says a value, or that there is none.
+    pub fn or_none<T: Display + Drop>(&mut self, value: Option<T>) {
+        match value {
+            Some(value) => self.say(value),
+            None => self.say("none"),
+        }
     }
 
     /// Puts a character to the last word.

@@ -1,10 +1,9 @@
 //! Codes, tags and cookies.
 
 use crate::said::Said;
-use crate::words::{OCTETS, octets, word};
+use crate::words::{OCTETS, number, octets, word};
 use sctp_cookie::hmac::hmac_sha256;
 use sctp_cookie::{Cookie, Tags};
-use std::str::FromStr;
 
 /// The key of 32 octets of a row.
 fn key(row: &str) -> Option<[u8; 32]> {
@@ -27,20 +26,9 @@ pub(crate) fn tags(said: &mut Said, row: &str) {
         return;
     };
     let mut tags = Tags::new(key);
-    for _ in 0..word(row, 2).parse().unwrap_or(0u32) {
-        match tags.draw() {
-            Some(tag) => said.say(tag),
-            None => said.say("none"),
-        }
+    for _ in 0..number::<u32>(row, 2) {
+        said.or_none(tags.draw());
     }
-}
-
-/// The number of a word of the row.
-fn number<T: FromStr + Default + Drop>(row: &str, place: usize) -> T
-where
-    T::Err: Drop,
-{
-    word(row, place).parse().unwrap_or_default()
 }
 
 /// Says the octets of the cookie of the row.
@@ -65,36 +53,28 @@ pub(crate) fn sign(said: &mut Said, row: &str) {
     }
 }
 
-/// Says the cookie of these octets under the key of the row.
+/// Says the fields of the cookie of these octets under the key of the row.
 pub(crate) fn open(said: &mut Said, row: &str, octets: &[u8]) {
     let Some(key) = key(row) else {
         return;
     };
-    match Cookie::open(octets, &key) {
-        Some(cookie) => say_cookie(said, &cookie),
-        None => said.say("none"),
-    }
-}
-
-/// Says the fields of a cookie.
-fn say_cookie(said: &mut Said, cookie: &Cookie) {
-    for time in [cookie.made, cookie.generation] {
-        said.say(time);
-    }
-    for number in [
+    let Some(cookie) = Cookie::open(octets, &key) else {
+        return said.say("none");
+    };
+    said.say(format_args!(
+        "{} {} {} {} {} {} {} {} {} {} {} {} {}",
+        cookie.made,
+        cookie.generation,
         cookie.own_tag,
         cookie.peer_tag,
         cookie.own_first_tsn,
         cookie.peer_first_tsn,
         cookie.peer_window,
-    ] {
-        said.say(number);
-    }
-    for streams in [cookie.peer_outgoing_streams, cookie.peer_incoming_streams] {
-        said.say(streams);
-    }
-    for number in [cookie.tie_own_tag, cookie.tie_peer_tag, cookie.life] {
-        said.say(number);
-    }
-    said.say(cookie.peer_port);
+        cookie.peer_outgoing_streams,
+        cookie.peer_incoming_streams,
+        cookie.tie_own_tag,
+        cookie.tie_peer_tag,
+        cookie.life,
+        cookie.peer_port
+    ));
 }

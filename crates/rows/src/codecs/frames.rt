@@ -38,7 +38,8 @@ pub(crate) fn pieces(said: &mut Said, row: &str) {
     let mut framer = Framer::new();
     let mut buffer = [0; OCTETS];
     for piece in last(row).split('|') {
-        said.name("took", framer.feed(octets(piece, &mut buffer)));
+        let count = framer.feed(octets(piece, &mut buffer));
+        said.say(format_args!("took {count}"));
         say_next(said, &mut framer);
     }
 }

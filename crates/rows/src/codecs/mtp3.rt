@@ -1,7 +1,7 @@
 //! Labels, management messages and link tests, and the numbers of messages.
 
 use crate::said::Said;
-use crate::words::word;
+use crate::words::{number_of, word};
 use mtp3_codec::{Label, LinkTest, MANAGEMENT_OCTETS, Management, TEST_OCTETS, discriminate};
 use signalling_types::number::{distance, next, within};
 use signalling_types::{MsuRef, Number24, PointCode};
@@ -17,7 +17,7 @@ pub(crate) fn label(said: &mut Said, sif: &[u8]) {
 
 /// Says what point 1 of a network does about a message.
 pub(crate) fn route(said: &mut Said, row: &str, message: &[u8]) {
-    if let ([sio, sif @ ..], Ok(network)) = (message, word(row, 1).parse()) {
+    if let ([sio, sif @ ..], Some(network)) = (message, number_of(row, 1)) {
         let message = MsuRef { sio: *sio, sif };
         said.show(&discriminate(message, PointCode::of_low_bits(1), network));
     }
@@ -44,8 +44,7 @@ pub(crate) fn test(said: &mut Said, sif: &[u8]) {
             let (here, there) = (PointCode::of_low_bits(1), PointCode::of_low_bits(2));
             let mut out = [0xee; TEST_OCTETS];
             let count = test.answer(there, here, &mut out);
-            said.show(&test.kind);
-            said.name("slc", test.slc.number());
+            said.say(format_args!("{:?} slc {}", test.kind, test.slc.number()));
             said.octets(test.pattern);
             said.again(&out[..count], sif);
         }
@@ -55,7 +54,7 @@ pub(crate) fn test(said: &mut Said, sif: &[u8]) {
 
 /// The number that a word says, if there is one.
 fn number(row: &str, place: usize) -> Option<Number24> {
-    Number24::new(word(row, place).parse().ok()?)
+    Number24::new(number_of(row, place)?)
 }
 
 /// Says what a call with numbers answers.

@@ -1,4 +1,4 @@
-//! Addresses and unitdata of SCCP.
+//! Addresses and messages of SCCP.
 
 use crate::said::Said;
 use sccp_codec::{Address, Routing, Unitdata};
@@ -19,28 +19,29 @@ fn say_address(said: &mut Said, address: &Address<'_>) {
     if address.national {
         said.say("national");
     }
-    match address.routing {
-        Routing::Title => said.say("by title"),
-        Routing::Ssn => said.say("by ssn"),
-    }
+    said.say(match address.routing {
+        Routing::Title => "by title",
+        Routing::Ssn => "by ssn",
+    });
     if let Some(point) = address.point {
-        said.name("point", point.code());
+        said.say(format_args!("point {}", point.code()));
     }
     if let Some(ssn) = address.ssn {
-        said.name("ssn", ssn);
+        said.say(format_args!("ssn {ssn}"));
     }
-    said.name("title", address.title_indicator.number());
+    said.say(format_args!("title {}", address.title_indicator.number()));
     said.octets(address.title);
 }
 
 fn say_title(said: &mut Said, address: &Address<'_>) {
     match address.global_title() {
-        Ok(title) => {
-            said.name("translation", title.key.translation);
-            said.name("plan", title.key.plan);
-            said.name("nature", title.key.nature);
-            said.show(&title.digits().as_slice());
-        }
+        Ok(title) => said.say(format_args!(
+            "translation {} plan {} nature {} {:?}",
+            title.key.translation,
+            title.key.plan,
+            title.key.nature,
+            title.digits().as_slice()
+        )),
         Err(cause) => said.fault(cause.number(), &cause),
     }
 }
@@ -61,10 +62,8 @@ fn say_message(said: &mut Said, message: &Unitdata<'_>) {
         Unitdata::Udt(udt) => ("udt class", udt.class_octet),
         Unitdata::Udts(udts) => ("udts cause", udts.return_cause),
     };
-    said.say(kind);
-    said.octets(&[octet]);
     let parts = message.parts();
-    said.say("called");
+    said.say(format_args!("{kind} {octet:02x} called"));
     say_address(said, &parts.called);
     said.say("calling");
     say_address(said, &parts.calling);

@@ -6,12 +6,12 @@ use sctp_codec::{Chunk, Data, Items, Offer, Packet, Sack};
 /// Says what the octets are as a packet: its ports and its tag, and its chunks in their order.
 pub(crate) fn packet(said: &mut Said, octets: &[u8]) {
     let Some(packet) = Packet::read(octets) else {
-        said.say("no packet");
-        return;
+        return said.say("no packet");
     };
-    said.say(packet.source);
-    said.say(packet.destination);
-    said.name("tag", packet.tag);
+    said.say(format_args!(
+        "{} {} tag {}",
+        packet.source, packet.destination, packet.tag
+    ));
     for chunk in packet.chunks() {
         say_chunk(said, chunk);
     }
@@ -20,55 +20,48 @@ pub(crate) fn packet(said: &mut Said, octets: &[u8]) {
 fn say_chunk(said: &mut Said, chunk: Chunk<'_>) {
     match chunk {
         Chunk::Data(data) => say_data(said, &data),
-        Chunk::Init(init) => {
-            said.say("| init");
-            say_offer(said, init.offer);
-            say_kinds(said, init.parameters);
-        }
-        Chunk::InitAck(init) => {
-            said.say("| init_ack");
-            say_offer(said, init.offer);
-            say_kinds(said, init.parameters);
-        }
+        Chunk::Init(init) => say_offer(said, "init", init.offer, init.parameters),
+        Chunk::InitAck(init) => say_offer(said, "init_ack", init.offer, init.parameters),
         Chunk::Sack(sack) => say_sack(said, &sack),
-        Chunk::Heartbeat(information) => say_octets(said, "| heartbeat", information),
-        Chunk::HeartbeatAck(information) => say_octets(said, "| heartbeat_ack", information),
+        Chunk::Heartbeat(information) => say_octets(said, "heartbeat", information),
+        Chunk::HeartbeatAck(information) => say_octets(said, "heartbeat_ack", information),
         Chunk::Abort {
             is_reflected,
             causes,
         } => {
-            said.name("| abort", is_reflected);
+            said.say(format_args!("| abort {is_reflected}"));
             said.octets(causes);
         }
-        Chunk::Shutdown { cumulative } => said.name("| shutdown", cumulative),
+        Chunk::Shutdown { cumulative } => said.say(format_args!("| shutdown {cumulative}")),
         Chunk::ShutdownAck => said.say("| shutdown_ack"),
         Chunk::Error(causes) => {
             said.say("| error");
             say_kinds(said, causes);
         }
-        Chunk::CookieEcho(cookie) => say_octets(said, "| cookie_echo", cookie),
+        Chunk::CookieEcho(cookie) => say_octets(said, "cookie_echo", cookie),
         Chunk::CookieAck => said.say("| cookie_ack"),
-        Chunk::ShutdownComplete { is_reflected } => said.name("| shutdown_complete", is_reflected),
+        Chunk::ShutdownComplete { is_reflected } => {
+            said.say(format_args!("| shutdown_complete {is_reflected}"));
+        }
         Chunk::Unknown { kind, flags, value } => {
-            said.name("| unknown", kind);
-            said.say(flags);
+            said.say(format_args!("| unknown {kind} {flags}"));
             said.octets(value);
         }
-        Chunk::Malformed { kind } => said.name("| malformed", kind),
+        Chunk::Malformed { kind } => said.say(format_args!("| malformed {kind}")),
     }
 }
 
 fn say_octets(said: &mut Said, name: &str, octets: &[u8]) {
-    said.say(name);
+    said.say(format_args!("| {name}"));
     said.octets(octets);
 }
 
 /// Says a DATA chunk: its number, stream, number in the stream, protocol, bits and user data.
 fn say_data(said: &mut Said, data: &Data<'_>) {
-    said.name("| data", data.tsn);
-    said.name("stream", data.stream);
-    said.say(data.sequence);
-    said.name("protocol", data.protocol);
+    said.say(format_args!(
+        "| data {} stream {} {} protocol {}",
+        data.tsn, data.stream, data.sequence, data.protocol
+    ));
     for (bit, name) in [
         (data.immediate, "immediate"),
         (data.unordered, "unordered"),
@@ -82,13 +75,13 @@ fn say_data(said: &mut Said, data: &Data<'_>) {
     said.octets(data.octets);
 }
 
-/// Says what an INIT or INIT ACK offers: its tag, window, streams and first number.
-fn say_offer(said: &mut Said, offer: Offer) {
-    said.say(offer.tag);
-    said.name("window", offer.window);
-    said.name("streams", offer.outgoing);
-    said.say(offer.incoming);
-    said.name("first", offer.first_tsn);
+/// Says what an INIT or INIT ACK offers: its tag, window, streams and first number, and the types of its parameters.
+fn say_offer(said: &mut Said, name: &str, offer: Offer, parameters: Items<'_>) {
+    said.say(format_args!(
+        "| {name} {} window {} streams {} {} first {}",
+        offer.tag, offer.window, offer.outgoing, offer.incoming, offer.first_tsn
+    ));
+    say_kinds(said, parameters);
 }
 
 /// Says the types of parameters or causes.
@@ -101,13 +94,11 @@ fn say_kinds(said: &mut Said, items: Items<'_>) {
 
 /// Says a SACK chunk: the cumulative number, window, gap blocks and duplicates.
 fn say_sack(said: &mut Said, sack: &Sack<'_>) {
-    said.name("| sack", sack.cumulative);
-    said.name("window", sack.window);
+    said.say(format_args!("| sack {} window {}", sack.cumulative, sack.window));
     for block in sack.blocks {
-        said.name("from", block.start);
-        said.name("to", block.end);
+        said.say(format_args!("from {} to {}", block.start, block.end));
     }
     for number in sack.duplicates {
-        said.name("twice", number);
+        said.say(format_args!("twice {number}"));
     }
 }

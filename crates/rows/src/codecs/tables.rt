@@ -3,7 +3,7 @@
 ghost use Rattle.std.specs.Prelude.{◌<◌, ◌↔◌, All, IsTrue};
 
 use crate::said::Said;
-use crate::words::{digits, word};
+use crate::words::{digits, number, number_of, word};
 use sccp_relay::{Own, Relayed, TitleKey, Titles, Trie, Ways, relay, returned};
 use settings_rows::{TitleChange, TitleRoute, TitleRow};
 use signalling_types::{Cause, Limits, PointCode, Sls, Ssn};
@@ -29,10 +29,10 @@ impl Ways for Reached<'_> {
 pub(crate) fn digits_of(said: &mut Said, trie: &mut Trie, row: &str) {
     let mut buffer = [0; 64];
     let digits = digits(word(row, 2), &mut buffer);
-    match (word(row, 1), word(row, 3).parse()) {
+    match (word(row, 1), number_of(row, 3)) {
         ("longest", _) => said.show(&trie.longest(digits)),
         ("remove", _) => said.show(&trie.remove(digits)),
-        (_, Ok(value)) if are_digits(digits) => said.show(&trie.insert(digits, value)),
+        (_, Some(value)) if are_digits(digits) => said.show(&trie.insert(digits, value)),
         _ => said.say("no value at digits"),
     }
 }
@@ -49,14 +49,14 @@ pub(crate) fn titles(said: &mut Said, table: &mut Titles, row: &str) {
     let mut buffer = [0; 64];
     let digits = digits(word(row, 5), &mut buffer);
     match (word(row, 1), key(row)) {
-        ("entry", _) => {
-            let place = word(row, 2).parse().unwrap_or(usize::MAX);
-            say_row(said, table.row(place).ok_or(Cause::NoSuchName));
-        }
+        ("entry", _) => say_row(said, table.row(number(row, 2)).ok_or(Cause::NoSuchName)),
         ("fill", Some(key)) => fill(said, table, key),
-        ("add", Some(key)) => add(said, table, key, digits, row),
-        ("backup", Some(key)) => match new_row(key, digits, word(row, 6), word(row, 7)) {
-            Some(new) => said.show(&table.add(backed_up(new, word(row, 8)))),
+        ("add", Some(key)) => match (new_row(key, digits, row), change(row)) {
+            (Some(new), Some(change)) => said.show(&table.add(new.with_change(change))),
+            _ => said.say("no row"),
+        },
+        ("backup", Some(key)) => match new_row(key, digits, row) {
+            Some(new) => said.show(&table.add(backed_up(new, row))),
             None => said.say("no row"),
         },
         ("remove", Some(key)) => said.show(&table.remove(key, digits)),
@@ -65,15 +65,28 @@ pub(crate) fn titles(said: &mut Said, table: &mut Titles, row: &str) {
     }
 }
 
-/// Adds a row, with the change of titles that its words name, if any.
-fn add(said: &mut Said, table: &mut Titles, key: TitleKey, digits: &[u8], row: &str) {
-    match (
-        new_row(key, digits, word(row, 6), word(row, 7)),
-        change(row),
-    ) {
-        (Some(new), Some(change)) => said.show(&table.add(new.with_change(change))),
-        _ => said.say("no row"),
-    }
+/// The key of a row: translation type, plan and nature.
+fn key(row: &str) -> Option<TitleKey> {
+    Some(TitleKey {
+        translation: number_of(row, 2)?,
+        plan: number_of(row, 3)?,
+        nature: number_of(row, 4)?,
+    })
+}
+
+/// The new row of a row.
+fn new_row(key: TitleKey, digits: &[u8], row: &str) -> Option<TitleRow> {
+    row_to(key, digits, number_of(row, 6)?, number_of(row, 7))
+}
+
+/// A row that leads to a point, routed there by a subsystem, if one is named, or else by its title.
+fn row_to(key: TitleKey, digits: &[u8], point: u16, ssn: Option<u8>) -> Option<TitleRow> {
+    let point = PointCode::new(point)?;
+    let route = match ssn {
+        Some(number) => TitleRoute::Ssn(Ssn::new(number)?),
+        None => TitleRoute::Title(None),
+    };
+    TitleRow::new(key.translation, key.plan, key.nature, digits, point, route)
 }
 
 /// The change of titles of a row: the plan, the nature, how many digits are taken off, and those that are put on.
@@ -83,51 +96,19 @@ fn change(row: &str) -> Option<TitleChange> {
     }
     let mut buffer = [0; 64];
     let added = digits(word(row, 11), &mut buffer);
-    let (plan, nature) = (word(row, 8).parse().ok(), word(row, 9).parse().ok());
-    TitleChange::new(plan, nature, word(row, 10).parse().ok()?, added)
+    TitleChange::new(
+        number_of(row, 8),
+        number_of(row, 9),
+        number_of(row, 10)?,
+        added,
+    )
 }
 
-/// The key of a row: translation type, plan and nature.
-fn key(row: &str) -> Option<TitleKey> {
-    Some(TitleKey {
-        translation: word(row, 2).parse().ok()?,
-        plan: word(row, 3).parse().ok()?,
-        nature: word(row, 4).parse().ok()?,
-    })
-}
-
-/// Says a translation row, or the cause for which there is none.
-fn say_row(said: &mut Said, row: Result<TitleRow, Cause>) {
-    let row = match row {
-        Ok(row) => row,
-        Err(cause) => return said.fault(cause.number(), &cause),
-    };
-    said.name("translation", row.translation());
-    said.name("plan", row.plan());
-    said.name("nature", row.nature());
-    said.show(&row.digits());
-    said.name("point", row.point().code());
-    match row.route() {
-        TitleRoute::Title(_) => said.say("title"),
-        TitleRoute::Ssn(ssn) => said.name("ssn", ssn.number()),
-    }
-}
-
-/// A row that leads to the point of a word, routed there by the subsystem of another word, or by its title.
-fn new_row(key: TitleKey, digits: &[u8], point: &str, ssn: &str) -> Option<TitleRow> {
-    let point = PointCode::new(point.parse().ok()?)?;
-    let route = match ssn.parse() {
-        Ok(number) => TitleRoute::Ssn(Ssn::new(number)?),
-        Err(_) => TitleRoute::Title(None),
-    };
-    TitleRow::new(key.translation, key.plan, key.nature, digits, point, route)
-}
-
-/// The row with the point of a word as its backup, if the word is one.
-fn backed_up(row: TitleRow, backup: &str) -> TitleRow {
-    match backup.parse().ok().and_then(PointCode::new) {
-        Some(point) => row.with_backup(point),
-        None => row,
+/// The row with a point as its backup, if it has one.
+fn backed_up(new: TitleRow, row: &str) -> TitleRow {
+    match number_of(row, 8).and_then(PointCode::new) {
+        Some(point) => new.with_backup(point),
+        None => new,
     }
 }
 
@@ -136,10 +117,30 @@ fn fill(said: &mut Said, table: &mut Titles, key: TitleKey) {
     for number in 0..=u16::MAX {
         let [translation, last] = number.to_be_bytes();
         let key = TitleKey { translation, ..key };
-        match new_row(key, &[last / 16, last % 16], "1", "title") {
+        match row_to(key, &[last / 16, last % 16], 1, None) {
             Some(row) if table.add(row).is_ok() => {}
             _ => return said.say(number),
         }
+    }
+}
+
+/// Says a translation row, or the cause for which there is none.
+fn say_row(said: &mut Said, row: Result<TitleRow, Cause>) {
+    let row = match row {
+        Ok(row) => row,
+        Err(cause) => return said.fault(cause.number(), &cause),
+    };
+    said.say(format_args!(
+        "translation {} plan {} nature {} {:?} point {}",
+        row.translation(),
+        row.plan(),
+        row.nature(),
+        row.digits(),
+        row.point().code()
+    ));
+    match row.route() {
+        TitleRoute::Title(_) => said.say("title"),
+        TitleRoute::Ssn(ssn) => said.say(format_args!("ssn {}", ssn.number())),
     }
 }
 

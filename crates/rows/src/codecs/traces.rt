@@ -1,7 +1,7 @@
 //! Frames in words and in a capture file, and points that are read.
 
 use crate::said::Said;
-use crate::words::{last, word};
+use crate::words::{last, number, word};
 use point_format::{PointFormat, parse_point};
 use signalling_types::{Limits, LinkId};
 use std::time::Duration;
@@ -39,17 +39,17 @@ pub(crate) fn point(said: &mut Said, row: &str) {
 /// Says whether a capture file of this size takes a frame this many times, and the octets of the room then.
 pub(crate) fn capture(said: &mut Said, row: &str, frame: &[u8]) {
     let mut room = [0; 200];
-    let count = word(row, 2).parse().unwrap_or(0);
+    let count = number(row, 2);
     let Some(front) = room.get_mut(..count) else {
         return;
     };
     let frame = ObservedFrame::new(frame);
-    let since_1970 = Duration::from_secs(word(row, 4).parse().unwrap_or(0));
+    let since_1970 = Duration::from_secs(number(row, 4));
     let mut capture = Capture::begin(UntilFailure::new(front), since_1970);
-    for _ in 0..word(row, 3).parse().unwrap_or(0u8) {
-        let link = LinkId::new(word(row, 5).parse().unwrap_or(0));
+    for _ in 0..number::<u8>(row, 3) {
+        let link = LinkId::new(number(row, 5));
         capture.write(Duration::from_nanos(6_789), link, direction(row), &frame);
     }
-    said.name("failed", capture.has_failed());
+    said.say(format_args!("failed {}", capture.has_failed()));
     said.octets(room.get(..count).unwrap_or(&[]));
 }

@@ -1,11 +1,13 @@
-//! Calls that no script makes: in a row, about numbers that name nothing, and with a frame of no octets.
+//! Calls that no script makes: in a row, about numbers that name nothing, and with a frame of no octets; and what no
+//! script sees: when a node says that messages may be lost, or late.
 
-use super::after_words;
+use super::drafts::{facing, with_two_links};
 use super::node::Node;
+use super::{after_words, script_of, text_of};
 use crate::said::Said;
-use crate::words::word;
-use exchange::{Answer, Call, Event, Order, Wants};
-use script::built_in;
+use crate::words::number;
+use exchange::{Answer, Call, Event, Exchange, Order, Wants};
+use script::{MemorySink, MemorySource, built_in};
 use settings::{LinkId, Msu, Notice, Outcome};
 use std::alloc::Global;
 
@@ -44,7 +46,7 @@ pub(crate) fn calls(said: &mut Said, alloc: Global, row: &str) {
     let Ok(message) = Msu::new(0x85, &[0x01, 0x80, 0x00, 0x50]) else {
         return;
     };
-    let Some(mut node) = Node::built_in(alloc) else {
+    let Some(mut node) = Node::new(alloc, built_in(alloc)) else {
         return;
     };
     if let Some(answers) = answers_of(alloc, &mut node, &message, row) {
@@ -52,7 +54,7 @@ pub(crate) fn calls(said: &mut Said, alloc: Global, row: &str) {
             say_answer(said, answer);
         }
     }
-    say_first_notice(said, &node);
+    say_first_notice(said, node.shown());
 }
 
 /// The answers of a node to the calls of a row. None if memory runs out.
@@ -85,11 +87,10 @@ fn name_of(outcome: &Outcome) -> &'static str {
 }
 
 /// Says the fault of the frame that a node noted first, and its link.
-fn say_first_notice(said: &mut Said, node: &Node) {
-    match node.shown().notices().front() {
+fn say_first_notice(said: &mut Said, shown: &Exchange) {
+    match shown.notices().front() {
         Some(Notice::Frame(fault, link)) => {
-            said.show(fault);
-            said.say(link.index());
+            said.say(format_args!("{fault:?} {}", link.index()));
         }
         _ => said.say("other"),
     }
@@ -98,41 +99,76 @@ fn say_first_notice(said: &mut Said, node: &Node) {
 /// Says what becomes of events about a link, and what a node with one link and one destination shows of it, and of a
 /// row of its number.
 pub(crate) fn absent(said: &mut Said, alloc: Global, row: &str) {
-    let link = LinkId::new(word(row, 1).parse().unwrap_or(0));
-    if let Some(mut node) = with_one_destination(alloc) {
+    let link = LinkId::new(number(row, 1));
+    if let Some(mut node) = Node::new(alloc, facing(alloc, 1, 2)) {
         say_events(said, &mut node, link);
-        said.name("taken", node.take(link).is_some());
-        say_shown(said, &node, link);
+        said.say(format_args!("taken {}", node.take(link).is_some()));
+        say_shown(said, node.shown(), link);
     }
 }
 
-/// A node with one link and one destination.
-fn with_one_destination(alloc: Global) -> Option<Node> {
-    let mut draft = built_in(alloc).ok()?;
-    draft.destinations.truncate(1);
-    Node::new(alloc, draft)
-}
-
+/// Says what becomes of events about a link.
 fn say_events(said: &mut Said, node: &mut Node, link: LinkId) {
-    say_event(said, node, &Event::AssociationUp(link));
-    say_event(said, node, &Event::AssociationDown(link));
-    say_event(said, node, &Event::Frame(link, b""));
     let activate = Order::Activate {
         link,
         emergency: false,
     };
-    say_event(said, node, &Event::Order(activate));
-    say_event(said, node, &Event::Order(Order::Deactivate(link)));
+    for event in &[
+        Event::AssociationUp(link),
+        Event::AssociationDown(link),
+        Event::Frame(link, b""),
+        Event::Order(activate),
+        Event::Order(Order::Deactivate(link)),
+    ] {
+        said.say(name_of(&node.step(event)));
+    }
 }
 
-fn say_event(said: &mut Said, node: &mut Node, event: &Event<'_>) {
-    said.say(name_of(&node.step(event)));
+/// Says what a node shows of a link, and of a row of its number.
+fn say_shown(said: &mut Said, shown: &Exchange, link: LinkId) {
+    let row = link.index();
+    said.say(format_args!(
+        "wanted {} link {} route {} title {}",
+        shown.wants(link) != Wants::Nothing,
+        shown.link(link).is_some(),
+        shown.route(row).is_some(),
+        shown.title(row).is_some()
+    ));
 }
 
-fn say_shown(said: &mut Said, node: &Node, link: LinkId) {
-    let row = usize::from(link.index());
-    said.name("wanted", node.shown().wants(link) != Wants::Nothing);
-    said.name("link", node.shown().link(link).is_some());
-    said.name("route", node.shown().route(row).is_some());
-    said.name("title", node.shown().title(row).is_some());
+/// Plays what a row names on a node, in order: a script of the text, or a line. Says which isn't done, and at each
+/// `doubts` whether messages may be lost, and whether they may be late.
+pub(crate) fn plays(said: &mut Said, alloc: Global, text: &str, row: &str) {
+    let Some(mut node) = Node::new(alloc, with_two_links(alloc)) else {
+        return;
+    };
+    for part in after_words(row, 1).split("; ") {
+        if part == "doubts" {
+            say_doubts(said, node.shown());
+        } else if !does(alloc, &mut node, script_of(text, part)) {
+            said.say(format_args!("undone {part}"));
+        }
+    }
+}
+
+/// Does a script. Whether all its lines are done: none is malformed, refused or ignored.
+fn does(alloc: Global, node: &mut Node, script: &str) -> bool {
+    let Ok(text) = text_of(alloc, script) else {
+        return false;
+    };
+    let mut writer = MemorySink::new(alloc);
+    let run = node.play(
+        &mut MemorySource::new(text.as_str().as_bytes()),
+        &mut writer,
+    );
+    match str::from_utf8(writer.written()) {
+        Ok(text) => run.is_ok() && !text.contains("refused") && !text.contains("ignored"),
+        Err(_) => false,
+    }
+}
+
+/// Says whether a node says that messages may be lost, and whether they may be late: no script sees it.
+fn say_doubts(said: &mut Said, shown: &Exchange) {
+    let (lost, late) = (shown.lost_any(), shown.late_any());
+    said.say(format_args!("lost {lost} late {late}"));
 }

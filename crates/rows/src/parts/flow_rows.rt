@@ -5,9 +5,9 @@
 //! flow, and whether it still does once it is lifted. `next SET`: the next code; `take SET COUNT`: as many, which are
 //! declared; `declare SET CODE`; `lift SET CODE`; `acknowledge SET CODE`: whether the code was awaited.
 
-use super::{number, octet};
+use super::PARTING;
 use crate::said::Said;
-use crate::words::word;
+use crate::words::{number, word};
 use crate::{Rows, print_rows};
 use changeback::Changeback;
 use flow_hold::{Holds, Procedure};
@@ -36,20 +36,13 @@ pub(crate) fn print<R: Print + AllocGlobal>(rt: &R, text: &str) -> io::Result<()
 }
 
 impl Rows for Flows {
-    fn say(&mut self, said: &mut Said, row: &str) {
-        for call in row.split("; ") {
-            self.call(said, call);
-        }
-    }
-}
+    const PARTING: &'static str = PARTING;
 
-impl Flows {
-    /// Makes a call, and says the answer.
-    fn call(&mut self, said: &mut Said, call: &str) {
-        let (set, code) = (SetId::new(octet(call, 1)), octet(call, 2));
+    fn say(&mut self, said: &mut Said, call: &str) {
+        let (set, code) = (SetId::new(number(call, 1)), number(call, 2));
         match word(call, 0) {
             "take" => take(said, &mut self.codes, set, code),
-            "next" => say_next(said, &self.codes, set),
+            "next" => said.or_none(self.codes.free_code(set)),
             "declare" => self.codes.declared(set, code),
             "lift" => self.holds.lift(Procedure::Code(set, code)),
             "acknowledge" => {
@@ -61,25 +54,17 @@ impl Flows {
     }
 }
 
-/// Says the next code of a set.
-fn say_next(said: &mut Said, codes: &Changeback, set: SetId) {
-    match codes.free_code(set) {
-        Some(code) => said.say(code),
-        None => said.say("none"),
-    }
-}
-
 /// Says this many next codes of a set, and declares them if they come in order.
 fn take(said: &mut Said, codes: &mut Changeback, set: SetId, count: u8) {
     for code in 0..count {
-        say_next(said, codes, set);
+        said.or_none(codes.free_code(set));
         codes.declared(set, code);
     }
 }
 
 /// Says whether a procedure holds a flow, and whether it does once it is lifted.
 fn hold(said: &mut Said, holds: &mut Holds, call: &str) {
-    let (destination, sls) = (number(call, 3), Sls::of_low_bits(u32::from(octet(call, 4))));
+    let (destination, sls) = (number(call, 3), Sls::of_low_bits(number(call, 4)));
     holds.hold(procedure(call), destination, sls);
     said.say(state_of(holds.is_held(destination, sls)));
     holds.lift(procedure(call));
@@ -91,11 +76,10 @@ fn state_of(is_held: bool) -> &'static str {
 }
 
 fn procedure(call: &str) -> Procedure {
-    let (link, set) = (LinkId::new(octet(call, 1)), SetId::new(octet(call, 1)));
     match word(call, 0) {
-        "changeover" => Procedure::Changeover(link),
-        "time" => Procedure::Time(link),
+        "changeover" => Procedure::Changeover(LinkId::new(number(call, 1))),
+        "time" => Procedure::Time(LinkId::new(number(call, 1))),
         "reroute" => Procedure::Reroute(number(call, 1)),
-        _ => Procedure::Code(set, octet(call, 2)),
+        _ => Procedure::Code(SetId::new(number(call, 1)), number(call, 2)),
     }
 }

@@ -9,9 +9,9 @@
 ghost use Rattle.std.specs.Prelude.{◌≤◌, length};
 ghost use Rattle.signalling_types.specs.declared.limits.TheConstants.Limits;
 
-use super::{number, octet};
+use super::PARTING;
 use crate::said::Said;
-use crate::words::word;
+use crate::words::{number, word};
 use crate::{Rows, print_rows};
 use arrayvec::ArrayVec;
 use node_links::NodeLinks;
@@ -32,12 +32,23 @@ struct Network {
     told: Told,
 }
 
-/// A destination that both sets lead to.
-fn destination(code: u32, joined: bool) -> DestinationRow {
-    let mut sets = ArrayVec::new();
-    sets.push(SetId::new(0));
-    sets.push(SetId::new(1));
-    DestinationRow::new(PointCode::of_low_bits(code), sets, joined)
+/// Prints the rows, each with what it says.
+pub(crate) fn print<R: Print + AllocGlobal>(rt: &R, text: &str) -> io::Result<()> {
+    let links = links(rt.alloc())?;
+    if links.len() > usize::from(LINKS) {
+        return Ok(());
+    }
+    let mut network = network_of(rt.alloc(), links.as_slice())?;
+    print_rows(rt, &mut network, text)
+}
+
+/// The links of two sets.
+fn links(alloc: Global) -> Result<Vec<LinkRow>, AllocError> {
+    let mut links = Vec::new(alloc);
+    for code in 0..LINKS {
+        links.push(LinkRow::new("l", SetId::new(code / 16), code % 16, None))?;
+    }
+    Ok(links)
 }
 
 /// A node with these links.
@@ -56,23 +67,45 @@ fn network_of(alloc: Global, links: &[LinkRow]) -> Result<Network, AllocError>
     })
 }
 
-/// The links of two sets.
-fn links(alloc: Global) -> Result<Vec<LinkRow>, AllocError> {
-    let mut links = Vec::new(alloc);
-    for code in 0..LINKS {
-        links.push(LinkRow::new("l", SetId::new(code / 16), code % 16, None))?;
-    }
-    Ok(links)
+/// A destination that both sets lead to.
+fn destination(code: u32, joined: bool) -> DestinationRow {
+    let mut sets = ArrayVec::new();
+    sets.push(SetId::new(0));
+    sets.push(SetId::new(1));
+    DestinationRow::new(PointCode::of_low_bits(code), sets, joined)
 }
 
-/// Prints the rows, each with what it says.
-pub(crate) fn print<R: Print + AllocGlobal>(rt: &R, text: &str) -> io::Result<()> {
-    let links = links(rt.alloc())?;
-    if links.len() > usize::from(LINKS) {
-        return Ok(());
+impl Rows for Network {
+    const PARTING: &'static str = PARTING;
+
+    fn say(&mut self, said: &mut Said, call: &str) {
+        let Network {
+            routes,
+            links,
+            told,
+        } = self;
+        let destination = number(call, 1);
+        let (first, second) = (SetId::new(number(call, 1)), SetId::new(number(call, 2)));
+        match word(call, 0) {
+            "set" => routes.set_link(LinkId::new(number(call, 1)), word(call, 2) == "up"),
+            "rise" => rise(routes, number(call, 1)),
+            "reset" => routes.reset_statuses(first),
+            "prohibit" => routes.set_status(destination, second, RouteStatus::Prohibited),
+            "status" => {
+                let status = name_of(routes.facts().status_of(destination, second));
+                said.say(format_args!("status {status}"));
+            }
+            "sets" => {
+                let count = routes.facts().sets_of(destination).len();
+                said.say(format_args!("sets {count}"));
+            }
+            "fail" => {
+                let count = fail(routes, destination, Sls::of_low_bits(number(call, 2)));
+                said.say(format_args!("failed {count}"));
+            }
+            _ => untold(said, told, links, first, number(call, 2)),
+        }
     }
-    let mut network = network_of(rt.alloc(), links.as_slice())?;
-    print_rows(rt, &mut network, text)
 }
 
 /// This many links come into service.
@@ -97,15 +130,14 @@ fn fail(routes: &mut Routes, destination: usize, sls: Sls) -> usize {
 fn untold(said: &mut Said, told: &mut Told, links: &NodeLinks, set: SetId, destination: usize) {
     told.tell(set, destination, RouteStatus::Prohibited);
     told.reset(set);
-    said.say(
-        match told.received(links, set, destination, RouteStatus::Prohibited) {
-            Heard::Ignored => "ignored",
-            Heard::Unchanged => "unchanged",
-            Heard::Changed => "changed",
-        },
-    );
-    said.name("owed", name_of(told.owed(links, set, destination)));
-    said.name("own", told.is_own_point(set, destination));
+    let heard = match told.received(links, set, destination, RouteStatus::Prohibited) {
+        Heard::Ignored => "ignored",
+        Heard::Unchanged => "unchanged",
+        Heard::Changed => "changed",
+    };
+    let owed = name_of(told.owed(links, set, destination));
+    let is_own = told.is_own_point(set, destination);
+    said.say(format_args!("{heard} owed {owed} own {is_own}"));
 }
 
 /// The name of a status, if there is one.
@@ -113,41 +145,5 @@ fn name_of(status: Option<RouteStatus>) -> &'static str {
     match status {
         Some(status) => status.name(),
         None => "none",
-    }
-}
-
-impl Rows for Network {
-    fn say(&mut self, said: &mut Said, row: &str) {
-        for call in row.split("; ") {
-            self.call(said, call);
-        }
-    }
-}
-
-impl Network {
-    /// Makes a call, and says the answer.
-    fn call(&mut self, said: &mut Said, call: &str) {
-        let (first, second) = (number(call, 1), number(call, 2));
-        let (low, high) = (octet(call, 1), octet(call, 2));
-        match word(call, 0) {
-            "set" => self
-                .routes
-                .set_link(LinkId::new(low), word(call, 2) == "up"),
-            "rise" => rise(&mut self.routes, low),
-            "reset" => self.routes.reset_statuses(SetId::new(low)),
-            "prohibit" => self
-                .routes
-                .set_status(first, SetId::new(high), RouteStatus::Prohibited),
-            "status" => {
-                let status = self.routes.facts().status_of(first, SetId::new(high));
-                said.name("status", name_of(status));
-            }
-            "sets" => said.name("sets", self.routes.facts().sets_of(first).len()),
-            "fail" => {
-                let sls = Sls::of_low_bits(u32::from(high));
-                said.name("failed", fail(&mut self.routes, first, sls));
-            }
-            _ => untold(said, &mut self.told, &self.links, SetId::new(low), second),
-        }
     }
 }

@@ -14,9 +14,9 @@
 ghost use Rattle.std.specs.Prelude.{◌≤◌};
 ghost use Rattle.signalling_types.specs.declared.limits.TheConstants.Limits;
 
-use super::number;
+use super::PARTING;
 use crate::said::Said;
-use crate::words::word;
+use crate::words::{number, word};
 use crate::{Rows, print_rows};
 use cell_pool::{CellPool, Lanes, UserMessages};
 use changeover::{complete, count_in_doubt};
@@ -48,43 +48,84 @@ pub(crate) fn print<R: Print + AllocGlobal>(rt: &R, text: &str, pool: usize) -> 
 }
 
 impl<L: Lanes> Rows for Link<L> {
-    fn say(&mut self, said: &mut Said, row: &str) {
-        for call in row.split("; ") {
-            make(&mut self.lanes, &mut self.sequence, said, call);
+    const PARTING: &'static str = PARTING;
+
+    fn say(&mut self, said: &mut Said, call: &str) {
+        let Link { lanes, sequence } = self;
+        if lanes.lanes() != 2 {
+            return;
+        }
+        match word(call, 0) {
+            "start" => *sequence = Sequence::starting_at(number_24(call)),
+            "empty" => sequence.empty(),
+            "send" => send(lanes, sequence, said, call),
+            "goes" => {
+                let goes = sequence.next_to_send(lanes, 0, number(call, 1)).is_some();
+                said.say(format_args!("goes {goes}"));
+            }
+            "numbers" => said.say(format_args!(
+                "sent {} accepted {} unconfirmed {}",
+                sequence.last_sent().value(),
+                sequence.last_accepted().value(),
+                sequence.outstanding()
+            )),
+            "retrieve" => {
+                said.say("retrieved");
+                said.or_none(sequence.retrieve(number_24(call)));
+            }
+            "complete" => {
+                said.say("doubt");
+                said.or_none(count_in_doubt(sequence, Some(number_24(call))));
+                complete(lanes, 0, 1, sequence, Some(number_24(call)));
+                said.say(format_args!("unconfirmed {}", sequence.outstanding()));
+            }
+            _ => make_of_store(lanes, said, call),
         }
     }
 }
 
-/// Makes a call of a link, and says the answer.
-fn make<L: Lanes>(lanes: &mut L, sequence: &mut Sequence, said: &mut Said, call: &str) {
-    if lanes.lanes() != 2 {
-        return;
-    }
-    match word(call, 0) {
-        "start" => *sequence = Sequence::starting_at(number_24(call, 1)),
-        "empty" => sequence.empty(),
-        "send" => send(lanes, sequence, said, call),
-        "goes" => said.name("goes", goes(lanes, sequence, number(call, 1))),
-        "numbers" => say_numbers(sequence, said),
-        "retrieve" => say_count(said, "retrieved", sequence.retrieve(number_24(call, 1))),
-        "complete" => complete_with(lanes, sequence, said, number_24(call, 1)),
-        _ => make_of_store(lanes, said, call),
+/// The number of a call; 0 if it says none.
+fn number_24(call: &str) -> Number24 {
+    Number24::new(number(call, 1)).unwrap_or(Number24::zero())
+}
+
+/// Sends as many messages as the call says, and notes the place of each, so that the next one is found at once. Says
+/// which isn't sent, if one isn't.
+fn send<L: Lanes>(lanes: &mut L, sequence: &mut Sequence, said: &mut Said, call: &str) {
+    for sent in 0..number::<usize>(call, 1) {
+        let is_there = lanes.lanes() > 0;
+        if !is_there || sequence.next_to_send(lanes, 0, number(call, 2)).is_none() {
+            return said.say(format_args!("unsent {sent}"));
+        }
+        lanes.note(0, sequence.outstanding());
     }
 }
 
 /// Makes a call of a store, and says the answer.
 fn make_of_store<L: Lanes>(lanes: &mut L, said: &mut Said, call: &str) {
-    let (list, second) = (number(call, 1), number(call, 2));
+    let list = number(call, 1);
     match word(call, 0) {
         "lists" => say_lists(lanes, said),
-        "managements" => said.name("managements", lanes.managements()),
+        "managements" => said.say(format_args!("managements {}", lanes.managements())),
         _ if list >= lanes.lanes() => said.say("no list"),
-        "put" => put(lanes, list, word(call, 2), said),
-        "fill" => fill(lanes, list, word(call, 2), number(call, 3), said),
-        "count" => said.name("count", lanes.count(list)),
-        "drop" => lanes.drop_front(list, second),
+        "put" => put(lanes, list, word(call, 2), 1, said),
+        "fill" => put(lanes, list, word(call, 2), number(call, 3), said),
+        "count" => said.say(format_args!("count {}", lanes.count(list))),
+        "drop" => lanes.drop_front(list, number(call, 2)),
         "turn" => lanes.move_first(list, list),
-        way => move_lists(lanes, way, list, second, said),
+        way => move_lists(lanes, way, list, number(call, 2), said),
+    }
+}
+
+/// Puts the messages of digits at the end of a list, this many times. Says for what cause each is refused, if it is.
+fn put<L: Lanes>(lanes: &mut L, list: usize, digits: &str, times: usize, said: &mut Said) {
+    for _ in 0..times {
+        for digit in digits.bytes() {
+            let cause = push(lanes, list, digit);
+            if !cause.is_empty() {
+                said.say(cause);
+            }
+        }
     }
 }
 
@@ -97,23 +138,6 @@ fn push<L: Lanes>(lanes: &mut L, list: usize, digit: u8) -> &'static str {
             Err(cause) => cause.name(),
         },
         _ => "no message",
-    }
-}
-
-/// Puts the message of each digit at the end of a list. Says for what cause each is refused, if it is.
-fn put<L: Lanes>(lanes: &mut L, list: usize, digits: &str, said: &mut Said) {
-    for digit in digits.bytes() {
-        let cause = push(lanes, list, digit);
-        if !cause.is_empty() {
-            said.say(cause);
-        }
-    }
-}
-
-/// Puts the message of a digit at the end of a list this many times.
-fn fill<L: Lanes>(lanes: &mut L, list: usize, digit: &str, times: usize, said: &mut Said) {
-    for _ in 0..times {
-        put(lanes, list, digit, said);
     }
 }
 
@@ -150,56 +174,4 @@ fn move_lists<L: Lanes>(lanes: &mut L, way: &str, from: usize, to: usize, said: 
         "splice_where" => lanes.splice_where(from, to, &UserMessages),
         _ => said.say("no call"),
     }
-}
-
-/// The number of a word of a call; 0 if it says none.
-fn number_24(call: &str, place: usize) -> Number24 {
-    Number24::new(word(call, place).parse().unwrap_or(0)).unwrap_or(Number24::zero())
-}
-
-/// Whether a window lets a message go, which counts as sent then.
-fn goes<L: Lanes>(lanes: &L, sequence: &mut Sequence, window: usize) -> bool {
-    lanes.lanes() > 0 && sequence.next_to_send(lanes, 0, window).is_some()
-}
-
-/// Sends as many messages as the call says, and notes the place of each, so that the next one is found at once. Says
-/// which isn't sent, if one isn't.
-fn send<L: Lanes>(lanes: &mut L, sequence: &mut Sequence, said: &mut Said, call: &str) {
-    for sent in 0..number(call, 1) {
-        if lanes.lanes() == 0 || !goes(lanes, sequence, number(call, 2)) {
-            return said.name("unsent", sent);
-        }
-        lanes.note(0, sequence.outstanding());
-    }
-}
-
-/// Says the last number sent, the last accepted, and how many aren't confirmed.
-fn say_numbers(sequence: &Sequence, said: &mut Said) {
-    said.name("sent", sequence.last_sent().value());
-    said.name("accepted", sequence.last_accepted().value());
-    said.name("unconfirmed", sequence.outstanding());
-}
-
-/// Says a name and a count, if there is one.
-fn say_count(said: &mut Said, name: &str, count: Option<usize>) {
-    match count {
-        Some(count) => said.name(name, count),
-        None => said.name(name, "none"),
-    }
-}
-
-/// Completes a changeover with a number, and says how many messages it leaves in doubt, and how many aren't confirmed
-/// then.
-fn complete_with<L: Lanes>(
-    lanes: &mut L,
-    sequence: &mut Sequence,
-    said: &mut Said,
-    number: Number24,
-) {
-    if lanes.lanes() != 2 {
-        return;
-    }
-    say_count(said, "doubt", count_in_doubt(sequence, Some(number)));
-    complete(lanes, 0, 1, sequence, Some(number));
-    said.name("unconfirmed", sequence.outstanding());
 }

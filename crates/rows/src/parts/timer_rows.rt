@@ -3,8 +3,9 @@
 //! `set TICKS NAME`, `start TICKS NAME` unless it runs, `clear 0 NAME`, `tick COUNT`; `due`: the next that is due;
 //! `absent TICKS NAME`: whether it runs once it was set and started, and is then stopped.
 
+use super::PARTING;
 use crate::said::Said;
-use crate::words::word;
+use crate::words::{number, word};
 use crate::{Rows, print_rows};
 use signalling_types::{LinkId, SetId};
 use std::io;
@@ -23,24 +24,19 @@ pub(crate) fn print<R: Print + AllocGlobal>(rt: &R, text: &str) -> io::Result<()
 }
 
 impl Rows for Timers {
-    fn say(&mut self, said: &mut Said, row: &str) {
-        for call in row.split("; ") {
-            make(self, said, call);
-        }
-    }
-}
+    const PARTING: &'static str = PARTING;
 
-/// Makes a call, and says the answer.
-fn make(timers: &mut Timers, said: &mut Said, call: &str) {
-    let ticks = word(call, 1).parse().unwrap_or(0);
-    match (word(call, 0), named(call)) {
-        ("tick", _) => pass(timers, ticks),
-        ("due", _) => say_due(said, timers.next_due()),
-        ("set", Some(name)) => timers.set(name, ticks),
-        ("start", Some(name)) => timers.start_unless_running(name, ticks),
-        ("clear", Some(name)) => timers.clear(name),
-        ("absent", _) => said.name("runs", runs(timers, call)),
-        _ => said.say("no call"),
+    fn say(&mut self, said: &mut Said, call: &str) {
+        match word(call, 0) {
+            "tick" => pass(self, number(call, 1)),
+            "due" => say_due(said, self.next_due()),
+            "absent" => {
+                for verb in ["set", "start", "runs", "clear"] {
+                    make(self, said, verb, call);
+                }
+            }
+            verb => make(self, said, verb, call),
+        }
     }
 }
 
@@ -51,32 +47,23 @@ fn pass(timers: &mut Timers, ticks: u16) {
     }
 }
 
-/// Whether the timer of a call runs once it was set and started. It is stopped then. A name is used up if it is handed
-/// over, so it is read each time.
-fn runs(timers: &mut Timers, call: &str) -> bool {
-    if let Some(name) = named(call) {
-        timers.set(name, 1);
-    }
-    if let Some(name) = named(call) {
-        timers.start_unless_running(name, 1);
-    }
-    let runs = match named(call) {
-        Some(name) => timers.is_running(name),
-        None => true,
+/// Makes the call of a verb with the timer that a call names.
+fn make(timers: &mut Timers, said: &mut Said, verb: &str, call: &str) {
+    let Some(name) = named(call) else {
+        return said.say("no timer");
     };
-    if let Some(name) = named(call) {
-        timers.clear(name);
+    match verb {
+        "set" => timers.set(name, number(call, 1)),
+        "start" => timers.start_unless_running(name, number(call, 1)),
+        "clear" => timers.clear(name),
+        _ => said.say(format_args!("runs {}", timers.is_running(name))),
     }
-    runs
 }
 
 /// The timer of a call, if it names one.
 fn named(call: &str) -> Option<TimerName> {
-    let first: u16 = word(call, 3).parse().unwrap_or(0);
-    let second: u16 = word(call, 4).parse().unwrap_or(0);
-    let [low, _] = first.to_le_bytes();
-    let [code, _] = second.to_le_bytes();
-    let (link, set) = (LinkId::new(low), SetId::new(low));
+    let (link, set) = (LinkId::new(number(call, 3)), SetId::new(number(call, 3)));
+    let (destination, code) = (number(call, 4), number(call, 4));
     Some(match word(call, 2) {
         "L1" => TimerName::L1(link),
         "L2" => TimerName::L2(link),
@@ -88,9 +75,9 @@ fn named(call: &str) -> Option<TimerName> {
         "T2" => TimerName::T2(link),
         "T3" => TimerName::T3(link),
         "T4" => TimerName::T4(set, code),
-        "T6" => TimerName::T6(first),
-        "T8" => TimerName::T8(set, second),
-        "T10" => TimerName::T10(set, second),
+        "T6" => TimerName::T6(number(call, 3)),
+        "T8" => TimerName::T8(set, destination),
+        "T10" => TimerName::T10(set, destination),
         "Slt1" => TimerName::Slt1(link),
         "Slt2" => TimerName::Slt2(link),
         _ => return None,
@@ -99,43 +86,33 @@ fn named(call: &str) -> Option<TimerName> {
 
 /// Says the name of the timer that is due, if one is.
 fn say_due(said: &mut Said, due: Option<TimerName>) {
-    match due {
-        Some(name) => say_name(said, &name),
-        None => said.say("none"),
+    let Some(name) = due else {
+        return said.say("none");
+    };
+    let (kind, first, second) = words_of(&name);
+    said.say(format_args!("{kind} {first}"));
+    if let Some(second) = second {
+        said.say(second);
     }
 }
 
-/// Says the name of a timer.
-fn say_name(said: &mut Said, name: &TimerName) {
+/// The words of a timer's name: its kind, and the numbers of what it is about.
+fn words_of(name: &TimerName) -> (&'static str, usize, Option<u16>) {
     match name {
-        TimerName::T4(set, code) => say_pair(said, "T4", set.index(), u16::from(*code)),
-        TimerName::T6(destination) => said.name("T6", *destination),
-        TimerName::T8(set, destination) => say_pair(said, "T8", set.index(), *destination),
-        TimerName::T10(set, destination) => say_pair(said, "T10", set.index(), *destination),
-        name => say_link_timer(said, name),
-    }
-}
-
-/// Says the name of a timer of a set.
-fn say_pair(said: &mut Said, name: &str, set: usize, second: u16) {
-    said.name(name, set);
-    said.say(second);
-}
-
-/// Says the name of a timer of a link.
-fn say_link_timer(said: &mut Said, name: &TimerName) {
-    match name {
-        TimerName::L1(link) => said.name("L1", link.index()),
-        TimerName::L2(link) => said.name("L2", link.index()),
-        TimerName::L3(link) => said.name("L3", link.index()),
-        TimerName::L4(link) => said.name("L4", link.index()),
-        TimerName::L6(link) => said.name("L6", link.index()),
-        TimerName::L7(link) => said.name("L7", link.index()),
-        TimerName::T1(link) => said.name("T1", link.index()),
-        TimerName::T2(link) => said.name("T2", link.index()),
-        TimerName::T3(link) => said.name("T3", link.index()),
-        TimerName::Slt1(link) => said.name("Slt1", link.index()),
-        TimerName::Slt2(link) => said.name("Slt2", link.index()),
-        _ => {}
+        TimerName::L1(link) => ("L1", link.index(), None),
+        TimerName::L2(link) => ("L2", link.index(), None),
+        TimerName::L3(link) => ("L3", link.index(), None),
+        TimerName::L4(link) => ("L4", link.index(), None),
+        TimerName::L6(link) => ("L6", link.index(), None),
+        TimerName::L7(link) => ("L7", link.index(), None),
+        TimerName::T1(link) => ("T1", link.index(), None),
+        TimerName::T2(link) => ("T2", link.index(), None),
+        TimerName::T3(link) => ("T3", link.index(), None),
+        TimerName::T4(set, code) => ("T4", set.index(), Some(u16::from(*code))),
+        TimerName::T6(destination) => ("T6", usize::from(*destination), None),
+        TimerName::T8(set, destination) => ("T8", set.index(), Some(*destination)),
+        TimerName::T10(set, destination) => ("T10", set.index(), Some(*destination)),
+        TimerName::Slt1(link) => ("Slt1", link.index(), None),
+        TimerName::Slt2(link) => ("Slt2", link.index(), None),
     }
 }
