@@ -5,16 +5,17 @@ use Rattle.std.specs.Prelude.{IfOk, String, string_bytes}
 use Rattle.std.specs.Option.{option_map}
 use Rattle.settings_rows.specs.declared.key.Key.{Key}
 use Rattle.settings_file.specs.Sentences as settings
-use Rattle.settings_file.specs.Sentences.{KeyPlace, IsAboutPlace, IsAbout}
+use Rattle.settings_file.specs.Places.{KeyPlace, key_place}
+use Rattle.settings_file.specs.Sentences.{IsAboutPlace, IsAbout}
 use Rattle.settings_file.specs.declared.serve.fault.ServeFault.TheVariants as kind
 use Rattle.settings_file.specs.ServeSentences.{Explains, place_of}
 
 -- what is about a key is about its place
-at-place : (file sentence : List ℕ) (key : Option Key) (p : KeyPlace) → option_map settings.key_place key ≡ Some p
+at-place : (file sentence : List ℕ) (key : Option Key) (p : KeyPlace) → option_map key_place key ≡ Some p
     → ((k : Key) → key ≡ Some k → IsAbout file k sentence) → IsAboutPlace file p sentence
 at-place file sentence (Some key) p is about =
     let Q : KeyPlace → Type 0 = λ q. IsAboutPlace file q sentence in
-    subst Q (same_Some (settings.key_place key) p is) (about key refl)
+    subst Q (same_Some (key_place key) p is) (about key refl)
 at-place file sentence None p is about = absurd (none-some p is)
 
 pub explains : (file sentence : List ℕ) (found : SettingsFault) (why : ServeFault) → why ≡ kind.Settings found

@@ -1,19 +1,20 @@
 -- Where a console is: what the text of its key says.
 use Rattle.std.specs.Prelude.{ℕ, Bool, false, List, [], ◌∷◌, ◌&&◌, not, nat_eq, nat_le, length, Option, Some, None, Result, Ok, Err}
-use Rattle.std.specs.Prelude.{if◌then◌else◌, string_bytes, codes}
+use Rattle.std.specs.Prelude.{if◌then◌else◌, string_bytes}
 use Rattle.std.specs.List.{list_all}
 use Rattle.std.specs.declared.net.socket_addr.SocketAddr.{SocketAddr}
-use Rattle.toml.specs.Data.{Data, Members, get_member}
+use Rattle.toml.specs.Data.{Data, Members}
 use Rattle.settings_file.specs.declared.serve.key.ServeKey.TheVariants as key
 use Rattle.settings_file.specs.declared.serve.fault.ServeFault.{ServeFault}
-use Rattle.settings_file.specs.declared.serve.fault.ServeFault.TheVariants.{Range}
+use Rattle.settings_file.specs.declared.serve.fault.ServeFault.TheVariants.{Kind, Range}
 use Rattle.settings_file.specs.declared.serve.console_place.ConsolePlace.{ConsolePlace}
 use Rattle.settings_file.specs.declared.serve.console_place.ConsolePlace.TheVariants as lent
 use Rattle.settings_file.specs.declared.serve.console_place.KeptPlace.{KeptPlace}
 use Rattle.settings_file.specs.declared.serve.console_place.KeptPlace.TheVariants as kept
 use Rattle.settings_file.specs.Addresses.{Spelling}
 use Rattle.settings_file.specs.Keyed.{with_port, guarded}
-use Rattle.settings_file.specs.ServeShapes.{and_then, text_in}
+use Rattle.settings_file.specs.ServeKeys.{found_at}
+use Rattle.settings_file.specs.Shapes.{and_then, text_in}
 
 -- an address, over TCP; or the path of a Unix socket
 pub data Place : Type 0 where
@@ -63,7 +64,7 @@ place_in s opened text = if is_path text then unix_place text else tcp_place s o
 abbrev pub console_in : Spelling → (opened : Bool) → Option Data → Result (Option Place) ServeFault
 console_in s opened None = Ok None
 console_in s opened (Some d) =
-    and_then (text_in key.Console d) (λ text. and_then (place_in s opened text) (λ place. Ok (Some place)))
+    and_then (text_in (Kind key.Console) d) (λ text. and_then (place_in s opened text) (λ place. Ok (Some place)))
 
 unfoldable pub console_at : Spelling → (opened : Bool) → Members → Result (Option Place) ServeFault
-console_at s opened t = console_in s opened (get_member (codes "console") t)
+console_at s opened t = console_in s opened (found_at key.Console t)

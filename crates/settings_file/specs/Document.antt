@@ -1,9 +1,8 @@
 -- What a document says of settings. Its keys are read in their order, and the first fault among them is the
 -- document's; keys of other names are ignored.
-use Rattle.std.specs.Prelude.{ℤ, Bool, ◌&&◌, ◌||◌, Option, Some, None, is_some, Result, Ok, codes}
+use Rattle.std.specs.Prelude.{ℤ, Bool, ◌&&◌, ◌||◌, Option, Some, None, is_some, Result, Ok}
 use Rattle.std.specs.Prelude.{if◌then◌else◌}
-use Rattle.toml.specs.Data.{Members, get_member}
-use Rattle.settings_file.specs.TimerNames.{timer_name}
+use Rattle.toml.specs.Data.{Members}
 use Rattle.settings_rows.specs.declared.draft.TimersDraft.{TimersDraft}
 use Rattle.settings_rows.specs.declared.draft.LinkTestsDraft.{LinkTestsDraft}
 use Rattle.settings_rows.specs.declared.key.Key.TheVariants as key
@@ -11,26 +10,27 @@ use Rattle.settings_rows.specs.declared.key.TimerKey.{TimerKey}
 use Rattle.settings_rows.specs.declared.key.TimerKey.TheVariants.{L1, L2, L3, L4, L6, L7, T1, T2, T3, T4, T6, T8, T10}
 use Rattle.settings_rows.specs.declared.key.TimerKey.TheVariants.{Slt1, Slt2, L4e, Sst}
 use Rattle.settings_file.specs.declared.fault.SettingsFault.{SettingsFault}
+use Rattle.settings_file.specs.declared.fault.SettingsFault.TheVariants.{Kind}
 use Rattle.settings_file.specs.declared.document.Numbers.{Numbers}
 use Rattle.settings_file.specs.declared.document.Services.{Services}
 use Rattle.settings_file.specs.Versions.{has_joined, has_extensions, has_additions}
-use Rattle.settings_file.specs.Shapes.{and_then, value_at, table_in, integer_at, optional_integer_at, integers_at}
-use Rattle.settings_file.specs.Shapes.{truth_at}
+use Rattle.settings_file.specs.Shapes.{and_then, table_in}
+use Rattle.settings_file.specs.NodeKeys.{found_at, required_at, integer_at, optional_integer_at, integers_at, truth_at}
 use Rattle.settings_file.specs.Written.{Written}
 use Rattle.settings_file.specs.Entries.{sets_at, links_at, destinations_at, titles_at}
 
 -- how many ticks a timer runs
 unfoldable pub ticks_at : TimerKey → Members → Result ℤ SettingsFault
-ticks_at timer t = integer_at (timer_name timer) (key.Timer timer) t
+ticks_at timer t = integer_at (key.Timer timer) t
 
 -- the same of a timer that may be left out, in a file whose version has its key, or doesn't have it: there it is
 -- ignored
 unfoldable pub optional_ticks_at : (has_keys : Bool) → TimerKey → Members → Result (Option ℤ) SettingsFault
-optional_ticks_at has_keys timer t = optional_integer_at has_keys (timer_name timer) (key.Timer timer) t
+optional_ticks_at has_keys timer t = optional_integer_at has_keys (key.Timer timer) t
 
 -- whether a timer has a key in the table
 abbrev pub has_timer : TimerKey → Members → Bool
-has_timer timer t = is_some (get_member (timer_name timer) t)
+has_timer timer t = is_some (found_at (key.Timer timer) t)
 
 -- the timers of link tests: both, or neither
 unfoldable pub link_tests_at : (has_keys : Bool) → Members → Result (Option LinkTestsDraft) SettingsFault
@@ -82,16 +82,16 @@ timers_in has_keys t =
 -- the table of timers
 unfoldable pub timers_at : (has_keys : Bool) → Members → Result TimersDraft SettingsFault
 timers_at has_keys t =
-    and_then (value_at (codes "timers") key.Timers t) (λ d. and_then (table_in key.Timers d) (timers_in has_keys))
+    and_then (required_at key.Timers t) (λ d. and_then (table_in (Kind key.Timers) d) (timers_in has_keys))
 
 -- the numbers that a file begins with
 unfoldable pub numbers_at : Members → Result Numbers SettingsFault
 numbers_at t =
-    and_then (integer_at (codes "version") key.Version t) (λ version.
-    and_then (integer_at (codes "own") key.Own t) (λ own.
-    and_then (integer_at (codes "network") key.Network t) (λ network.
-    and_then (integer_at (codes "window") key.Window t) (λ window.
-    and_then (integer_at (codes "pool") key.Pool t) (λ pool.
+    and_then (integer_at key.Version t) (λ version.
+    and_then (integer_at key.Own t) (λ own.
+    and_then (integer_at key.Network t) (λ network.
+    and_then (integer_at key.Window t) (λ window.
+    and_then (integer_at key.Pool t) (λ pool.
     Ok (record { version = version; own = own; network = network; window = window; pool = pool }))))))
 
 -- what a file asks for, as far as its version has these keys: that extended unitdata are relayed, that a test of a
@@ -99,12 +99,12 @@ numbers_at t =
 -- processors, and that they send Out of Service before Alignment; and that orders to change over go out by any route
 unfoldable pub services_at : (has_extensions has_additions : Bool) → Members → Result Services SettingsFault
 services_at extensions additions t =
-    and_then (truth_at extensions (codes "extended_unitdata") key.ExtendedUnitdata t) (λ extended_unitdata.
-    and_then (truth_at extensions (codes "subsystem_tests") key.SubsystemTests t) (λ subsystem_tests.
-    and_then (truth_at extensions (codes "user_part_unavailable") key.UserPartUnavailable t) (λ user_part_unavailable.
-    and_then (truth_at extensions (codes "processor_outage") key.ProcessorOutage t) (λ processor_outage.
-    and_then (truth_at extensions (codes "out_of_service") key.OutOfService t) (λ out_of_service.
-    and_then (truth_at additions (codes "changeover_by_any_route") key.ChangeoverByAnyRoute t) (λ by_any_route.
+    and_then (truth_at extensions key.ExtendedUnitdata t) (λ extended_unitdata.
+    and_then (truth_at extensions key.SubsystemTests t) (λ subsystem_tests.
+    and_then (truth_at extensions key.UserPartUnavailable t) (λ user_part_unavailable.
+    and_then (truth_at extensions key.ProcessorOutage t) (λ processor_outage.
+    and_then (truth_at extensions key.OutOfService t) (λ out_of_service.
+    and_then (truth_at additions key.ChangeoverByAnyRoute t) (λ by_any_route.
     Ok (record {
       extended_unitdata = extended_unitdata;
       subsystem_tests = subsystem_tests;
@@ -122,8 +122,8 @@ pub record Document : Type 0 where
 unfoldable pub document : Members → Result Document SettingsFault
 document t =
     and_then (numbers_at t) (λ numbers.
-    and_then (integers_at (codes "users") key.Users t) (λ users.
-    and_then (integers_at (codes "subsystems") key.Subsystems t) (λ subsystems.
+    and_then (integers_at key.Users t) (λ users.
+    and_then (integers_at key.Subsystems t) (λ subsystems.
     and_then (services_at (has_extensions numbers.version) (has_additions numbers.version) t) (λ services.
     and_then (timers_at (has_extensions numbers.version) t) (λ timers.
     and_then (sets_at t) (λ sets.

@@ -1,9 +1,9 @@
 -- How the association of each link comes about.
 use Rattle.std.specs.Prelude.{ℕ, Bool, true, false, ◌||◌, ◌&&◌, nat_eq, List, [], ◌∷◌, ◌++◌, length, Option, Some}
-use Rattle.std.specs.Prelude.{None, Result, Ok, Err, if◌then◌else◌, codes, is_some}
+use Rattle.std.specs.Prelude.{None, Result, Ok, Err, if◌then◌else◌, is_some}
 use Rattle.std.specs.List.{list_any, list_all}
 use Rattle.std.specs.declared.net.socket_addr.SocketAddr.{SocketAddr}
-use Rattle.toml.specs.Data.{Data, Members, get_member}
+use Rattle.toml.specs.Data.{Data, Members}
 use Rattle.settings_rows.specs.declared.key.Key.TheVariants as node
 use Rattle.settings_file.specs.declared.fault.SettingsFault.TheVariants as found
 use Rattle.settings_file.specs.declared.serve.server.Endpoint.{Endpoint}
@@ -16,7 +16,9 @@ use Rattle.settings_file.specs.declared.serve.key.ServeKey.TheVariants as key
 use Rattle.settings_file.specs.declared.serve.fault.ServeFault.{ServeFault}
 use Rattle.settings_file.specs.declared.serve.fault.ServeFault.TheVariants.{Settings, Missing, Range, Duplicate}
 use Rattle.settings_file.specs.Addresses.{Spelling, is_same, is_address_of, is_same_host, is_same_version}
-use Rattle.settings_file.specs.ServeShapes.{and_then, value_at, table_in, array_in}
+use Rattle.settings_file.specs.Places.{key_name as node_name}
+use Rattle.settings_file.specs.ServeKeys.{found_at}
+use Rattle.settings_file.specs.Shapes.{and_then, value_at, table_in, array_in}
 use Rattle.settings_file.specs.Keyed.{address_in, number_or, truth_or}
 
 -- an address is where a link listens
@@ -55,22 +57,22 @@ listening_in s own before i d =
     if is_taken own before a then Err (Duplicate (key.LinkListen i)) else Ok a)
 
 -- a key that a link may not have together with its other keys
-abbrev pub without : List ℕ → ServeKey → Members → Result Unit ServeFault
-without name key t = if is_some (get_member name t) then Err (Duplicate key) else Ok tt
+abbrev pub without : ServeKey → Members → Result Unit ServeFault
+without key t = if is_some (found_at key t) then Err (Duplicate key) else Ok tt
 
 -- link i has no key of a link over SCTP
 unfoldable pub without_sctp : ℕ → Members → Result Unit ServeFault
 without_sctp i t =
-    and_then (without (codes "remote") (key.LinkRemote i) t) (λ _.
-    and_then (without (codes "sctp_port") (key.LinkSctpPort i) t) (λ _.
-    and_then (without (codes "remote_sctp_port") (key.LinkRemoteSctpPort i) t) (λ _.
-    without (codes "tries") (key.LinkTries i) t)))
+    and_then (without (key.LinkRemote i) t) (λ _.
+    and_then (without (key.LinkSctpPort i) t) (λ _.
+    and_then (without (key.LinkRemoteSctpPort i) t) (λ _.
+    without (key.LinkTries i) t)))
 
 -- where a link listens, which has no other key of the three
 unfoldable pub listen_in : Spelling → OwnAddresses → List Endpoint → ℕ → Members → Data → Result SocketAddr ServeFault
 listen_in s own before i t d =
     and_then (listening_in s own before i d) (λ a.
-    and_then (without (codes "connect") (key.LinkConnect i) t) (λ _.
+    and_then (without (key.LinkConnect i) t) (λ _.
     and_then (without_sctp i t) (λ _.
     Ok a)))
 
@@ -87,12 +89,12 @@ reached None i a = Err (Missing key.Udp)
 reached (Some own) i a = if is_same_version own a then Ok a else Err (Range (key.LinkRemote i))
 
 -- an SCTP port, from 1 on: 3565, the registered port of M2PA, if the key is left out
-unfoldable pub sctp_port_at : List ℕ → ServeKey → Members → Result ℕ ServeFault
-sctp_port_at name key t = number_or key 1 65535 3565 (get_member name t)
+unfoldable pub sctp_port_at : ServeKey → Members → Result ℕ ServeFault
+sctp_port_at key t = number_or key 1 65535 3565 (found_at key t)
 
 -- whether an end sends INIT, which it does if the key is left out
 unfoldable pub tries_at : ℕ → Members → Result Bool ServeFault
-tries_at i t = truth_or (key.LinkTries i) true (get_member (codes "tries") t)
+tries_at i t = truth_or (key.LinkTries i) true (found_at (key.LinkTries i) t)
 
 -- no link before has the peer
 unfoldable pub apart : List Endpoint → ℕ → Remote → Result Unit ServeFault
@@ -103,8 +105,8 @@ unfoldable pub remote_in : Spelling → OwnAddresses → List Endpoint → ℕ �
 remote_in s own before i t d =
     and_then (address_in s (key.LinkRemote i) d) (λ a.
     and_then (reached own.udp i a) (λ address.
-    and_then (sctp_port_at (codes "sctp_port") (key.LinkSctpPort i) t) (λ own_port.
-    and_then (sctp_port_at (codes "remote_sctp_port") (key.LinkRemoteSctpPort i) t) (λ far_port.
+    and_then (sctp_port_at (key.LinkSctpPort i) t) (λ own_port.
+    and_then (sctp_port_at (key.LinkRemoteSctpPort i) t) (λ far_port.
     and_then (tries_at i t) (λ tries.
     let r : Remote = record { address = address; own_port = own_port; far_port = far_port; tries = tries } in
     and_then (apart before i r) (λ _.
@@ -121,8 +123,8 @@ endpoint_of s own before i t None None None = Err (Missing (key.LinkListen i))
 
 unfoldable pub endpoint_at : Spelling → OwnAddresses → List Endpoint → ℕ → Members → Result Endpoint ServeFault
 endpoint_at s own before i t =
-    endpoint_of s own before i t (get_member (codes "listen") t) (get_member (codes "connect") t)
-    (get_member (codes "remote") t)
+    endpoint_of s own before i t (found_at (key.LinkListen i) t) (found_at (key.LinkConnect i) t)
+    (found_at (key.LinkRemote i) t)
 
 -- how the association of the link after these comes about
 unfoldable pub endpoint_in : Spelling → OwnAddresses → List Endpoint → Data → Result Endpoint ServeFault
@@ -138,7 +140,7 @@ endpoints_behind s own before (d ∷ ds) =
 -- the links of a file; if it has none, the node's settings have that fault
 unfoldable pub links_at : Members → Result (List Data) ServeFault
 links_at t =
-    and_then (value_at (codes "link") (Settings (found.Missing node.Link)) t)
+    and_then (value_at (node_name node.Link) (Settings (found.Missing node.Link)) t)
     (array_in (Settings (found.Kind node.Link)))
 
 unfoldable pub endpoints_at : Spelling → OwnAddresses → Members → Result (List Endpoint) ServeFault

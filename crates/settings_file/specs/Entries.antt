@@ -2,72 +2,73 @@
 -- first fault among them is the entry's.
 use Rattle.std.specs.Prelude.{ℕ, ℤ, pos, Bool, List, [], Option, Some, None, Result, Ok, Err, codes}
 use Rattle.std.specs.Prelude.{if◌then◌else◌, bytes_eq, unwrap_or}
-use Rattle.toml.specs.Data.{Data, Members, get_member}
+use Rattle.toml.specs.Data.{Data, Members}
 use Rattle.settings_rows.specs.declared.key.Key.TheVariants as key
 use Rattle.settings_file.specs.declared.fault.SettingsFault.{SettingsFault}
-use Rattle.settings_file.specs.declared.fault.SettingsFault.TheVariants.{Missing}
-use Rattle.settings_file.specs.Shapes.{and_then, each, table_in, array_in, integer_in, truth_at}
-use Rattle.settings_file.specs.Shapes.{integer_at, optional_integer_at, optional_text_at, text_at, texts_at, entries_at}
+use Rattle.settings_file.specs.declared.fault.SettingsFault.TheVariants.{Missing, Kind}
+use Rattle.settings_file.specs.NodeKeys.{found_at, integer_at, optional_integer_at, truth_at, text_at, optional_text_at}
+use Rattle.settings_file.specs.NodeKeys.{texts_at, entries_at}
+use Rattle.settings_file.specs.Shapes.{and_then, each, table_in, array_in, integer_in}
 use Rattle.settings_file.specs.Written.{WrittenSet, WrittenLink, WrittenDestination, WrittenChange, WrittenTitle}
 
 -- a link set: its name and its adjacent point
 unfoldable pub set_in : ℕ → Data → Result WrittenSet SettingsFault
 set_in i d =
-    and_then (table_in (key.SetEntry i) d) (λ t.
-    and_then (text_at (codes "name") (key.SetName i) t) (λ name.
-    and_then (integer_at (codes "adjacent") (key.SetAdjacent i) t) (λ adjacent.
+    and_then (table_in (Kind (key.SetEntry i)) d) (λ t.
+    and_then (text_at (key.SetName i) t) (λ name.
+    and_then (integer_at (key.SetAdjacent i) t) (λ adjacent.
     Ok (record { name = name; adjacent = adjacent }))))
 
 -- a link: its name, the name of its set, its signalling link code and its share of the pool, which may be left out
 unfoldable pub link_entry_in : (has_share : Bool) → ℕ → Data → Result WrittenLink SettingsFault
 link_entry_in has_share i d =
-    and_then (table_in (key.LinkEntry i) d) (λ t.
-    and_then (text_at (codes "name") (key.LinkName i) t) (λ name.
-    and_then (text_at (codes "set") (key.LinkSet i) t) (λ set.
-    and_then (integer_at (codes "slc") (key.LinkSlc i) t) (λ slc.
-    and_then (optional_integer_at has_share (codes "share") (key.LinkShare i) t) (λ share.
+    and_then (table_in (Kind (key.LinkEntry i)) d) (λ t.
+    and_then (text_at (key.LinkName i) t) (λ name.
+    and_then (text_at (key.LinkSet i) t) (λ set.
+    and_then (integer_at (key.LinkSlc i) t) (λ slc.
+    and_then (optional_integer_at has_share (key.LinkShare i) t) (λ share.
     Ok (record { name = name; set = set; slc = slc; share = share }))))))
 
 -- a destination: its point, the names of the sets that lead to it, and whether the first two are joined
 unfoldable pub destination_in : (has_joined : Bool) → ℕ → Data → Result WrittenDestination SettingsFault
 destination_in has_joined i d =
-    and_then (table_in (key.DestinationEntry i) d) (λ t.
-    and_then (integer_at (codes "point") (key.DestinationPoint i) t) (λ point.
-    and_then (texts_at (codes "sets") (key.DestinationSets i) t) (λ sets.
-    and_then (truth_at has_joined (codes "joined") (key.DestinationJoined i) t) (λ joined.
+    and_then (table_in (Kind (key.DestinationEntry i)) d) (λ t.
+    and_then (integer_at (key.DestinationPoint i) t) (λ point.
+    and_then (texts_at (key.DestinationSets i) t) (λ sets.
+    and_then (truth_at has_joined (key.DestinationJoined i) t) (λ joined.
     Ok (record { point = point; sets = sets; joined = joined })))))
 
 -- a subsystem number, which a route by subsystem number needs
 abbrev pub ssn_in : ℕ → List ℕ → Option Data → Result (Option ℤ) SettingsFault
 ssn_in i route None = if bytes_eq route (codes "ssn") then Err (Missing (key.TitleSsn i)) else Ok None
-ssn_in i route (Some d) = and_then (integer_in (key.TitleSsn i) d) (λ n. Ok (Some n))
+ssn_in i route (Some d) = and_then (integer_in (Kind (key.TitleSsn i)) d) (λ n. Ok (Some n))
 
 unfoldable pub ssn_at : ℕ → List ℕ → Members → Result (Option ℤ) SettingsFault
-ssn_at i route t = ssn_in i route (get_member (codes "ssn") t)
+ssn_at i route t = ssn_in i route (found_at (key.TitleSsn i) t)
 
 -- how a translation row changes titles, if the version of the file has these keys: the numbering plan and the nature of
 -- address that they get, how many digits are taken off, and which are put on. Each may be left out, and is no change
 -- then
 unfoldable pub change_at : (has_keys : Bool) → ℕ → Members → Result WrittenChange SettingsFault
 change_at has_keys i t =
-    and_then (optional_integer_at has_keys (codes "new_plan") (key.TitleNewPlan i) t) (λ plan.
-    and_then (optional_integer_at has_keys (codes "new_nature") (key.TitleNewNature i) t) (λ nature.
-    and_then (optional_integer_at has_keys (codes "remove") (key.TitleRemove i) t) (λ removed.
-    and_then (optional_text_at has_keys (codes "add") (key.TitleAdd i) t) (λ added.
+    and_then (optional_integer_at has_keys (key.TitleNewPlan i) t) (λ plan.
+    and_then (optional_integer_at has_keys (key.TitleNewNature i) t) (λ nature.
+    and_then (optional_integer_at has_keys (key.TitleRemove i) t) (λ removed.
+    and_then (optional_text_at has_keys (key.TitleAdd i) t) (λ added.
     Ok (record { plan = plan; nature = nature; removed = unwrap_or removed (pos 0); added = added })))))
 
 -- a translation row, in a file whose version has the keys of backups and of changed titles, or doesn't have them: there
 -- they are ignored
 unfoldable pub title_in : (has_extensions : Bool) → ℕ → Data → Result WrittenTitle SettingsFault
 title_in has_extensions i d =
-    and_then (table_in (key.TitleEntry i) d) (λ t.
-    and_then (integer_at (codes "translation") (key.TitleTranslation i) t) (λ translation.
-    and_then (integer_at (codes "plan") (key.TitlePlan i) t) (λ plan.
-    and_then (integer_at (codes "nature") (key.TitleNature i) t) (λ nature.
-    and_then (text_at (codes "digits") (key.TitleDigits i) t) (λ digits.
-    and_then (integer_at (codes "point") (key.TitlePoint i) t) (λ point.
-    and_then (optional_integer_at has_extensions (codes "backup") (key.TitleBackup i) t) (λ backup.
-    and_then (text_at (codes "route") (key.TitleRoute i) t) (λ route.
+    and_then (table_in (Kind (key.TitleEntry i)) d) (λ t.
+    and_then (integer_at (key.TitleTranslation i) t) (λ translation.
+    and_then (integer_at (key.TitlePlan i) t) (λ plan.
+    and_then (integer_at (key.TitleNature i) t) (λ nature.
+    and_then (text_at (key.TitleDigits i) t) (λ digits.
+    and_then (integer_at (key.TitlePoint i) t) (λ point.
+    and_then (optional_integer_at has_extensions (key.TitleBackup i) t) (λ backup.
+    and_then (text_at (key.TitleRoute i) t) (λ route.
     and_then (ssn_at i route t) (λ ssn.
     and_then (change_at has_extensions i t) (λ change.
     Ok (record {
@@ -84,18 +85,18 @@ title_in has_extensions i d =
 
 -- the arrays of a file, of which only that of translation rows may be left out or empty
 unfoldable pub sets_at : Members → Result (List WrittenSet) SettingsFault
-sets_at t = and_then (entries_at (codes "set") key.Set t) (each set_in 0)
+sets_at t = and_then (entries_at key.Set t) (each set_in 0)
 
 unfoldable pub links_at : (has_share : Bool) → Members → Result (List WrittenLink) SettingsFault
-links_at has_share t = and_then (entries_at (codes "link") key.Link t) (each (link_entry_in has_share) 0)
+links_at has_share t = and_then (entries_at key.Link t) (each (link_entry_in has_share) 0)
 
 unfoldable pub destinations_at : (has_joined : Bool) → Members → Result (List WrittenDestination) SettingsFault
 destinations_at has_joined t =
-    and_then (entries_at (codes "destination") key.Destination t) (each (destination_in has_joined) 0)
+    and_then (entries_at key.Destination t) (each (destination_in has_joined) 0)
 
 abbrev pub titles_in : (has_extensions : Bool) → Option Data → Result (List WrittenTitle) SettingsFault
 titles_in has_extensions None = Ok []
-titles_in has_extensions (Some d) = and_then (array_in key.Title d) (each (title_in has_extensions) 0)
+titles_in has_extensions (Some d) = and_then (array_in (Kind key.Title) d) (each (title_in has_extensions) 0)
 
 unfoldable pub titles_at : (has_extensions : Bool) → Members → Result (List WrittenTitle) SettingsFault
-titles_at has_extensions t = titles_in has_extensions (get_member (codes "title") t)
+titles_at has_extensions t = titles_in has_extensions (found_at key.Title t)

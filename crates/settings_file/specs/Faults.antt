@@ -26,7 +26,7 @@ abbrev pub no_memory : SettingsFault
 no_memory = fault.Draft NoMemory
 
 -- what a call answers: what is said, which its value stands for
-abbrev pub Answers : {A B : Type 0} → (B → A) → Result A SettingsFault → Result B SettingsFault → Type 0
+abbrev pub Answers : {A B F : Type 0} → (B → A) → Result A F → Result B F → Type 0
 Answers value said (Ok b) = said ≡ Ok (value b)
 Answers value said (Err fault) = said ≡ Err fault
 

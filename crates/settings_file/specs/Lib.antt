@@ -1,7 +1,8 @@
 pub mod Versions
-pub mod TimerNames
 pub mod Faults
 pub mod Shapes
+pub mod Places
+pub mod NodeKeys
 pub mod Written
 pub mod Entries
 pub mod Document
@@ -14,7 +15,6 @@ pub mod Warnings
 pub mod ServeKeys
 pub mod ServeFaults
 pub mod ServeSentences
-pub mod ServeShapes
 pub mod Addresses
 pub mod Keyed
 pub mod Consoles

@@ -3,18 +3,12 @@ use Rattle.std.specs.Prelude.{◌≡◌, ℕ, List, [], ◌∷◌, ◌++◌, Opt
 use Rattle.std.specs.Fmt.{decimal}
 use Rattle.std.specs.Str.{IsUtf8}
 use Rattle.toml.specs.Parse.{parse_document}
-use Rattle.settings_rows.specs.Keys.{key_front, key_index, key_back}
 use Rattle.settings_rows.specs.declared.key.Key.{Key}
 use Rattle.settings_rows.specs.declared.key.Key.TheVariants.{Version}
 use Rattle.settings_rows.specs.declared.fault.DraftFault.TheVariants.{NoMemory, At}
 use Rattle.settings_file.specs.declared.fault.SettingsFault.{SettingsFault}
 use Rattle.settings_file.specs.declared.fault.SettingsFault.TheVariants as fault
-use Rattle.settings_file.specs.declared.key_rows.KeyRow.{KeyRow}
-
--- a key after a dot, or nothing
-abbrev pub behind_dot : List ℕ → List ℕ
-behind_dot [] = []
-behind_dot (octet ∷ rest) = codes "." ++ (octet ∷ rest)
+use Rattle.settings_file.specs.Places.{KeyPlace, key_place}
 
 -- a key after a colon, or nothing
 abbrev pub behind_colon : List ℕ → List ℕ
@@ -36,20 +30,6 @@ abbrev pub place_of : List ℕ → Option ℕ → Option (List ℕ) → List ℕ
 place_of front None entry_name behind = front
 place_of front (Some i) entry_name behind =
     front ++ (codes "[" ++ (decimal i ++ (codes "]" ++ (quoted entry_name ++ behind))))
-
--- where a key is in a file: the key; or an array, the index of an entry, and a dot and a key in it
-pub record KeyPlace : Type 0 where
-  pub front : List ℕ
-  pub entry : Option ℕ
-  pub back : List ℕ
-
--- where a key of settings is
-abbrev pub key_place : Key → KeyPlace
-key_place key = record { front = key_front key; entry = key_index key; back = key_back key }
-
--- the same of the row of a key
-abbrev pub row_place : KeyRow → KeyPlace
-row_place row = record { front = row.front.now; entry = row.entry; back = behind_dot row.name.now }
 
 -- how a place is written: `own`, `timers.l1`, `link[2]`, `link[2] "e2": slc`
 abbrev pub place_text : KeyPlace → Option (List ℕ) → List ℕ

@@ -22,12 +22,7 @@ abbrev pub fault_of : SettingsFault → ServeFault
 fault_of (found.Draft draft.NoMemory) = kind.NoMemory
 fault_of fault = kind.Settings fault
 
--- what a call answers: what is said, which its value stands for
-abbrev pub Answers : {A B : Type 0} → (B → A) → Result A ServeFault → Result B ServeFault → Type 0
-Answers value said (Ok b) = said ≡ Ok (value b)
-Answers value said (Err fault) = said ≡ Err fault
-
--- the same of a call that takes memory, which may run out
+-- what a call answers that takes memory, which may run out
 abbrev pub AnswersOrNoMemory : {A B : Type 0} → (B → A) → Result A ServeFault → Result B ServeFault → Type 0
 AnswersOrNoMemory value said (Ok b) = said ≡ Ok (value b)
 AnswersOrNoMemory value said (Err fault) = (fault ≡ kind.NoMemory) ⊎ (said ≡ Err fault)

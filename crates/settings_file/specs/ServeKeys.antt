@@ -1,6 +1,8 @@
 -- The keys of a server's settings, and how they are written.
 use Rattle.std.specs.Prelude.{ℕ, List, [], Option, Some, None, codes}
+use Rattle.toml.specs.Data.{Data, Members, get_member}
 use Rattle.settings_rows.specs.Keys.{path_of}
+use Rattle.settings_file.specs.Places.{KeyPlace, name_at}
 use Rattle.settings_file.specs.declared.serve.key.ServeKey.{ServeKey}
 use Rattle.settings_file.specs.declared.serve.key.ServeKey.TheVariants as key
 
@@ -49,6 +51,18 @@ key_back (key.LinkRemoteSctpPort i) = codes ".remote_sctp_port"
 key_back (key.LinkTries i) = codes ".tries"
 key_back other = []
 
+-- where a key of a server is: `serve.tick_ms`, or `listen` of a link
+abbrev pub key_place : ServeKey → KeyPlace
+key_place key = record { front = key_front key; entry = key_index key; back = key_back key }
+
 -- how a key is written: `serve.tick_ms`, `link[2].listen`
 abbrev pub key_path : ServeKey → List ℕ
 key_path key = path_of (key_front key) (key_index key) (key_back key)
+
+-- how a key is written in its table, or in its link
+unfoldable pub key_name : ServeKey → List ℕ
+key_name key = name_at (key_place key)
+
+-- the value of a key, if it is there
+abbrev pub found_at : ServeKey → Members → Option Data
+found_at key t = get_member (key_name key) t

@@ -1,7 +1,7 @@
 -- What is read of a server's settings from the text of a settings file.
-use Rattle.std.specs.Prelude.{◌≡◌, ◌⊎◌, ℕ, Bool, List, is_some, Result, Ok, Err, if◌then◌else◌, codes}
+use Rattle.std.specs.Prelude.{◌≡◌, ◌⊎◌, ℕ, Bool, List, is_some, Result, Ok, Err, if◌then◌else◌}
 use Rattle.std.specs.Option.{ok_or}
-use Rattle.toml.specs.Data.{Members, get_member}
+use Rattle.toml.specs.Data.{Members}
 use Rattle.toml.specs.Parse.{parse_document}
 use Rattle.settings_rows.specs.Configuration.{Configuration}
 use Rattle.settings_file.specs.Reading as settings
@@ -12,7 +12,8 @@ use Rattle.settings_file.specs.declared.serve.fault.ServeFault.{ServeFault}
 use Rattle.settings_file.specs.declared.serve.fault.ServeFault.TheVariants.{Settings, Missing, Kind}
 use Rattle.settings_file.specs.Addresses.{Spelling}
 use Rattle.settings_file.specs.ServeFaults.{fault_of}
-use Rattle.settings_file.specs.ServeShapes.{and_then, value_at, table_in}
+use Rattle.settings_file.specs.ServeKeys.{key_name, found_at}
+use Rattle.settings_file.specs.Shapes.{and_then, value_at, table_in}
 use Rattle.settings_file.specs.Keyed.{tick_ms_at, console_open_at, is_open, capture_at, points_at}
 use Rattle.settings_file.specs.Keyed.{udp_at, page_open_at, page_at}
 use Rattle.settings_file.specs.Consoles.{Place, address_of, console_at}
@@ -22,7 +23,7 @@ use Rattle.settings_file.specs.Served.{Served}
 
 -- the table `serve` of a file
 unfoldable pub serve_at : Members → Result Members ServeFault
-serve_at t = and_then (value_at (codes "serve") (Missing Serve) t) (table_in (Kind Serve))
+serve_at t = and_then (value_at (key_name Serve) (Missing Serve) t) (table_in (Kind Serve))
 
 -- what a file says of its server: the keys in this order, and the first fault among them is the file's
 unfoldable pub document : Spelling → Members → Result Served ServeFault
@@ -52,7 +53,7 @@ document s t =
 
 -- a file has a table for a server, or some other value there
 abbrev pub is_of_server : Members → Bool
-is_of_server t = is_some (get_member (codes "serve") t)
+is_of_server t = is_some (found_at Serve t)
 
 -- what a file of a server and one of none come to: the first fault of the server's settings, if they have any
 unfoldable pub checked : Spelling → Members → Result Unit ServeFault

@@ -1,19 +1,15 @@
 -- Sentences about faults of a server's settings.
 use Rattle.std.specs.Prelude.{◌≡◌, ℕ, List, Option, None, Some}
 use Rattle.std.specs.Option.{option_map}
-use Rattle.settings_file.specs.Sentences as settings
-use Rattle.settings_file.specs.Sentences.{KeyPlace, Names, IsAboutPlace}
-use Rattle.settings_file.specs.ServeKeys.{key_front, key_index, key_back}
-use Rattle.settings_file.specs.declared.serve.key.ServeKey.{ServeKey}
+use Rattle.settings_file.specs.Places as settings
+use Rattle.settings_file.specs.Places.{KeyPlace}
+use Rattle.settings_file.specs.Sentences.{Names, IsAboutPlace, key_of}
+use Rattle.settings_file.specs.ServeKeys.{key_place}
 use Rattle.settings_file.specs.declared.serve.fault.ServeFault.{ServeFault}
 use Rattle.settings_file.specs.declared.serve.fault.ServeFault.TheVariants as kind
 
--- where a key of a server is: `serve.tick_ms`, or `listen` of a link
-abbrev pub key_place : ServeKey → KeyPlace
-key_place key = record { front = key_front key; entry = key_index key; back = key_back key }
-
 abbrev pub place_of : ServeFault → Option KeyPlace
-place_of (kind.Settings found) = option_map settings.key_place (settings.key_of found)
+place_of (kind.Settings found) = option_map settings.key_place (key_of found)
 place_of (kind.Missing key) = Some (key_place key)
 place_of (kind.Kind key) = Some (key_place key)
 place_of (kind.Range key) = Some (key_place key)

@@ -1,13 +1,14 @@
 -- The times and tries of associations: the keys of the table `serve.sctp`.
-use Rattle.std.specs.Prelude.{◌≤◌, ℕ, List, Option, Some, None, option_and_then, Result, Ok, Err, codes}
+use Rattle.std.specs.Prelude.{◌≤◌, ℕ, Option, Some, None, option_and_then, Result, Ok, Err}
 use Rattle.std.specs.Prelude.{if◌then◌else◌, ◌&&◌, nat_le}
-use Rattle.toml.specs.Data.{Data, Members, get_member}
+use Rattle.toml.specs.Data.{Data, Members}
 use Rattle.settings_file.specs.declared.serve.key.ServeKey.{ServeKey}
 use Rattle.settings_file.specs.declared.serve.key.ServeKey.TheVariants as key
 use Rattle.settings_file.specs.declared.serve.fault.ServeFault.{ServeFault}
 use Rattle.settings_file.specs.declared.serve.fault.ServeFault.TheVariants.{Kind, Range}
 use Rattle.settings_file.specs.declared.serve.sctp.SctpTimes.{SctpTimes}
-use Rattle.settings_file.specs.ServeShapes.{and_then, table_in}
+use Rattle.settings_file.specs.ServeKeys.{found_at}
+use Rattle.settings_file.specs.Shapes.{and_then, table_in}
 use Rattle.settings_file.specs.Keyed.{number_or}
 
 -- the times and tries if a file says nothing of them
@@ -35,20 +36,20 @@ pub record AreWithin (t : SctpTimes) : Type 0 where
   pub heartbeat_below : t.heartbeat_ms ≤ 600000
 
 -- the number of a key of a table, which may be left out as a whole
-abbrev pub number_at : List ℕ → ServeKey → (least most usual : ℕ) → Option Members → Result ℕ ServeFault
-number_at name key least most usual t = number_or key least most usual (option_and_then (get_member name) t)
+abbrev pub number_at : ServeKey → (least most usual : ℕ) → Option Members → Result ℕ ServeFault
+number_at key least most usual t = number_or key least most usual (option_and_then (found_at key) t)
 
 -- a timeout: 10 to 60,000 ms
-abbrev pub timeout_at : List ℕ → ServeKey → (usual : ℕ) → Option Members → Result ℕ ServeFault
-timeout_at name key usual t = number_at name key 10 60000 usual t
+abbrev pub timeout_at : ServeKey → (usual : ℕ) → Option Members → Result ℕ ServeFault
+timeout_at key usual t = number_at key 10 60000 usual t
 
 -- how often something is tried: 1 to 100 times
-abbrev pub tries_at : List ℕ → ServeKey → (usual : ℕ) → Option Members → Result ℕ ServeFault
-tries_at name key usual t = number_at name key 1 100 usual t
+abbrev pub tries_at : ServeKey → (usual : ℕ) → Option Members → Result ℕ ServeFault
+tries_at key usual t = number_at key 1 100 usual t
 
 -- the time between heartbeats: 100 to 600,000 ms
 abbrev pub heartbeat_at : Option Members → Result ℕ ServeFault
-heartbeat_at t = number_at (codes "heartbeat_ms") key.HeartbeatMs 100 600000 usual_times.heartbeat_ms t
+heartbeat_at t = number_at key.HeartbeatMs 100 600000 usual_times.heartbeat_ms t
 
 -- the initial timeout is from the shortest to the longest
 abbrev pub ordered : SctpTimes → Result SctpTimes ServeFault
@@ -60,11 +61,11 @@ ordered t =
 -- the keys of the table in their order; then how the timeouts are ordered
 unfoldable pub times_in : Option Members → Result SctpTimes ServeFault
 times_in t =
-    and_then (timeout_at (codes "rto_initial_ms") key.RtoInitialMs usual_times.rto_initial_ms t) (λ initial.
-    and_then (timeout_at (codes "rto_min_ms") key.RtoMinMs usual_times.rto_min_ms t) (λ least.
-    and_then (timeout_at (codes "rto_max_ms") key.RtoMaxMs usual_times.rto_max_ms t) (λ most.
-    and_then (tries_at (codes "init_tries") key.InitTries usual_times.init_tries t) (λ init_tries.
-    and_then (tries_at (codes "retransmissions") key.Retransmissions usual_times.retransmissions t) (λ retransmissions.
+    and_then (timeout_at key.RtoInitialMs usual_times.rto_initial_ms t) (λ initial.
+    and_then (timeout_at key.RtoMinMs usual_times.rto_min_ms t) (λ least.
+    and_then (timeout_at key.RtoMaxMs usual_times.rto_max_ms t) (λ most.
+    and_then (tries_at key.InitTries usual_times.init_tries t) (λ init_tries.
+    and_then (tries_at key.Retransmissions usual_times.retransmissions t) (λ retransmissions.
     and_then (heartbeat_at t) (λ heartbeat.
     ordered (record {
       rto_initial_ms = initial;
@@ -81,7 +82,7 @@ sctp_in None = Ok None
 sctp_in (Some d) = and_then (table_in (Kind key.Sctp) d) (λ t. Ok (Some t))
 
 unfoldable pub sctp_at : Members → Result (Option Members) ServeFault
-sctp_at serve = sctp_in (get_member (codes "sctp") serve)
+sctp_at serve = sctp_in (found_at key.Sctp serve)
 
 unfoldable pub times_at : Members → Result SctpTimes ServeFault
 times_at serve = and_then (sctp_at serve) times_in

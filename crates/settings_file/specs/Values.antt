@@ -1,16 +1,10 @@
 -- The value that a document has at a key.
-use Rattle.std.specs.Prelude.{ℕ, List, [], ◌∷◌, length, Bool, ◌==◌, nat_lt, Option, Some, None, option_and_then}
+use Rattle.std.specs.Prelude.{ℕ, List, [], ◌∷◌, Option, Some, None, option_and_then}
 use Rattle.std.specs.Prelude.{if◌then◌else◌}
-use Rattle.std.specs.List.{position_or_len, before_first, after_first}
+use Rattle.std.specs.List.{before_first, after_first}
 use Rattle.toml.specs.Data.{Data, Members, get_member, get, at}
+use Rattle.settings_file.specs.Places.{is_dot, has_dot}
 use Rattle.settings_file.specs.declared.key_rows.KeyRow.{KeyRow}
-
--- the octet of a dot
-abbrev pub is_dot : ℕ → Bool
-is_dot octet = octet == 46
-
-abbrev pub has_dot : List ℕ → Bool
-has_dot path = nat_lt (position_or_len is_dot path) (length path)
 
 -- the value of a key in a table; after a dot, that of a key in its table that is named before the dot
 abbrev pub value_below : List ℕ → Data → Option Data

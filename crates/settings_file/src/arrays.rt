@@ -10,10 +10,10 @@ ghost use Rattle.settings_file.specs.Entries.{set_in, link_entry_in, destination
 ghost use Rattle.settings_file.specs.Entries.{sets_at, links_at, destinations_at, titles_at};
 
 use crate::fault::SettingsFault;
-use crate::shapes::{
-    array_in, entries, found, integer, integer_in, optional_integer, optional_text, table_in, text,
-    texts, truth,
+use crate::node_keys::{
+    entries, found_at, integer, optional_integer, optional_text, text, texts, truth,
 };
+use crate::shapes::{array_in, integer_in, table_in};
 use settings::{ChangeDraft, DestinationDraft, Key, LinkDraft, SetDraft, TitleDraft};
 use std::alloc::Global;
 use toml::{Table, Value};
@@ -23,9 +23,9 @@ use toml::{Table, Value};
 fn set(alloc: Global, i: usize, value: &Value) -> Result<SetDraft, SettingsFault>
     ensures { AnswersOrNoMemory set_written (set_in i (view value.now)) result }
 {
-    let table = table_in(value, Key::SetEntry(i))?;
-    let name = text(alloc, table, "name", Key::SetName(i))?;
-    let adjacent = integer(table, "adjacent", Key::SetAdjacent(i))?;
+    let table = table_in(value, SettingsFault::Kind(Key::SetEntry(i)))?;
+    let name = text(alloc, table, Key::SetName(i))?;
+    let adjacent = integer(table, Key::SetAdjacent(i))?;
     Ok(SetDraft { name, adjacent })
 }
 
@@ -34,11 +34,11 @@ fn set(alloc: Global, i: usize, value: &Value) -> Result<SetDraft, SettingsFault
 fn link(alloc: Global, has_share: bool, i: usize, value: &Value) -> Result<LinkDraft, SettingsFault>
     ensures { AnswersOrNoMemory link_written (link_entry_in has_share i (view value.now)) result }
 {
-    let table = table_in(value, Key::LinkEntry(i))?;
-    let name = text(alloc, table, "name", Key::LinkName(i))?;
-    let set = text(alloc, table, "set", Key::LinkSet(i))?;
-    let slc = integer(table, "slc", Key::LinkSlc(i))?;
-    let share = optional_integer(has_share, table, "share", Key::LinkShare(i))?;
+    let table = table_in(value, SettingsFault::Kind(Key::LinkEntry(i)))?;
+    let name = text(alloc, table, Key::LinkName(i))?;
+    let set = text(alloc, table, Key::LinkSet(i))?;
+    let slc = integer(table, Key::LinkSlc(i))?;
+    let share = optional_integer(has_share, table, Key::LinkShare(i))?;
     Ok(LinkDraft {
         name,
         set,
@@ -57,10 +57,10 @@ fn destination(
 ) -> Result<DestinationDraft, SettingsFault>
     ensures { AnswersOrNoMemory destination_written (destination_in has_joined i (view value.now)) result }
 {
-    let table = table_in(value, Key::DestinationEntry(i))?;
-    let point = integer(table, "point", Key::DestinationPoint(i))?;
-    let sets = texts(alloc, table, "sets", Key::DestinationSets(i))?;
-    let joined = truth(has_joined, table, "joined", Key::DestinationJoined(i))?;
+    let table = table_in(value, SettingsFault::Kind(Key::DestinationEntry(i)))?;
+    let point = integer(table, Key::DestinationPoint(i))?;
+    let sets = texts(alloc, table, Key::DestinationSets(i))?;
+    let joined = truth(has_joined, table, Key::DestinationJoined(i))?;
     Ok(DestinationDraft {
         point,
         sets,
@@ -74,8 +74,8 @@ fn ssn(table: &Table, i: usize, route: &str) -> Result<Option<i64>, SettingsFaul
     ensures { result ≡ ssn_at i route.now (table_view table.now) }
 {
     let key = Key::TitleSsn(i);
-    match found(table, "ssn") {
-        Some(value) => Ok(Some(integer_in(value, key)?)),
+    match found_at(table, key) {
+        Some(value) => Ok(Some(integer_in(value, SettingsFault::Kind(key))?)),
         None if route == "ssn" => Err(SettingsFault::Missing(key)),
         None => Ok(None),
     }
@@ -91,10 +91,10 @@ fn change(
 ) -> Result<ChangeDraft, SettingsFault>
     ensures { AnswersOrNoMemory change_written (change_at has_keys i (table_view table.now)) result }
 {
-    let plan = optional_integer(has_keys, table, "new_plan", Key::TitleNewPlan(i))?;
-    let nature = optional_integer(has_keys, table, "new_nature", Key::TitleNewNature(i))?;
-    let removed = optional_integer(has_keys, table, "remove", Key::TitleRemove(i))?;
-    let added = optional_text(alloc, has_keys, table, "add", Key::TitleAdd(i))?;
+    let plan = optional_integer(has_keys, table, Key::TitleNewPlan(i))?;
+    let nature = optional_integer(has_keys, table, Key::TitleNewNature(i))?;
+    let removed = optional_integer(has_keys, table, Key::TitleRemove(i))?;
+    let added = optional_text(alloc, has_keys, table, Key::TitleAdd(i))?;
     Ok(ChangeDraft {
         plan,
         nature,
@@ -113,14 +113,14 @@ fn title(
 ) -> Result<TitleDraft, SettingsFault>
     ensures { AnswersOrNoMemory title_written (title_in has_extensions i (view value.now)) result }
 {
-    let table = table_in(value, Key::TitleEntry(i))?;
-    let translation = integer(table, "translation", Key::TitleTranslation(i))?;
-    let plan = integer(table, "plan", Key::TitlePlan(i))?;
-    let nature = integer(table, "nature", Key::TitleNature(i))?;
-    let digits = text(alloc, table, "digits", Key::TitleDigits(i))?;
-    let point = integer(table, "point", Key::TitlePoint(i))?;
-    let backup = optional_integer(has_extensions, table, "backup", Key::TitleBackup(i))?;
-    let route = text(alloc, table, "route", Key::TitleRoute(i))?;
+    let table = table_in(value, SettingsFault::Kind(Key::TitleEntry(i)))?;
+    let translation = integer(table, Key::TitleTranslation(i))?;
+    let plan = integer(table, Key::TitlePlan(i))?;
+    let nature = integer(table, Key::TitleNature(i))?;
+    let digits = text(alloc, table, Key::TitleDigits(i))?;
+    let point = integer(table, Key::TitlePoint(i))?;
+    let backup = optional_integer(has_extensions, table, Key::TitleBackup(i))?;
+    let route = text(alloc, table, Key::TitleRoute(i))?;
     let ssn = ssn(table, i, route.as_str())?;
     let change = change(alloc, has_extensions, i, table)?;
     Ok(TitleDraft {
@@ -206,7 +206,7 @@ pub(crate) fn sets(alloc: Global, table: &Table) -> Result<Vec<SetDraft>, Settin
     ensures { AnswersOrNoMemory (λ sets. map set_written sets.items)
         (sets_at (table_view table.now)) result }
 {
-    let values = entries(table, "set", Key::Set)?;
+    let values = entries(table, Key::Set)?;
     each_set(alloc, values)
 }
 
@@ -220,7 +220,7 @@ pub(crate) fn links(
     ensures { AnswersOrNoMemory (λ links. map link_written links.items)
         (links_at has_share (table_view table.now)) result }
 {
-    let values = entries(table, "link", Key::Link)?;
+    let values = entries(table, Key::Link)?;
     each_link(alloc, has_share, values)
 }
 
@@ -234,7 +234,7 @@ pub(crate) fn destinations(
     ensures { AnswersOrNoMemory (λ destinations. map destination_written destinations.items)
         (destinations_at has_joined (table_view table.now)) result }
 {
-    let values = entries(table, "destination", Key::Destination)?;
+    let values = entries(table, Key::Destination)?;
     each_destination(alloc, has_joined, values)
 }
 
@@ -249,9 +249,9 @@ pub(crate) fn titles(
     ensures { AnswersOrNoMemory (λ titles. map title_written titles.items)
         (titles_at has_extensions (table_view table.now)) result }
 {
-    match found(table, "title") {
+    match found_at(table, Key::Title) {
         Some(value) => {
-            let values = array_in(value, Key::Title)?;
+            let values = array_in(value, SettingsFault::Kind(Key::Title))?;
             each_title(alloc, has_extensions, values)
         }
         None => Ok(Vec::new(alloc)),

@@ -14,7 +14,7 @@ use crate::arrays::{destinations, links, sets, titles};
 use crate::documents::parse;
 use crate::fault::SettingsFault;
 use crate::limits::FirstLimits;
-use crate::shapes::{integer, integers, truth};
+use crate::node_keys::{integer, integers, truth};
 use crate::timers::timers;
 use crate::versions::{
     has_additions, has_extensions, has_joined, is_first_version, is_known_version,
@@ -102,11 +102,11 @@ fn leading_numbers(table: &Table) -> Result<Numbers, SettingsFault>
     ensures { result ≡ numbers_at (table_view table.now) }
 {
     Ok(Numbers {
-        version: integer(table, "version", Key::Version)?,
-        own: integer(table, "own", Key::Own)?,
-        network: integer(table, "network", Key::Network)?,
-        window: integer(table, "window", Key::Window)?,
-        pool: integer(table, "pool", Key::Pool)?,
+        version: integer(table, Key::Version)?,
+        own: integer(table, Key::Own)?,
+        network: integer(table, Key::Network)?,
+        window: integer(table, Key::Window)?,
+        pool: integer(table, Key::Pool)?,
     })
 }
 
@@ -120,27 +120,12 @@ fn asked_services(
     ensures { result ≡ services_at extensions additions (table_view table.now) }
 {
     Ok(Services {
-        extended_unitdata: truth(
-            extensions,
-            table,
-            "extended_unitdata",
-            Key::ExtendedUnitdata,
-        )?,
-        subsystem_tests: truth(extensions, table, "subsystem_tests", Key::SubsystemTests)?,
-        user_part_unavailable: truth(
-            extensions,
-            table,
-            "user_part_unavailable",
-            Key::UserPartUnavailable,
-        )?,
-        processor_outage: truth(extensions, table, "processor_outage", Key::ProcessorOutage)?,
-        out_of_service: truth(extensions, table, "out_of_service", Key::OutOfService)?,
-        changeover_by_any_route: truth(
-            additions,
-            table,
-            "changeover_by_any_route",
-            Key::ChangeoverByAnyRoute,
-        )?,
+        extended_unitdata: truth(extensions, table, Key::ExtendedUnitdata)?,
+        subsystem_tests: truth(extensions, table, Key::SubsystemTests)?,
+        user_part_unavailable: truth(extensions, table, Key::UserPartUnavailable)?,
+        processor_outage: truth(extensions, table, Key::ProcessorOutage)?,
+        out_of_service: truth(extensions, table, Key::OutOfService)?,
+        changeover_by_any_route: truth(additions, table, Key::ChangeoverByAnyRoute)?,
     })
 }
 
@@ -151,8 +136,8 @@ fn contents(alloc: Global, table: &Table) -> Result<Document, SettingsFault>
         (document (table_view table.now)) result }
 {
     let numbers = leading_numbers(table)?;
-    let users = integers(alloc, table, "users", Key::Users)?;
-    let subsystems = integers(alloc, table, "subsystems", Key::Subsystems)?;
+    let users = integers(alloc, table, Key::Users)?;
+    let subsystems = integers(alloc, table, Key::Subsystems)?;
     let services = asked_services(numbers.has_extensions(), numbers.has_additions(), table)?;
     let timers = timers(numbers.has_extensions(), table)?;
     let sets = sets(alloc, table)?;

@@ -2,7 +2,7 @@
 
 ghost use Rattle.std.specs.Prelude.{◌≡◌, None, Some, []};
 ghost use Rattle.settings_rows.specs.Keys.{key_index};
-ghost use Rattle.settings_file.specs.Sentences.{key_place, row_place};
+ghost use Rattle.settings_file.specs.Places.{key_place, row_place, behind_table, name_at, key_name};
 
 use settings::Key;
 
@@ -21,17 +21,39 @@ pub struct KeyRow {
     pub demand: &'static str,
 }
 
-const INTEGER: &str = "an integer";
+impl KeyRow {
+    /// The key, as its table or its entry of an array has it.
+    pub(crate) fn written(self) -> &'static str
+        ensures { result.now ≡ name_at (row_place self) }
+    {
+        match self.entry {
+            None => behind_table(behind_table(self.front)),
+            Some(_) => self.name,
+        }
+    }
+}
 
-const TEXT: &str = "a text";
+/// A path without the table that it begins with, if it begins with one.
+fn behind_table(path: &str) -> &str
+    ensures { result.now ≡ behind_table path.now }
+{
+    match path.split_once('.') {
+        Some((_, below)) => below,
+        None => path,
+    }
+}
 
-const TRUTH: &str = "true or false";
+pub(crate) const INTEGER: &str = "an integer";
+
+pub(crate) const TEXT: &str = "a text";
+
+pub(crate) const TRUTH: &str = "true or false";
 
 const INTEGERS: &str = "a list of integers";
 
 const TEXTS: &str = "a list of texts";
 
-const TABLE: &str = "a table";
+pub(crate) const TABLE: &str = "a table";
 
 const TABLES: &str = "an array of tables";
 
@@ -54,6 +76,14 @@ const ADDED_DIGITS: &str = "at most 32 of 0 to 9 and a to f";
 const PLAN: &str = "0 to 15";
 
 const NATURE: &str = "0 to 127";
+
+/// How a key is written in its table, or in its entry of an array.
+#[tactic(auto, unfolding(crate::specs::Places::key_name))]
+pub(crate) fn key_name(key: Key) -> &'static str
+    ensures { result.now ≡ key_name key }
+{
+    key_row(key).written()
+}
 
 pub(crate) fn key_row(key: Key) -> KeyRow
     ensures { row_place result ≡ key_place key }

@@ -1,172 +1,120 @@
-//! The keys that tables of a settings file may have, by the version of the file.
+//! The keys that tables of a settings file may have, each with the version that brought it.
 
 ghost use Rattle.std.specs.Prelude.{◌≡◌, map};
+ghost use Rattle.std.specs.List.{list_any};
 ghost use Rattle.toml.specs.View.{table_view};
-ghost use Rattle.settings_file.specs.KnownKeys.{version_of, may_be_joined, may_have_extensions, may_have_additions};
-ghost use Rattle.settings_file.specs.KnownKeys.{top_keys, timer_keys, link_keys, destination_keys, title_keys};
-ghost use Rattle.settings_file.specs.KnownKeys.{arrays_of, known_in};
+ghost use Rattle.settings_file.specs.KnownKeys.{known_of, known_in, version_of, has_since, is_key, arrays};
+ghost use Rattle.settings_file.specs.KnownKeys.{top_keys, timer_keys, serve_keys, sctp_keys};
 
-use crate::versions::{has_additions, has_extensions, has_joined};
+use crate::versions::{Since, has_additions, has_extensions, has_joined};
 use toml::Table;
 
 /// The keys of a settings file that are in no array.
-const TOP: &[&str] = &[
-    "version",
-    "own",
-    "network",
-    "window",
-    "pool",
-    "users",
-    "subsystems",
-    "timers",
-    "set",
-    "link",
-    "destination",
-    "title",
-    "serve",
-];
-
-/// The same in a file of version 3.
-const TOP_OF_THREE: &[&str] = &[
-    "version",
-    "own",
-    "network",
-    "window",
-    "pool",
-    "users",
-    "subsystems",
-    "extended_unitdata",
-    "subsystem_tests",
-    "user_part_unavailable",
-    "processor_outage",
-    "out_of_service",
-    "timers",
-    "set",
-    "link",
-    "destination",
-    "title",
-    "serve",
-];
-
-/// The same in a file of version 4.
-const TOP_OF_FOUR: &[&str] = &[
-    "version",
-    "own",
-    "network",
-    "window",
-    "pool",
-    "users",
-    "subsystems",
-    "extended_unitdata",
-    "subsystem_tests",
-    "user_part_unavailable",
-    "processor_outage",
-    "out_of_service",
-    "changeover_by_any_route",
-    "timers",
-    "set",
-    "link",
-    "destination",
-    "title",
-    "serve",
+const TOP: &[(&str, Since)] = &[
+    ("version", Since::First),
+    ("own", Since::First),
+    ("network", Since::First),
+    ("window", Since::First),
+    ("pool", Since::First),
+    ("users", Since::First),
+    ("subsystems", Since::First),
+    ("extended_unitdata", Since::Third),
+    ("subsystem_tests", Since::Third),
+    ("user_part_unavailable", Since::Third),
+    ("processor_outage", Since::Third),
+    ("out_of_service", Since::Third),
+    ("changeover_by_any_route", Since::Fourth),
+    ("timers", Since::First),
+    ("set", Since::First),
+    ("link", Since::First),
+    ("destination", Since::First),
+    ("title", Since::First),
+    ("serve", Since::First),
 ];
 
 /// The keys of the table `timers`.
-const TIMERS: &[&str] = &[
-    "l1", "l2", "l3", "l4", "l6", "l7", "t1", "t2", "t3", "t4", "t6", "t8", "t10",
-];
-
-/// The same in a file of version 3 or 4.
-const TIMERS_OF_THREE: &[&str] = &[
-    "l1", "l2", "l3", "l4", "l6", "l7", "t1", "t2", "t3", "t4", "t6", "t8", "t10", "slt1", "slt2",
-    "l4e", "sst",
+const TIMERS: &[(&str, Since)] = &[
+    ("l1", Since::First),
+    ("l2", Since::First),
+    ("l3", Since::First),
+    ("l4", Since::First),
+    ("l6", Since::First),
+    ("l7", Since::First),
+    ("t1", Since::First),
+    ("t2", Since::First),
+    ("t3", Since::First),
+    ("t4", Since::First),
+    ("t6", Since::First),
+    ("t8", Since::First),
+    ("t10", Since::First),
+    ("slt1", Since::Third),
+    ("slt2", Since::Third),
+    ("l4e", Since::Third),
+    ("sst", Since::Third),
 ];
 
 /// The keys of the table `serve`.
-pub(crate) const SERVE: [&str; 9] = [
-    "tick_ms",
-    "console",
-    "capture",
-    "console_open",
-    "points",
-    "udp",
-    "sctp",
-    "page_open",
-    "page",
+const SERVE: &[(&str, Since)] = &[
+    ("tick_ms", Since::First),
+    ("console", Since::First),
+    ("capture", Since::First),
+    ("console_open", Since::First),
+    ("points", Since::First),
+    ("udp", Since::First),
+    ("sctp", Since::First),
+    ("page_open", Since::First),
+    ("page", Since::First),
 ];
 
 /// The keys of the table `serve.sctp`.
-pub(crate) const SCTP: [&str; 6] = [
-    "rto_initial_ms",
-    "rto_min_ms",
-    "rto_max_ms",
-    "init_tries",
-    "retransmissions",
-    "heartbeat_ms",
+const SCTP: &[(&str, Since)] = &[
+    ("rto_initial_ms", Since::First),
+    ("rto_min_ms", Since::First),
+    ("rto_max_ms", Since::First),
+    ("init_tries", Since::First),
+    ("retransmissions", Since::First),
+    ("heartbeat_ms", Since::First),
 ];
 
 /// The keys of a link set.
-const SET: &[&str] = &["name", "adjacent"];
+const SET: &[(&str, Since)] = &[("name", Since::First), ("adjacent", Since::First)];
 
 /// The keys of a link.
-const LINK: &[&str] = &[
-    "name",
-    "set",
-    "slc",
-    "listen",
-    "connect",
-    "remote",
-    "sctp_port",
-    "remote_sctp_port",
-    "tries",
-];
-
-/// The keys of a link in a file of version 3 or 4.
-const LINK_OF_THREE: &[&str] = &[
-    "name",
-    "set",
-    "slc",
-    "share",
-    "listen",
-    "connect",
-    "remote",
-    "sctp_port",
-    "remote_sctp_port",
-    "tries",
-];
-
-/// The keys of a translation row.
-const TITLE: &[&str] = &[
-    "translation",
-    "plan",
-    "nature",
-    "digits",
-    "point",
-    "route",
-    "ssn",
-];
-
-/// The keys of a translation row in a file of version 3 or 4.
-const TITLE_OF_THREE: &[&str] = &[
-    "translation",
-    "plan",
-    "nature",
-    "digits",
-    "point",
-    "backup",
-    "route",
-    "ssn",
-    "new_plan",
-    "new_nature",
-    "remove",
-    "add",
+const LINK: &[(&str, Since)] = &[
+    ("name", Since::First),
+    ("set", Since::First),
+    ("slc", Since::First),
+    ("share", Since::Third),
+    ("listen", Since::First),
+    ("connect", Since::First),
+    ("remote", Since::First),
+    ("sctp_port", Since::First),
+    ("remote_sctp_port", Since::First),
+    ("tries", Since::First),
 ];
 
 /// The keys of a destination.
-const DESTINATION: &[&str] = &["point", "sets"];
+const DESTINATION: &[(&str, Since)] = &[
+    ("point", Since::First),
+    ("sets", Since::First),
+    ("joined", Since::Second),
+];
 
-/// The keys of a destination in a file of version 2, 3 or 4.
-const DESTINATION_OF_TWO: &[&str] = &["point", "sets", "joined"];
+/// The keys of a translation row.
+const TITLE: &[(&str, Since)] = &[
+    ("translation", Since::First),
+    ("plan", Since::First),
+    ("nature", Since::First),
+    ("digits", Since::First),
+    ("point", Since::First),
+    ("backup", Since::Third),
+    ("route", Since::First),
+    ("ssn", Since::First),
+    ("new_plan", Since::Third),
+    ("new_nature", Since::Third),
+    ("remove", Since::Third),
+    ("add", Since::Third),
+];
 
 /// An array of tables.
 #[derive(Clone, Copy)]
@@ -174,11 +122,11 @@ pub(crate) struct TableArray {
     /// The key of the array.
     pub name: &'static str,
     /// The keys of its entries.
-    pub keys: &'static [&'static str],
+    pub keys: &'static [(&'static str, Since)],
 }
 
 /// The version of a document, if it says one.
-fn version_of(document: &Table) -> Option<i64>
+pub(crate) fn version_of(document: &Table) -> Option<i64>
     ensures { result ≡ version_of (table_view document.now) }
 {
     match document.get("version") {
@@ -187,110 +135,75 @@ fn version_of(document: &Table) -> Option<i64>
     }
 }
 
-/// Whether the destinations of a document may be joined.
-fn may_be_joined(document: &Table) -> bool
-    ensures { result ≡ may_be_joined (version_of (table_view document.now)) }
+/// Whether a file of this version, if it says one, has the keys that came with another.
+pub(crate) fn has_since(version: Option<i64>, since: Since) -> bool
+    ensures { result ≡ has_since version since }
 {
-    match version_of(document) {
-        Some(version) => has_joined(version),
-        None => false,
+    match (since, version) {
+        (Since::First, _) => true,
+        (_, None) => false,
+        (Since::Second, Some(version)) => has_joined(version),
+        (Since::Third, Some(version)) => has_extensions(version),
+        (Since::Fourth, Some(version)) => has_additions(version),
     }
 }
 
-/// Whether a document may have the keys that version 3 brought.
-fn may_have_extensions(document: &Table) -> bool
-    ensures { result ≡ may_have_extensions (version_of (table_view document.now)) }
+/// Whether this is a known key, in a file of this version.
+fn is_key(known: (&str, Since), version: Option<i64>, key: &str) -> bool
+    ensures { result ≡ is_key version key.now (known_of known.entry) }
 {
-    match version_of(document) {
-        Some(version) => has_extensions(version),
-        None => false,
-    }
+    known.0 == key && has_since(version, known.1)
 }
 
-/// Whether a document may have the keys that version 4 brought.
-fn may_have_additions(document: &Table) -> bool
-    ensures { result ≡ may_have_additions (version_of (table_view document.now)) }
+/// Whether one of these is a key, in a file of this version.
+pub(crate) fn has_key(keys: &[(&str, Since)], version: Option<i64>, key: &str) -> bool
+    ensures { result ≡ list_any (λ known. is_key version key.now (known_of known)) keys.now }
 {
-    match version_of(document) {
-        Some(version) => has_additions(version),
-        None => false,
-    }
+    keys.iter().any(|known| is_key(*known, version, key))
 }
 
-/// The keys of a document that are in no array, by its version.
-pub(crate) fn top_of(document: &Table) -> &'static [&'static str]
-    ensures { map (λ key. key.now) result.now
-        ≡ top_keys (may_have_additions (version_of (table_view document.now)))
-        (may_have_extensions (version_of (table_view document.now))) }
+/// The keys of a document that are in no array.
+pub(crate) fn top() -> &'static [(&'static str, Since)]
+    ensures { map known_of result.now ≡ top_keys }
 {
-    if may_have_additions(document) {
-        TOP_OF_FOUR
-    } else if may_have_extensions(document) {
-        TOP_OF_THREE
-    } else {
-        TOP
-    }
+    TOP
 }
 
-/// The keys of the table `timers` of a document, by its version.
-pub(crate) fn timers_of(document: &Table) -> &'static [&'static str]
-    ensures { map (λ key. key.now) result.now
-        ≡ timer_keys (may_have_extensions (version_of (table_view document.now))) }
+/// The keys of the table `timers`.
+pub(crate) fn timers() -> &'static [(&'static str, Since)]
+    ensures { map known_of result.now ≡ timer_keys }
 {
-    if may_have_extensions(document) {
-        TIMERS_OF_THREE
-    } else {
-        TIMERS
-    }
+    TIMERS
 }
 
-/// The keys of a link, in a document whose links may have a share or may not.
-fn link_keys(may_have_share: bool) -> &'static [&'static str]
-    ensures { map (λ key. key.now) result.now ≡ link_keys may_have_share }
+/// The keys of the table `serve`.
+pub(crate) fn serve() -> &'static [(&'static str, Since)]
+    ensures { map known_of result.now ≡ serve_keys }
 {
-    if may_have_share { LINK_OF_THREE } else { LINK }
+    SERVE
 }
 
-/// The keys of a destination, in a document whose destinations may be joined or may not.
-fn destination_keys(may_be_joined: bool) -> &'static [&'static str]
-    ensures { map (λ key. key.now) result.now ≡ destination_keys may_be_joined }
+/// The keys of the table `serve.sctp`.
+pub(crate) fn sctp() -> &'static [(&'static str, Since)]
+    ensures { map known_of result.now ≡ sctp_keys }
 {
-    if may_be_joined {
-        DESTINATION_OF_TWO
-    } else {
-        DESTINATION
-    }
+    SCTP
 }
 
-/// The keys of a translation row, in a document that may have the keys that version 3 brought, or may not.
-fn title_keys(may_have_extensions: bool) -> &'static [&'static str]
-    ensures { map (λ key. key.now) result.now ≡ title_keys may_have_extensions }
+/// The arrays of tables of a document.
+pub(crate) fn arrays() -> [TableArray; 4]
+    ensures { map known_in result ≡ arrays }
 {
-    if may_have_extensions {
-        TITLE_OF_THREE
-    } else {
-        TITLE
-    }
-}
-
-/// The arrays of tables of a document, by its version.
-pub(crate) fn arrays_of(document: &Table) -> [TableArray; 4]
-    ensures { map known_in result ≡ arrays_of (version_of (table_view document.now)) }
-{
-    let has_extensions = may_have_extensions(document);
-    let link = link_keys(has_extensions);
-    let destination = destination_keys(may_be_joined(document));
-    let title = title_keys(has_extensions);
     [
         array("set", SET),
-        array("link", link),
-        array("destination", destination),
-        array("title", title),
+        array("link", LINK),
+        array("destination", DESTINATION),
+        array("title", TITLE),
     ]
 }
 
 /// An array of tables, whose entries have these keys.
-fn array(name: &'static str, keys: &'static [&'static str]) -> TableArray
+fn array(name: &'static str, keys: &'static [(&'static str, Since)]) -> TableArray
     ensures name { result.name.now ≡ name.now }
     ensures keys { result.keys.now ≡ keys.now }
 {

@@ -9,6 +9,7 @@ pub mod fault;
 mod key_rows;
 mod known_keys;
 pub mod limits;
+mod node_keys;
 mod phrases;
 mod places;
 mod sentences;

@@ -4,7 +4,8 @@ ghost use Rattle.std.specs.Prelude.{◌≡◌, Some, IfOk, string_bytes};
 ghost use Rattle.std.specs.Option.{option_copied, option_map};
 ghost use Rattle.toml.specs.Data.{get_member};
 ghost use Rattle.toml.specs.View.{view, table_view};
-ghost use Rattle.settings_file.specs.Sentences.{place_of, behind_colon, row_place, IsAboutPlace};
+ghost use Rattle.settings_file.specs.Places.{row_place};
+ghost use Rattle.settings_file.specs.Sentences.{place_of, behind_colon, IsAboutPlace};
 ghost use Rattle.settings_file.specs.Values.{value_at, value_at_path, value_below, entry_at};
 
 use crate::key_rows::KeyRow;

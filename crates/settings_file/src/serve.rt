@@ -13,7 +13,6 @@ pub mod laws;
 pub mod sctp;
 mod sentences;
 pub mod server;
-mod shapes;
 mod times;
 
 pub use console_place::ConsolePlace;

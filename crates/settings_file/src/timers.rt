@@ -2,45 +2,20 @@
 
 ghost use Rattle.std.specs.Prelude.{◌≡◌};
 ghost use Rattle.toml.specs.View.{table_view};
-ghost use Rattle.settings_file.specs.TimerNames.{timer_name};
 ghost use Rattle.settings_file.specs.Document.{ticks_at, optional_ticks_at, has_timer, link_tests_at, timers_in, timers_at};
 
 use crate::fault::SettingsFault;
-use crate::shapes::{found, integer, optional_integer, table_in, value};
+use crate::node_keys::{found_at, integer, optional_integer, required};
+use crate::shapes::table_in;
 use settings::{Key, LinkTestsDraft, TimerKey, TimersDraft};
 use toml::Table;
-
-/// The name of a timer in its table.
-fn name(timer: TimerKey) -> &'static str
-    ensures { result.now ≡ timer_name timer }
-{
-    match timer {
-        TimerKey::L1 => "l1",
-        TimerKey::L2 => "l2",
-        TimerKey::L3 => "l3",
-        TimerKey::L4 => "l4",
-        TimerKey::L6 => "l6",
-        TimerKey::L7 => "l7",
-        TimerKey::T1 => "t1",
-        TimerKey::T2 => "t2",
-        TimerKey::T3 => "t3",
-        TimerKey::T4 => "t4",
-        TimerKey::T6 => "t6",
-        TimerKey::T8 => "t8",
-        TimerKey::T10 => "t10",
-        TimerKey::Slt1 => "slt1",
-        TimerKey::Slt2 => "slt2",
-        TimerKey::L4e => "l4e",
-        TimerKey::Sst => "sst",
-    }
-}
 
 /// The ticks that a timer runs.
 #[tactic(auto, unfolding(crate::specs::Document::ticks_at))]
 fn ticks(table: &Table, timer: TimerKey) -> Result<i64, SettingsFault>
     ensures { result ≡ ticks_at timer (table_view table.now) }
 {
-    integer(table, name(timer), Key::Timer(timer))
+    integer(table, Key::Timer(timer))
 }
 
 /// The ticks that a timer runs which may be left out. If the file's version doesn't have its key it is ignored.
@@ -52,14 +27,14 @@ fn optional_ticks(
 ) -> Result<Option<i64>, SettingsFault>
     ensures { result ≡ optional_ticks_at has_keys timer (table_view table.now) }
 {
-    optional_integer(has_keys, table, name(timer), Key::Timer(timer))
+    optional_integer(has_keys, table, Key::Timer(timer))
 }
 
 /// Whether a timer has a key in a table.
 fn has_timer(table: &Table, timer: TimerKey) -> bool
     ensures { result ≡ has_timer timer (table_view table.now) }
 {
-    found(table, name(timer)).is_some()
+    found_at(table, Key::Timer(timer)).is_some()
 }
 
 /// The ticks that the timers of link tests run: both, or neither. If the file's version doesn't have their keys they
@@ -107,7 +82,7 @@ fn timers_in(has_keys: bool, table: &Table) -> Result<TimersDraft, SettingsFault
 pub(crate) fn timers(has_keys: bool, table: &Table) -> Result<TimersDraft, SettingsFault>
     ensures { result ≡ timers_at has_keys (table_view table.now) }
 {
-    let value = value(table, "timers", Key::Timers)?;
-    let timers = table_in(value, Key::Timers)?;
+    let value = required(table, Key::Timers)?;
+    let timers = table_in(value, SettingsFault::Kind(Key::Timers))?;
     timers_in(has_keys, timers)
 }

@@ -3,8 +3,9 @@
 ghost use Rattle.std.specs.Prelude.{◌≡◌, IfOk, OnOk, string_bytes};
 ghost use Rattle.settings_file.specs.Warnings.{Ignored, warning, AreWarnings, IsSoFar, GoesOn};
 
-use crate::known_keys::{SCTP, SERVE, arrays_of, timers_of, top_of};
+use crate::known_keys::{arrays, has_key, has_since, sctp, serve, timers, top, version_of};
 use crate::values::is_shown;
+use crate::versions::Since;
 use std::alloc::{AllocError, Global};
 use strsim::osa_distance;
 use toml::{Table, Value};
@@ -19,6 +20,7 @@ const OCTETS_PER_EDIT: usize = 3;
 #[derive(Drop)]
 struct WarningText<'a> {
     file: &'a str,
+    version: Option<i64>,
     text: String,
     count: usize,
 }
@@ -33,6 +35,7 @@ pub fn warnings(alloc: Global, file: &str, document: &Table) -> Result<String, A
 {
     let mut warnings = WarningText {
         file,
+        version: version_of(document),
         text: String::new(alloc),
         count: 0,
     };
@@ -46,8 +49,8 @@ impl WarningText<'_> {
         requires { IsSoFar self.old }
         ensures { OnOk result (GoesOn self.old self.new) }
     {
-        self.add_table(alloc, "", document, top_of(document))?;
-        self.add_inner_table(alloc, document, "timers", "timers.", timers_of(document))?;
+        self.add_table(alloc, "", document, top())?;
+        self.add_inner_table(alloc, document, "timers", "timers.", timers())?;
         self.add_serve(alloc, document)?;
         self.add_arrays(alloc, document)
     }
@@ -57,10 +60,10 @@ impl WarningText<'_> {
         requires { IsSoFar self.old }
         ensures { OnOk result (GoesOn self.old self.new) }
     {
-        self.add_inner_table(alloc, document, "serve", "serve.", &SERVE)?;
+        self.add_inner_table(alloc, document, "serve", "serve.", serve())?;
         match document.get("serve") {
             Some(Value::Table(serve)) => {
-                self.add_inner_table(alloc, serve, "sctp", "serve.sctp.", &SCTP)
+                self.add_inner_table(alloc, serve, "sctp", "serve.sctp.", sctp())
             }
             _ => Ok(()),
         }
@@ -73,7 +76,7 @@ impl WarningText<'_> {
         outer: &Table,
         name: &str,
         front: &str,
-        known: &[&str],
+        known: &[(&str, Since)],
     ) -> Result<(), AllocError>
         requires { IsSoFar self.old }
         ensures { OnOk result (GoesOn self.old self.new) }
@@ -89,7 +92,7 @@ impl WarningText<'_> {
         requires { IsSoFar self.old }
         ensures { OnOk result (GoesOn self.old self.new) }
     {
-        for array in arrays_of(document) {
+        for array in arrays() {
             if let Some(Value::Array(entries)) = document.get(array.name) {
                 self.add_entries(alloc, array.name, entries, array.keys)?;
             }
@@ -103,7 +106,7 @@ impl WarningText<'_> {
         alloc: Global,
         array: &str,
         entries: &[Value],
-        known: &[&str],
+        known: &[(&str, Since)],
     ) -> Result<(), AllocError>
         requires { IsSoFar self.old }
         ensures { OnOk result (GoesOn self.old self.new) }
@@ -123,13 +126,13 @@ impl WarningText<'_> {
         alloc: Global,
         front: &str,
         table: &Table,
-        known: &[&str],
+        known: &[(&str, Since)],
     ) -> Result<(), AllocError>
         requires { IsSoFar self.old }
         ensures { OnOk result (GoesOn self.old self.new) }
     {
         for key in table.keys() {
-            if !(&*known).contains(&key.as_str()) {
+            if !has_key(known, self.version, key.as_str()) {
                 self.add(alloc, front, key.as_str(), known)?;
             }
         }
@@ -142,7 +145,7 @@ impl WarningText<'_> {
         alloc: Global,
         front: &str,
         key: &str,
-        known: &[&str],
+        known: &[(&str, Since)],
     ) -> Result<(), AllocError>
         requires { IsSoFar self.old }
         ensures { OnOk result (GoesOn self.old self.new) }
@@ -150,7 +153,7 @@ impl WarningText<'_> {
         if self.count >= MOST_WARNINGS {
             return Ok(());
         }
-        let warning = warning(alloc, self.file, front, key, known)?;
+        let warning = warning(alloc, self.file, self.version, front, key, known)?;
         self.count += 1;
         self.text.push_str(warning.as_str())
     }
@@ -160,9 +163,10 @@ impl WarningText<'_> {
 fn warning(
     alloc: Global,
     file: &str,
+    version: Option<i64>,
     front: &str,
     key: &str,
-    known: &[&str],
+    known: &[(&str, Since)],
 ) -> Result<String, AllocError>
     ensures { IfOk result (λ text. (i : Ignored) × (string_bytes text ≡ warning file.now i)) }
 {
@@ -171,21 +175,28 @@ fn warning(
         let key = format!(in alloc; "(a key of {octets} octets)")?;
         return format!(in alloc; "{file}: {front}{key} is ignored\n");
     }
-    let Some(nearest) = nearest(alloc, key, known)? else {
+    let Some(nearest) = nearest(alloc, version, key, known)? else {
         return format!(in alloc; "{file}: {front}{key} is ignored: no such key\n");
     };
     format!(in alloc; "{file}: {front}{key} is ignored; the nearest key is {front}{nearest}\n")
 }
 
-/// The near known key that takes the fewest edits.
-fn nearest<'a>(alloc: Global, key: &str, known: &[&'a str]) -> Result<Option<&'a str>, AllocError> {
+/// The near known key that takes the fewest edits, of those that a file of this version has.
+fn nearest<'a>(
+    alloc: Global,
+    version: Option<i64>,
+    key: &str,
+    known: &[(&'a str, Since)],
+) -> Result<Option<&'a str>, AllocError> {
     let mut nearest = None;
     let mut too_many = 1 + (key.len() / OCTETS_PER_EDIT).max(1);
-    for candidate in known {
-        let edits = osa_distance(alloc, key, candidate)?;
-        if edits < too_many {
-            too_many = edits;
-            nearest = Some(*candidate);
+    for (candidate, since) in known {
+        if has_since(version, *since) {
+            let edits = osa_distance(alloc, key, candidate)?;
+            if edits < too_many {
+                too_many = edits;
+                nearest = Some(*candidate);
+            }
         }
     }
     Ok(nearest)

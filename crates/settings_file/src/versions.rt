@@ -18,6 +18,19 @@ const THIRD_VERSION: i64 = 3;
 /// The version that brought orders to change over by any route.
 const LAST_VERSION: i64 = 4;
 
+/// The version that brought a key: the first, the second, the third or the last.
+#[derive(Clone, Copy)]
+pub(crate) enum Since {
+    /// Version 1.
+    First,
+    /// Version 2.
+    Second,
+    /// Version 3.
+    Third,
+    /// Version 4.
+    Fourth,
+}
+
 /// Whether this is the first version.
 pub(crate) fn is_first_version(version: i64) -> bool
     ensures { result ≡ int_eq version FIRST_VERSION }
@@ -42,16 +55,14 @@ pub(crate) fn has_joined(version: i64) -> bool
     version == SECOND_VERSION || version == THIRD_VERSION || version == LAST_VERSION
 }
 
-/// Whether a file of this version has the keys `extended_unitdata`, `subsystem_tests`, `user_part_unavailable`,
-/// `processor_outage`, `out_of_service`, `share`, `backup`, `new_plan`, `new_nature`, `remove`, `add`, and of `timers`
-/// `slt1`, `slt2`, `l4e` and `sst`.
+/// Whether a file of this version has the keys that version 3 brought.
 pub(crate) fn has_extensions(version: i64) -> bool
     ensures { result ≡ has_extensions version }
 {
     version == THIRD_VERSION || version == LAST_VERSION
 }
 
-/// Whether a file of this version has the key `changeover_by_any_route`.
+/// Whether a file of this version has the keys that version 4 brought.
 pub(crate) fn has_additions(version: i64) -> bool
     ensures { result ≡ has_additions version }
 {

@@ -7,7 +7,7 @@ ghost use Rattle.settings_file.specs.Keyed.{address_in, with_port, guarded};
 
 use crate::serve::fault::ServeFault;
 use crate::serve::key::ServeKey;
-use crate::serve::shapes::text_in;
+use crate::shapes::text_in;
 use std::net::SocketAddr;
 use toml::Value;
 
@@ -26,7 +26,7 @@ pub(crate) fn spelled(text: &str, key: ServeKey) -> Result<SocketAddr, ServeFaul
 pub(crate) fn address_in(value: &Value, key: ServeKey) -> Result<SocketAddr, ServeFault>
     ensures { (s : Spelling) → result ≡ address_in s key (view value.now) }
 {
-    let text = text_in(value, key)?;
+    let text = text_in(value, ServeFault::Kind(key))?;
     spelled(text, key)
 }
 

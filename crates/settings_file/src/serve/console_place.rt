@@ -4,7 +4,7 @@ ghost use Rattle.std.specs.Prelude.{◌≡◌, IfOk};
 ghost use Rattle.std.specs.List.{list_all};
 ghost use Rattle.std.specs.Option.{option_map};
 ghost use Rattle.settings_file.specs.Addresses.{Spelling};
-ghost use Rattle.settings_file.specs.ServeFaults.{Answers};
+ghost use Rattle.settings_file.specs.Faults.{Answers};
 ghost use Rattle.settings_file.specs.Consoles.{place_of, kept_place, address_of, is_path, is_socket_path, is_printed, unix_place, tcp_place, place_in};
 
 use crate::serve::address::{guarded, spelled};

@@ -6,7 +6,8 @@ ghost use Rattle.toml.specs.Parse.{parse_document};
 ghost use Rattle.toml.specs.View.{table_view};
 ghost use Rattle.settings_file.specs.Reading.{IsReadAs};
 ghost use Rattle.settings_file.specs.Addresses.{Spelling};
-ghost use Rattle.settings_file.specs.ServeFaults.{Answers, AnswersOrNoMemory};
+ghost use Rattle.settings_file.specs.Faults.{Answers};
+ghost use Rattle.settings_file.specs.ServeFaults.{AnswersOrNoMemory};
 ghost use Rattle.settings_file.specs.ServeReading.{serve_at, document, checked, console_told, reading, IsFirstFault};
 ghost use Rattle.settings_file.specs.Consoles.{place_of};
 
@@ -14,10 +15,13 @@ use crate::serve::console_place::{ConsolePlace, address_of, kept};
 use crate::serve::endpoints::endpoints;
 use crate::serve::fault::ServeFault;
 use crate::serve::key::ServeKey;
-use crate::serve::keys::{capture, console, console_open, page, page_open, points, tick_ms, udp};
+use crate::serve::key_rows::key_name;
+use crate::serve::keys::{
+    capture, console, console_open, found_at, page, page_open, points, tick_ms, udp,
+};
 use crate::serve::server::{OwnAddresses, ServeSettings};
-use crate::serve::shapes::{found, table_in, value};
 use crate::serve::times::times;
+use crate::shapes::{table_in, value};
 use settings::Settings;
 use std::alloc::{AllocError, Global};
 use toml::Table;
@@ -27,7 +31,11 @@ use toml::Table;
 fn serve_in(table: &Table) -> Result<&Table, ServeFault>
     ensures { Answers (λ serve. table_view serve.now) (serve_at (table_view table.now)) result }
 {
-    let value = value(table, "serve", ServeFault::Missing(ServeKey::Serve))?;
+    let value = value(
+        table,
+        key_name(ServeKey::Serve),
+        ServeFault::Missing(ServeKey::Serve),
+    )?;
     table_in(value, ServeFault::Kind(ServeKey::Serve))
 }
 
@@ -102,7 +110,7 @@ pub fn check_server(alloc: Global, document: &Table) -> Result<(), ServeFault>
     ensures { (s : Spelling) → AnswersOrNoMemory (λ nothing. nothing)
         (checked s (table_view document.now)) result }
 {
-    match found(document, "serve") {
+    match found_at(document, ServeKey::Serve) {
         Some(_) => {
             contents(alloc, document)?;
             Ok(())

@@ -4,18 +4,20 @@ ghost use Rattle.std.specs.Prelude.{◌≡◌, [], length, map, true, IfOk, is_s
 ghost use Rattle.std.specs.List.{list_any};
 ghost use Rattle.toml.specs.View.{view, table_view};
 ghost use Rattle.settings_file.specs.Addresses.{Spelling};
-ghost use Rattle.settings_file.specs.ServeFaults.{Answers, AnswersOrNoMemory};
+ghost use Rattle.settings_file.specs.Faults.{Answers};
+ghost use Rattle.settings_file.specs.ServeFaults.{AnswersOrNoMemory};
 ghost use Rattle.settings_file.specs.Endpoints.{listens_on, is_taken, has_same_peer, has_source, have_source, listening_in, without, without_sctp, listen_in, connect_in};
 ghost use Rattle.settings_file.specs.Endpoints.{reached, sctp_port_at, tries_at, apart, remote_in, endpoint_at, endpoint_in, endpoints_behind, links_at, endpoints_at};
 
 use crate::fault::SettingsFault;
+use crate::key_rows::key_name;
 use crate::serve::address::{address_in, is_address_of, is_same_version};
 use crate::serve::fault::ServeFault;
 use crate::serve::key::ServeKey;
-use crate::serve::keys::truth_or;
+use crate::serve::keys::{found_at, truth_or};
 use crate::serve::sctp::Remote;
 use crate::serve::server::{Endpoint, OwnAddresses};
-use crate::serve::shapes::{array_in, found, integer_in, table_in, value};
+use crate::shapes::{array_in, integer_in, table_in, value};
 use settings::Key;
 use std::alloc::Global;
 use std::net::SocketAddr;
@@ -60,10 +62,10 @@ fn listening_in(
 }
 
 /// Refuses a key that a link may not have together with its other keys.
-fn without(link: &Table, name: &str, key: ServeKey) -> Result<(), ServeFault>
-    ensures { result ≡ without name.now key (table_view link.now) }
+fn without(link: &Table, key: ServeKey) -> Result<(), ServeFault>
+    ensures { result ≡ without key (table_view link.now) }
 {
-    match found(link, name) {
+    match found_at(link, key) {
         Some(_) => Err(ServeFault::Duplicate(key)),
         None => Ok(()),
     }
@@ -74,10 +76,10 @@ fn without(link: &Table, name: &str, key: ServeKey) -> Result<(), ServeFault>
 fn without_sctp(link: &Table, i: usize) -> Result<(), ServeFault>
     ensures { result ≡ without_sctp i (table_view link.now) }
 {
-    without(link, "remote", ServeKey::LinkRemote(i))?;
-    without(link, "sctp_port", ServeKey::LinkSctpPort(i))?;
-    without(link, "remote_sctp_port", ServeKey::LinkRemoteSctpPort(i))?;
-    without(link, "tries", ServeKey::LinkTries(i))
+    without(link, ServeKey::LinkRemote(i))?;
+    without(link, ServeKey::LinkSctpPort(i))?;
+    without(link, ServeKey::LinkRemoteSctpPort(i))?;
+    without(link, ServeKey::LinkTries(i))
 }
 
 /// Where the link after these listens, which has no other key of the three.
@@ -93,7 +95,7 @@ fn listen_in(
 {
     let i = before.len();
     let address = listening_in(own, before, value)?;
-    without(link, "connect", ServeKey::LinkConnect(i))?;
+    without(link, ServeKey::LinkConnect(i))?;
     without_sctp(link, i)?;
     Ok(address)
 }
@@ -122,13 +124,13 @@ fn reached(udp: Option<SocketAddr>, i: usize, address: SocketAddr) -> Result<Soc
 }
 
 #[tactic(auto, unfolding(crate::specs::Endpoints::sctp_port_at))]
-fn sctp_port(link: &Table, name: &str, key: ServeKey) -> Result<u16, ServeFault>
-    ensures { result ≡ sctp_port_at name.now key (table_view link.now) }
+fn sctp_port(link: &Table, key: ServeKey) -> Result<u16, ServeFault>
+    ensures { result ≡ sctp_port_at key (table_view link.now) }
 {
-    let Some(value) = found(link, name) else {
+    let Some(value) = found_at(link, key) else {
         return Ok(M2PA_PORT);
     };
-    let port = integer_in(value, key)?;
+    let port = integer_in(value, ServeFault::Kind(key))?;
     match u16::try_from(port) {
         Ok(port) if port > 0 => Ok(port),
         _ => Err(ServeFault::Range(key)),
@@ -140,7 +142,7 @@ fn sctp_port(link: &Table, name: &str, key: ServeKey) -> Result<u16, ServeFault>
 fn tries(link: &Table, i: usize) -> Result<bool, ServeFault>
     ensures { result ≡ tries_at i (table_view link.now) }
 {
-    truth_or(link, "tries", ServeKey::LinkTries(i), true)
+    truth_or(link, ServeKey::LinkTries(i), true)
 }
 
 fn has_peer(links: &[Endpoint], remote: Remote) -> bool
@@ -175,8 +177,8 @@ fn remote_in(
     let i = before.len();
     let told = address_in(value, ServeKey::LinkRemote(i))?;
     let address = reached(own.udp, i, told)?;
-    let own_port = sctp_port(link, "sctp_port", ServeKey::LinkSctpPort(i))?;
-    let far_port = sctp_port(link, "remote_sctp_port", ServeKey::LinkRemoteSctpPort(i))?;
+    let own_port = sctp_port(link, ServeKey::LinkSctpPort(i))?;
+    let far_port = sctp_port(link, ServeKey::LinkRemoteSctpPort(i))?;
     let tries = tries(link, i)?;
     let remote = Remote {
         address,
@@ -195,20 +197,21 @@ fn endpoint_at(own: OwnAddresses, before: &[Endpoint], link: &Table) -> Result<E
         ≡ endpoint_at s own before.now (length before.now) (table_view link.now) }
     ensures source { IfOk result (λ e. has_source own.udp e ≡ true) }
 {
-    if let Some(value) = found(link, "listen") {
+    let i = before.len();
+    if let Some(value) = found_at(link, ServeKey::LinkListen(i)) {
         let address = listen_in(own, before, link, value)?;
         return Ok(Endpoint::Listen(address));
     }
-    if let Some(value) = found(link, "connect") {
-        let address = connect_in(link, before.len(), value)?;
+    if let Some(value) = found_at(link, ServeKey::LinkConnect(i)) {
+        let address = connect_in(link, i, value)?;
         return Ok(Endpoint::Connect(address));
     }
-    match found(link, "remote") {
+    match found_at(link, ServeKey::LinkRemote(i)) {
         Some(value) => {
             let remote = remote_in(own, before, link, value)?;
             Ok(Endpoint::Remote(remote))
         }
-        None => Err(ServeFault::Missing(ServeKey::LinkListen(before.len()))),
+        None => Err(ServeFault::Missing(ServeKey::LinkListen(i))),
     }
 }
 
@@ -251,7 +254,7 @@ fn links(table: &Table) -> Result<&[Value], ServeFault>
     ensures { Answers (λ links. map view links.now) (links_at (table_view table.now)) result }
 {
     let missing = ServeFault::Settings(SettingsFault::Missing(Key::Link));
-    let links = value(table, "link", missing)?;
+    let links = value(table, key_name(Key::Link), missing)?;
     array_in(links, ServeFault::Settings(SettingsFault::Kind(Key::Link)))
 }
 

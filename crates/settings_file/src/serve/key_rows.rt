@@ -1,19 +1,11 @@
-//! What the value of each key of a server must be.
+//! The keys of a server: where each is, and what its value must be.
 
 ghost use Rattle.std.specs.Prelude.{◌≡◌};
-ghost use Rattle.settings_file.specs.Sentences.{row_place};
-ghost use Rattle.settings_file.specs.ServeSentences.{key_place};
+ghost use Rattle.settings_file.specs.Places.{row_place};
+ghost use Rattle.settings_file.specs.ServeKeys.{key_place, key_name};
 
-use crate::key_rows::{KeyRow, entry_key, lone_key};
+use crate::key_rows::{INTEGER, KeyRow, TABLE, TEXT, TRUTH, entry_key, lone_key};
 use crate::serve::key::ServeKey;
-
-const INTEGER: &str = "an integer";
-
-const TEXT: &str = "a text";
-
-const TRUTH: &str = "true or false";
-
-const TABLE: &str = "a table";
 
 const TICK: &str = "10 to 10000";
 
@@ -33,6 +25,14 @@ const INITIAL_TIMEOUT: &str = "10 to 60000, and from rto_min_ms to rto_max_ms";
 const TRIES: &str = "1 to 100";
 
 const SCTP_PORT: &str = "1 to 65535";
+
+/// How a key is written in its table, or in its link.
+#[tactic(auto, unfolding(crate::specs::ServeKeys::key_name))]
+pub(crate) fn key_name(key: ServeKey) -> &'static str
+    ensures { result.now ≡ key_name key }
+{
+    key_row(key).written()
+}
 
 pub(crate) fn key_row(key: ServeKey) -> KeyRow
     ensures { row_place result ≡ key_place key }

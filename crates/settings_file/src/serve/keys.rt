@@ -2,10 +2,10 @@
 
 ghost use Rattle.std.specs.Prelude.{◌≡◌, ◌≤◌, IfOk};
 ghost use Rattle.std.specs.Option.{option_map};
-ghost use Rattle.toml.specs.Data.{get_member};
-ghost use Rattle.toml.specs.View.{table_view};
+ghost use Rattle.toml.specs.View.{view, table_view};
 ghost use Rattle.settings_file.specs.Addresses.{Spelling};
-ghost use Rattle.settings_file.specs.ServeFaults.{Answers};
+ghost use Rattle.settings_file.specs.Faults.{Answers};
+ghost use Rattle.settings_file.specs.ServeKeys.{found_at};
 ghost use Rattle.settings_file.specs.Consoles.{place_of, console_at};
 ghost use Rattle.settings_file.specs.Keyed.{truth_or, tick_ms_at, console_open_at, capture_at, points_at, udp_at, page_open_at, page_at};
 
@@ -13,16 +13,24 @@ use crate::serve::address::{address_in, guarded, is_address_of};
 use crate::serve::console_place::{ConsolePlace, place_in};
 use crate::serve::fault::ServeFault;
 use crate::serve::key::ServeKey;
-use crate::serve::shapes::{found, integer_in, text_in, truth_in, value};
+use crate::serve::key_rows::key_name;
+use crate::shapes::{found, integer_in, text_in, truth_in, value};
 use point_format::PointFormat;
 use std::net::SocketAddr;
-use toml::Table;
+use toml::{Table, Value};
 
 /// The shortest tick, in milliseconds.
 const SHORTEST_TICK: u16 = 10;
 
 /// The longest tick, in milliseconds.
 const LONGEST_TICK: u16 = 10_000;
+
+/// The value of a key, if it is there.
+pub(crate) fn found_at(table: &Table, key: ServeKey) -> Option<&Value>
+    ensures { option_map (λ value. view value.now) result ≡ found_at key (table_view table.now) }
+{
+    found(table, key_name(key))
+}
 
 /// How long a tick is, in milliseconds.
 #[tactic(auto, unfolding(crate::specs::Keyed::tick_ms_at))]
@@ -31,8 +39,12 @@ pub(crate) fn tick_ms(serve: &Table) -> Result<u16, ServeFault>
     ensures above { IfOk result (λ ticks. 10 ≤ ticks) }
     ensures below { IfOk result (λ ticks. ticks ≤ 10000) }
 {
-    let value = value(serve, "tick_ms", ServeFault::Missing(ServeKey::TickMs))?;
-    let ticks = integer_in(value, ServeKey::TickMs)?;
+    let value = value(
+        serve,
+        key_name(ServeKey::TickMs),
+        ServeFault::Missing(ServeKey::TickMs),
+    )?;
+    let ticks = integer_in(value, ServeFault::Kind(ServeKey::TickMs))?;
     match u16::try_from(ticks) {
         Ok(ticks) if SHORTEST_TICK <= ticks && ticks <= LONGEST_TICK => Ok(ticks),
         _ => Err(ServeFault::Range(ServeKey::TickMs)),
@@ -40,16 +52,11 @@ pub(crate) fn tick_ms(serve: &Table) -> Result<u16, ServeFault>
 }
 
 /// The truth value of a key, with this one if the key is left out.
-pub(crate) fn truth_or(
-    table: &Table,
-    name: &str,
-    key: ServeKey,
-    usual: bool,
-) -> Result<bool, ServeFault>
-    ensures { result ≡ truth_or key usual (get_member name.now (table_view table.now)) }
+pub(crate) fn truth_or(table: &Table, key: ServeKey, usual: bool) -> Result<bool, ServeFault>
+    ensures { result ≡ truth_or key usual (found_at key (table_view table.now)) }
 {
-    match found(table, name) {
-        Some(value) => truth_in(value, key),
+    match found_at(table, key) {
+        Some(value) => truth_in(value, ServeFault::Kind(key)),
         None => Ok(usual),
     }
 }
@@ -59,7 +66,7 @@ pub(crate) fn truth_or(
 pub(crate) fn console_open(serve: &Table) -> Result<bool, ServeFault>
     ensures { result ≡ console_open_at (table_view serve.now) }
 {
-    truth_or(serve, "console_open", ServeKey::ConsoleOpen, false)
+    truth_or(serve, ServeKey::ConsoleOpen, false)
 }
 
 /// Where the console is, if there is one. It asks for no password, so unless it is open no other machine may reach it.
@@ -68,9 +75,9 @@ pub(crate) fn console(serve: &Table, opened: bool) -> Result<Option<ConsolePlace
     ensures { (s : Spelling) → Answers (λ console. option_map place_of console)
         (console_at s opened (table_view serve.now)) result }
 {
-    match found(serve, "console") {
+    match found_at(serve, ServeKey::Console) {
         Some(value) => {
-            let text = text_in(value, ServeKey::Console)?;
+            let text = text_in(value, ServeFault::Kind(ServeKey::Console))?;
             Ok(Some(place_in(text, opened)?))
         }
         None => Ok(None),
@@ -83,9 +90,9 @@ pub(crate) fn capture(serve: &Table) -> Result<Option<&str>, ServeFault>
     ensures { Answers (λ capture. option_map (λ file. file.now) capture)
         (capture_at (table_view serve.now)) result }
 {
-    match found(serve, "capture") {
+    match found_at(serve, ServeKey::Capture) {
         Some(value) => {
-            let file = text_in(value, ServeKey::Capture)?;
+            let file = text_in(value, ServeFault::Kind(ServeKey::Capture))?;
             if file.is_empty() {
                 return Err(ServeFault::Range(ServeKey::Capture));
             }
@@ -100,8 +107,8 @@ pub(crate) fn capture(serve: &Table) -> Result<Option<&str>, ServeFault>
 pub(crate) fn points(serve: &Table) -> Result<PointFormat, ServeFault>
     ensures { result ≡ points_at (table_view serve.now) }
 {
-    match found(serve, "points") {
-        Some(value) => match text_in(value, ServeKey::Points)? {
+    match found_at(serve, ServeKey::Points) {
+        Some(value) => match text_in(value, ServeFault::Kind(ServeKey::Points))? {
             "3-8-3" => Ok(PointFormat::ThreeEightThree),
             _ => Err(ServeFault::Range(ServeKey::Points)),
         },
@@ -114,7 +121,7 @@ pub(crate) fn points(serve: &Table) -> Result<PointFormat, ServeFault>
 pub(crate) fn udp(serve: &Table) -> Result<Option<SocketAddr>, ServeFault>
     ensures { (s : Spelling) → result ≡ udp_at s (table_view serve.now) }
 {
-    match found(serve, "udp") {
+    match found_at(serve, ServeKey::Udp) {
         Some(value) => Ok(Some(address_in(value, ServeKey::Udp)?)),
         None => Ok(None),
     }
@@ -125,7 +132,7 @@ pub(crate) fn udp(serve: &Table) -> Result<Option<SocketAddr>, ServeFault>
 pub(crate) fn page_open(serve: &Table) -> Result<bool, ServeFault>
     ensures { result ≡ page_open_at (table_view serve.now) }
 {
-    truth_or(serve, "page_open", ServeKey::PageOpen, false)
+    truth_or(serve, ServeKey::PageOpen, false)
 }
 
 /// Where the status page is, if there is one: not where the console is. It asks for no password, so unless it is open
@@ -138,7 +145,7 @@ pub(crate) fn page(
 ) -> Result<Option<SocketAddr>, ServeFault>
     ensures { (s : Spelling) → result ≡ page_at s opened console (table_view serve.now) }
 {
-    match found(serve, "page") {
+    match found_at(serve, ServeKey::Page) {
         Some(value) => {
             let address = address_in(value, ServeKey::Page)?;
             let own = guarded(address, opened, ServeKey::Page)?;

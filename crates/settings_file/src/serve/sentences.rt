@@ -1,7 +1,8 @@
 //! The sentence that says what is wrong with the settings of a server.
 
 ghost use Rattle.std.specs.Prelude.{◌≡◌, Some, IfOk, string_bytes};
-ghost use Rattle.settings_file.specs.ServeSentences.{Explains, key_place, place_of};
+ghost use Rattle.settings_file.specs.ServeKeys.{key_place};
+ghost use Rattle.settings_file.specs.ServeSentences.{Explains, place_of};
 
 use crate::fault::SettingsFault;
 use crate::key_rows::KeyRow;

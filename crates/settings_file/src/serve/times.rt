@@ -2,16 +2,17 @@
 
 ghost use Rattle.std.specs.Prelude.{◌≡◌, ◌≤◌, IfOk, option_and_then};
 ghost use Rattle.std.specs.Option.{option_map};
-ghost use Rattle.toml.specs.Data.{get_member};
 ghost use Rattle.toml.specs.View.{view, table_view};
-ghost use Rattle.settings_file.specs.ServeFaults.{Answers};
+ghost use Rattle.settings_file.specs.Faults.{Answers};
+ghost use Rattle.settings_file.specs.ServeKeys.{found_at};
 ghost use Rattle.settings_file.specs.Keyed.{number_in};
 ghost use Rattle.settings_file.specs.Times.{AreWithin, number_at, timeout_at, tries_at, heartbeat_at, ordered, times_in, sctp_at, times_at};
 
 use crate::serve::fault::ServeFault;
 use crate::serve::key::ServeKey;
+use crate::serve::keys::found_at;
 use crate::serve::sctp::SctpTimes;
-use crate::serve::shapes::{found, integer_in, table_in};
+use crate::shapes::{integer_in, table_in};
 use toml::{Table, Value};
 
 /// The shortest timeout, in milliseconds.
@@ -47,11 +48,11 @@ struct Limits {
 }
 
 /// A timeout of the table `sctp`, in milliseconds.
-fn timeout(table: Option<&Table>, name: &str, key: ServeKey, usual: u32) -> Result<u32, ServeFault>
+fn timeout(table: Option<&Table>, key: ServeKey, usual: u32) -> Result<u32, ServeFault>
     requires above { 10 ≤ usual }
     requires below { usual ≤ 60000 }
     ensures value { result
-        ≡ timeout_at name.now key usual (option_map (λ table. table_view table.now) table.entry) }
+        ≡ timeout_at key usual (option_map (λ table. table_view table.now) table.entry) }
     ensures above { IfOk result (λ timeout. 10 ≤ timeout) }
     ensures below { IfOk result (λ timeout. timeout ≤ 60000) }
 {
@@ -60,15 +61,15 @@ fn timeout(table: Option<&Table>, name: &str, key: ServeKey, usual: u32) -> Resu
         most: LONGEST_TIMEOUT,
         usual,
     };
-    number(table, name, key, limits)
+    number(table, key, limits)
 }
 
 /// A number of tries of the table `sctp`.
-fn tries(table: Option<&Table>, name: &str, key: ServeKey, usual: u32) -> Result<u32, ServeFault>
+fn tries(table: Option<&Table>, key: ServeKey, usual: u32) -> Result<u32, ServeFault>
     requires above { 1 ≤ usual }
     requires below { usual ≤ 100 }
     ensures value { result
-        ≡ tries_at name.now key usual (option_map (λ table. table_view table.now) table.entry) }
+        ≡ tries_at key usual (option_map (λ table. table_view table.now) table.entry) }
     ensures above { IfOk result (λ tries. 1 ≤ tries) }
     ensures below { IfOk result (λ tries. tries ≤ 100) }
 {
@@ -77,7 +78,7 @@ fn tries(table: Option<&Table>, name: &str, key: ServeKey, usual: u32) -> Result
         most: MOST_TRIES,
         usual,
     };
-    number(table, name, key, limits)
+    number(table, key, limits)
 }
 
 /// The time between heartbeats of the table `sctp`, in milliseconds.
@@ -91,25 +92,20 @@ fn heartbeat(table: Option<&Table>) -> Result<u32, ServeFault>
         most: LONGEST_HEARTBEAT,
         usual: USUAL.heartbeat_ms,
     };
-    number(table, "heartbeat_ms", ServeKey::HeartbeatMs, limits)
+    number(table, ServeKey::HeartbeatMs, limits)
 }
 
 /// The number of a key of the table `sctp`, if there is that table.
-fn number(
-    table: Option<&Table>,
-    name: &str,
-    key: ServeKey,
-    limits: Limits,
-) -> Result<u32, ServeFault>
+fn number(table: Option<&Table>, key: ServeKey, limits: Limits) -> Result<u32, ServeFault>
     requires above { limits.least ≤ limits.usual }
     requires below { limits.usual ≤ limits.most }
-    ensures value { result ≡ number_at name.now key limits.least limits.most limits.usual
+    ensures value { result ≡ number_at key limits.least limits.most limits.usual
         (option_map (λ table. table_view table.now) table.entry) }
     ensures above { IfOk result (λ number. limits.least ≤ number) }
     ensures below { IfOk result (λ number. number ≤ limits.most) }
 {
-    match found_in(table, name) {
-        Some(value) => number_in(integer_in(value, key)?, key, limits),
+    match found_in(table, key) {
+        Some(value) => number_in(integer_in(value, ServeFault::Kind(key))?, key, limits),
         None => Ok(limits.usual),
     }
 }
@@ -127,12 +123,12 @@ fn number_in(number: i64, key: ServeKey, limits: Limits) -> Result<u32, ServeFau
 }
 
 /// The value of a key of a table, if there is that table.
-fn found_in<'a>(table: Option<&'a Table>, name: &str) -> Option<&'a Value>
+fn found_in(table: Option<&Table>, key: ServeKey) -> Option<&Value>
     ensures { option_map (λ value. view value.now) result
-        ≡ option_and_then (get_member name.now) (option_map (λ table. table_view table.now) table.entry) }
+        ≡ option_and_then (found_at key) (option_map (λ table. table_view table.now) table.entry) }
 {
     match table {
-        Some(table) => found(table, name),
+        Some(table) => found_at(table, key),
         None => None,
     }
 }
@@ -158,12 +154,12 @@ fn times_in(table: Option<&Table>) -> Result<SctpTimes, ServeFault>
     ensures within { IfOk result AreWithin }
 {
     let usual = USUAL.rto_initial_ms;
-    let rto_initial_ms = timeout(table, "rto_initial_ms", ServeKey::RtoInitialMs, usual)?;
-    let rto_min_ms = timeout(table, "rto_min_ms", ServeKey::RtoMinMs, USUAL.rto_min_ms)?;
-    let rto_max_ms = timeout(table, "rto_max_ms", ServeKey::RtoMaxMs, USUAL.rto_max_ms)?;
-    let init_tries = tries(table, "init_tries", ServeKey::InitTries, USUAL.init_tries)?;
+    let rto_initial_ms = timeout(table, ServeKey::RtoInitialMs, usual)?;
+    let rto_min_ms = timeout(table, ServeKey::RtoMinMs, USUAL.rto_min_ms)?;
+    let rto_max_ms = timeout(table, ServeKey::RtoMaxMs, USUAL.rto_max_ms)?;
+    let init_tries = tries(table, ServeKey::InitTries, USUAL.init_tries)?;
     let usual = USUAL.retransmissions;
-    let retransmissions = tries(table, "retransmissions", ServeKey::Retransmissions, usual)?;
+    let retransmissions = tries(table, ServeKey::Retransmissions, usual)?;
     let heartbeat_ms = heartbeat(table)?;
     let times = SctpTimes {
         rto_initial_ms,
@@ -181,7 +177,7 @@ fn times_in(table: Option<&Table>) -> Result<SctpTimes, ServeFault>
 fn sctp_in(serve: &Table) -> Result<Option<&Table>, ServeFault>
     ensures { Answers (λ sctp. option_map (λ table. table_view table.now) sctp) (sctp_at (table_view serve.now)) result }
 {
-    match found(serve, "sctp") {
+    match found_at(serve, ServeKey::Sctp) {
         Some(value) => Ok(Some(table_in(value, ServeFault::Kind(ServeKey::Sctp))?)),
         None => Ok(None),
     }

@@ -1,6 +1,7 @@
 -- A sentence that is written with the row of a key is about the place of that row.
 use Rattle.settings_file.proofs.Basics.{IfOk-weaker, ◌≡◌, ◌++◌, ◌∙◌, ℕ, List, [], ◌∷◌, Option, codes, refl}
-use Rattle.settings_file.specs.Sentences.{IsAboutPlace, place_of, behind_dot, behind_colon, colon_for_dot}
+use Rattle.settings_file.specs.Places.{behind_dot}
+use Rattle.settings_file.specs.Sentences.{IsAboutPlace, place_of, behind_colon, colon_for_dot}
 use Rattle.settings_file.proofs.places.about.Goals as goal
 
 -- a key after a colon, by the key with its dot

@@ -4,4 +4,4 @@ use Rattle.settings_file.proofs.shapes.array_in.Goals as goal
 
 pub returns-in-Some : goal.returns-in-Some
 unfolding array_in
-returns-in-Some c = rw (← c.in-Some.ensures, c.as_slice.ensures.value, listed-items_view) refl
+returns-in-Some g c = rw (← c.in-Some.ensures, c.as_slice.ensures.value, listed-items_view) refl

@@ -1,0 +1,66 @@
+-- The values of the node's keys: each is missing, of another type, or what is read.
+use Rattle.std.specs.Prelude.{ℕ, ℤ, Bool, false, List, [], ◌∷◌, Option, Some, None, Result, Ok, Err, if◌then◌else◌}
+use Rattle.toml.specs.Data.{Data, Members, get_member}
+use Rattle.settings_rows.specs.declared.key.Key.{Key}
+use Rattle.settings_file.specs.Places.{key_name}
+use Rattle.settings_file.specs.Shapes.{and_then, each, value_at, integer_in, truth_in, text_in, array_in}
+use Rattle.settings_file.specs.declared.fault.SettingsFault.{SettingsFault}
+use Rattle.settings_file.specs.declared.fault.SettingsFault.TheVariants.{Missing, Kind}
+
+-- the value of a key, if it is there
+abbrev pub found_at : Key → Members → Option Data
+found_at key t = get_member (key_name key) t
+
+-- the value of a required key
+abbrev pub required_at : Key → Members → Result Data SettingsFault
+required_at key t = value_at (key_name key) (Missing key) t
+
+unfoldable pub integer_at : Key → Members → Result ℤ SettingsFault
+integer_at key t = and_then (required_at key t) (integer_in (Kind key))
+
+-- a truth value that may be left out, and is false then
+abbrev pub truth_or_false : Key → Option Data → Result Bool SettingsFault
+truth_or_false key None = Ok false
+truth_or_false key (Some d) = truth_in (Kind key) d
+
+-- the same at a key that the version of the file has, or doesn't have: there it is ignored
+unfoldable pub truth_at : (has_key : Bool) → Key → Members → Result Bool SettingsFault
+truth_at has_key key t = if has_key then truth_or_false key (found_at key t) else Ok false
+
+-- an integer that may be left out
+abbrev pub integer_if_any : Key → Option Data → Result (Option ℤ) SettingsFault
+integer_if_any key None = Ok None
+integer_if_any key (Some d) = and_then (integer_in (Kind key) d) (λ n. Ok (Some n))
+
+unfoldable pub optional_integer_at : (has_key : Bool) → Key → Members → Result (Option ℤ) SettingsFault
+optional_integer_at has_key key t = if has_key then integer_if_any key (found_at key t) else Ok None
+
+-- a text that may be left out, and is empty then
+abbrev pub text_or_empty : Key → Option Data → Result (List ℕ) SettingsFault
+text_or_empty key None = Ok []
+text_or_empty key (Some d) = text_in (Kind key) d
+
+unfoldable pub optional_text_at : (has_key : Bool) → Key → Members → Result (List ℕ) SettingsFault
+optional_text_at has_key key t = if has_key then text_or_empty key (found_at key t) else Ok []
+
+unfoldable pub text_at : Key → Members → Result (List ℕ) SettingsFault
+text_at key t = and_then (required_at key t) (text_in (Kind key))
+
+-- the list of integers at a key; the fault of an entry is one of the list
+unfoldable pub integers_at : Key → Members → Result (List ℤ) SettingsFault
+integers_at key t =
+    and_then (required_at key t) (λ d. and_then (array_in (Kind key) d) (each (λ _. integer_in (Kind key)) 0))
+
+-- the list of texts at a key; the fault of an entry is one of the list
+unfoldable pub texts_at : Key → Members → Result (List (List ℕ)) SettingsFault
+texts_at key t =
+    and_then (required_at key t) (λ d. and_then (array_in (Kind key) d) (each (λ _. text_in (Kind key)) 0))
+
+-- entries, at least one
+abbrev pub some_in : Key → List Data → Result (List Data) SettingsFault
+some_in key [] = Err (Missing key)
+some_in key (d ∷ ds) = Ok (d ∷ ds)
+
+-- the entries of the array at a key, at least one
+unfoldable pub entries_at : Key → Members → Result (List Data) SettingsFault
+entries_at key t = and_then (required_at key t) (λ d. and_then (array_in (Kind key) d) (some_in key))

@@ -1,0 +1,168 @@
+//! The values of the node's keys: integers, truth values, texts and lists.
+
+ghost use Rattle.std.specs.Prelude.{◌≡◌, map, string_bytes};
+ghost use Rattle.std.specs.Option.{option_map};
+ghost use Rattle.toml.specs.View.{view, table_view};
+ghost use Rattle.settings_file.specs.Faults.{Answers, AnswersOrNoMemory};
+ghost use Rattle.settings_file.specs.Shapes.{integer_in, text_in, each};
+ghost use Rattle.settings_file.specs.NodeKeys.{found_at, required_at, integer_at, truth_at, text_at};
+ghost use Rattle.settings_file.specs.NodeKeys.{optional_integer_at, optional_text_at, integers_at, texts_at, entries_at};
+
+use crate::fault::SettingsFault;
+use crate::key_rows::key_name;
+use crate::shapes::{array_in, found, integer_in, text_in, truth_in, value};
+use settings::Key;
+use std::alloc::Global;
+use toml::{Table, Value};
+
+/// The value of a key, if it is there.
+pub(crate) fn found_at(table: &Table, key: Key) -> Option<&Value>
+    ensures { option_map (λ value. view value.now) result ≡ found_at key (table_view table.now) }
+{
+    found(table, key_name(key))
+}
+
+/// The value of a required key.
+pub(crate) fn required(table: &Table, key: Key) -> Result<&Value, SettingsFault>
+    ensures { Answers (λ value. view value.now) (required_at key (table_view table.now)) result }
+{
+    value(table, key_name(key), SettingsFault::Missing(key))
+}
+
+/// The integer at a key.
+#[tactic(auto, unfolding(crate::specs::NodeKeys::integer_at))]
+pub(crate) fn integer(table: &Table, key: Key) -> Result<i64, SettingsFault>
+    ensures { result ≡ integer_at key (table_view table.now) }
+{
+    let value = required(table, key)?;
+    integer_in(value, SettingsFault::Kind(key))
+}
+
+/// The truth value at a key, which is `false` if it is left out. If the file's version doesn't have the key it is
+/// ignored.
+#[tactic(auto, unfolding(crate::specs::NodeKeys::truth_at))]
+pub(crate) fn truth(has_key: bool, table: &Table, key: Key) -> Result<bool, SettingsFault>
+    ensures { result ≡ truth_at has_key key (table_view table.now) }
+{
+    if !has_key {
+        return Ok(false);
+    }
+    match found_at(table, key) {
+        Some(value) => truth_in(value, SettingsFault::Kind(key)),
+        None => Ok(false),
+    }
+}
+
+/// The integer at a key, which may be left out. If the file's version doesn't have the key it is ignored.
+#[tactic(auto, unfolding(crate::specs::NodeKeys::optional_integer_at))]
+pub(crate) fn optional_integer(
+    has_key: bool,
+    table: &Table,
+    key: Key,
+) -> Result<Option<i64>, SettingsFault>
+    ensures { result ≡ optional_integer_at has_key key (table_view table.now) }
+{
+    if !has_key {
+        return Ok(None);
+    }
+    match found_at(table, key) {
+        Some(value) => Ok(Some(integer_in(value, SettingsFault::Kind(key))?)),
+        None => Ok(None),
+    }
+}
+
+/// The text that a value is, owned.
+fn owned_text_in(alloc: Global, value: &Value, key: Key) -> Result<String, SettingsFault>
+    ensures { AnswersOrNoMemory string_bytes (text_in (SettingsFault.Kind key) (view value.now)) result }
+{
+    let text = text_in(value, SettingsFault::Kind(key))?;
+    Ok(String::from_str(alloc, text)?)
+}
+
+/// The text at a key, which is empty if it is left out. If the file's version doesn't have the key it is ignored.
+#[tactic(auto, unfolding(crate::specs::NodeKeys::optional_text_at))]
+pub(crate) fn optional_text(
+    alloc: Global,
+    has_key: bool,
+    table: &Table,
+    key: Key,
+) -> Result<String, SettingsFault>
+    ensures { AnswersOrNoMemory string_bytes (optional_text_at has_key key (table_view table.now)) result }
+{
+    if !has_key {
+        return Ok(String::new(alloc));
+    }
+    match found_at(table, key) {
+        Some(value) => owned_text_in(alloc, value, key),
+        None => Ok(String::new(alloc)),
+    }
+}
+
+/// The text at a key.
+#[tactic(auto, unfolding(crate::specs::NodeKeys::text_at))]
+pub(crate) fn text(alloc: Global, table: &Table, key: Key) -> Result<String, SettingsFault>
+    ensures { AnswersOrNoMemory string_bytes (text_at key (table_view table.now)) result }
+{
+    let value = required(table, key)?;
+    owned_text_in(alloc, value, key)
+}
+
+fn each_integer(alloc: Global, values: &[Value], key: Key) -> Result<Vec<i64>, SettingsFault>
+    ensures { AnswersOrNoMemory (λ integers. integers.items)
+        (each (λ _. integer_in (SettingsFault.Kind key)) 0 (map view values.now)) result }
+{
+    let mut integers = Vec::with_capacity(alloc, values.len())?;
+    for i in 0..values.len() {
+        let integer = integer_in(&values[i], SettingsFault::Kind(key))?;
+        integers.push(integer)?;
+    }
+    Ok(integers)
+}
+
+fn each_text(alloc: Global, values: &[Value], key: Key) -> Result<Vec<String>, SettingsFault>
+    ensures { AnswersOrNoMemory (λ texts. map (λ text. string_bytes text) texts.items)
+        (each (λ _. text_in (SettingsFault.Kind key)) 0 (map view values.now)) result }
+{
+    let mut texts = Vec::with_capacity(alloc, values.len())?;
+    for i in 0..values.len() {
+        let text = owned_text_in(alloc, &values[i], key)?;
+        texts.push(text)?;
+    }
+    Ok(texts)
+}
+
+/// The list of integers at a key.
+#[tactic(auto, unfolding(crate::specs::NodeKeys::integers_at))]
+pub(crate) fn integers(alloc: Global, table: &Table, key: Key) -> Result<Vec<i64>, SettingsFault>
+    ensures { AnswersOrNoMemory (λ integers. integers.items)
+        (integers_at key (table_view table.now)) result }
+{
+    let value = required(table, key)?;
+    let values = array_in(value, SettingsFault::Kind(key))?;
+    each_integer(alloc, values, key)
+}
+
+/// The list of texts at a key.
+#[tactic(auto, unfolding(crate::specs::NodeKeys::texts_at))]
+pub(crate) fn texts(alloc: Global, table: &Table, key: Key) -> Result<Vec<String>, SettingsFault>
+    ensures { AnswersOrNoMemory (λ texts. map (λ text. string_bytes text) texts.items)
+        (texts_at key (table_view table.now)) result }
+{
+    let value = required(table, key)?;
+    let values = array_in(value, SettingsFault::Kind(key))?;
+    each_text(alloc, values, key)
+}
+
+/// The entries of the array at a key, at least one.
+#[tactic(auto, unfolding(crate::specs::NodeKeys::entries_at))]
+pub(crate) fn entries(table: &Table, key: Key) -> Result<&[Value], SettingsFault>
+    ensures { Answers (λ entries. map view entries.now)
+        (entries_at key (table_view table.now)) result }
+{
+    let value = required(table, key)?;
+    let entries = array_in(value, SettingsFault::Kind(key))?;
+    if entries.is_empty() {
+        return Err(SettingsFault::Missing(key));
+    }
+    Ok(entries)
+}
