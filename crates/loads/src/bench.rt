@@ -2,10 +2,7 @@
 //! one with this many destinations and links. Count the instructions of two runs: their difference divided by that of
 //! their COUNTs is what a message costs.
 
-ghost use Rattle.std.specs.Prelude.{◌≤◌};
-
 mod arguments;
-mod draft;
 mod end;
 mod failure;
 mod incoming;
@@ -15,8 +12,6 @@ mod over_sctp;
 mod peer;
 mod route_changes;
 mod side;
-mod titles;
-mod told;
 mod total;
 mod traffic;
 mod unitdata;
@@ -26,7 +21,6 @@ use arguments::{Arguments, Kind};
 use making::make;
 use over_sctp::over_sctp;
 use peer::Peer;
-use settings::Limits;
 use std::alloc::Global;
 use std::io;
 use std::process::ExitCode;
@@ -42,28 +36,24 @@ pub(crate) fn perform(rt: &HostRuntime, words: &[String]) -> io::Result<ExitCode
 }
 
 /// Makes the nodes, or carries the messages. None if memory ran out.
-fn total_of(alloc: Global, arguments: &Arguments) -> Option<Total>
-    requires octets { arguments.now.octets ≤ Limits.SIF_OCTETS }
-    requires destinations { arguments.now.destinations ≤ Limits.DESTINATIONS }
-    requires links { arguments.now.links ≤ Limits.LINKS }
-{
-    let shape = arguments.shape();
+fn total_of(alloc: Global, arguments: &Arguments) -> Option<Total> {
     match arguments.kind {
-        Kind::Make(making) => make(alloc, making, &shape, arguments.count),
-        _ => carried(alloc, Peer::of_exchange_with(alloc, &shape)?, arguments),
+        Kind::Make(making) => make(alloc, making, &arguments.shape, arguments.count),
+        _ => carried(
+            Peer::of_exchange_with(alloc, &arguments.shape)?,
+            alloc,
+            arguments,
+        ),
     }
 }
 
 /// Carries the messages.
-fn carried(alloc: Global, mut peer: Peer, arguments: &Arguments) -> Option<Total>
-    requires octets { arguments.now.octets ≤ Limits.SIF_OCTETS }
-    requires destinations { arguments.now.destinations ≤ Limits.DESTINATIONS }
-{
+fn carried(mut peer: Peer, alloc: Global, arguments: &Arguments) -> Option<Total> {
     if let Kind::OverSctp(datagrams) = arguments.kind {
         return over_sctp(alloc, &mut peer, arguments, datagrams);
     }
     carry(&mut peer, arguments);
-    Some(peer.total())
+    Some(peer.total)
 }
 
 /// Prints what went out.
@@ -71,7 +61,7 @@ fn report(rt: &HostRuntime, total: Option<Total>) -> io::Result<ExitCode> {
     match total {
         Some(Total { frames, checksum }) => {
             println!(rt; "{frames} frames, checksum {checksum}")?;
-            Ok(ExitCode::from(0))
+            Ok(ExitCode::SUCCESS)
         }
         None => {
             println!(rt; "memory ran out")?;

@@ -8,7 +8,9 @@
 #![tactic(auto)]
 
 mod bench;
+mod draft;
 mod through;
+mod titles;
 
 use std::process::ExitCode;
 use std::{env, io};
@@ -38,5 +40,5 @@ fn refuse(rt: &HostRuntime) -> io::Result<ExitCode> {
 PORT COUNT OCTETS; a KIND is forward, burst, sctp, sctp-full, submit, local, acknowledgement, relay, relay-full, udts, \
 udts-full, queue, failure, changeover, return, tick, status, entry, expiry, draft, check or boot"
     )?;
-    Ok(ExitCode::from(1))
+    Ok(ExitCode::FAILURE)
 }

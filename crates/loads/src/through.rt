@@ -1,12 +1,11 @@
 //! Messages from one peer to another through a served node between them: how long they take.
 
 mod arrivals;
-mod opening;
+mod nodes;
 mod run;
 mod station;
 
 use crate::refuse;
-use opening::Place;
 use run::{Load, pass};
 use settings::Limits;
 use std::io;
@@ -20,11 +19,11 @@ pub(crate) fn print_settings(rt: &HostRuntime, words: &[String]) -> io::Result<E
     let [port] = words else {
         return refuse(rt);
     };
-    match port.as_str().parse::<u16>() {
-        Ok(port) => opening::print_settings(rt, Place::between(port))?,
+    match port.as_str().parse() {
+        Ok(port) => nodes::print_between(rt, port)?,
         Err(_) => return refuse(rt),
     }
-    Ok(ExitCode::from(0))
+    Ok(ExitCode::SUCCESS)
 }
 
 /// Has the messages that the words ask for go from one peer to the other, and prints what came.
@@ -33,7 +32,7 @@ pub(crate) fn perform(rt: &HostRuntime, words: &[String]) -> io::Result<ExitCode
         Some(load) => pass(rt, load)?,
         None => return refuse(rt),
     }
-    Ok(ExitCode::from(0))
+    Ok(ExitCode::SUCCESS)
 }
 
 /// What the words ask for; None if they ask for nothing that exists.
@@ -41,13 +40,13 @@ fn load_of(words: &[String]) -> Option<Load> {
     let [port, count, octets] = words else {
         return None;
     };
-    let octets = octets.as_str().parse::<usize>().ok()?;
+    let octets = octets.as_str().parse().ok()?;
     if octets < FRONT_OCTETS || octets > Limits::SIF_OCTETS {
         return None;
     }
     Some(Load {
-        port: port.as_str().parse::<u16>().ok()?,
-        count: count.as_str().parse::<u32>().ok()?,
+        port: port.as_str().parse().ok()?,
+        count: count.as_str().parse().ok()?,
         octets,
     })
 }

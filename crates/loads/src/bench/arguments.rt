@@ -1,26 +1,28 @@
 //! What the program's arguments ask for.
 
-ghost use Rattle.std.specs.Prelude.{◌≡◌, ◌≤◌, IfSome};
+ghost use Rattle.std.specs.Prelude.{◌≤◌, IfSome};
+ghost use Rattle.signalling_types.specs.declared.limits.TheConstants.Limits;
+ghost use Rattle.loads.specs.declared.bench.arguments.TheConstants.{LABEL_OCTETS};
 
-use super::draft::{Routes, Sets, Shape, WINDOW};
 use super::failure::Stage;
 use super::making::Making;
 use super::over_sctp::Datagrams;
-use super::titles::Table;
 use super::unitdata::bare_octets;
+use crate::draft::{Routes, Sets, Shape};
+use crate::titles::Table;
 use settings::Limits;
 
 /// Octets of a routing label, which each message has (Q.704 §2.2).
 pub(crate) const LABEL_OCTETS: usize = 4;
 
 /// Destinations at least: the adjacent point of a link set, and one behind it.
-pub(crate) const FEWEST_DESTINATIONS: usize = 2;
+const FEWEST_DESTINATIONS: usize = 2;
 
-/// The words that each run has.
-const WORDS: usize = 5;
+/// How many messages may be unconfirmed, if the settings aren't larger than usual.
+const WINDOW: u16 = 128;
 
 /// How large the settings are apart from their destinations and links.
-#[derive(Clone, Copy)]
+#[derive(Clone, Copy, PartialEq, Eq)]
 pub(crate) enum Size {
     /// One set leads to each destination, the window is 128, and the kind says how many links a set has, how many
     /// translation rows there are, and whether links are in service.
@@ -70,7 +72,7 @@ pub(crate) enum Kind {
 impl Kind {
     /// How the links make sets. Unless the settings are larger than usual, each link is a set of its own if it matters
     /// how many adjacent points are told.
-    pub(crate) fn sets(self, size: Size) -> Sets {
+    fn sets(self, size: Size) -> Sets {
         match (size, self) {
             (Size::Wide | Size::Largest, _) => Sets::Pairs,
             (Size::Usual, Kind::Tick | Kind::Status | Kind::Entry | Kind::Expiry) => Sets::Single,
@@ -79,7 +81,7 @@ impl Kind {
     }
 
     /// Which translation rows there are.
-    pub(crate) fn table(self, size: Size) -> Table {
+    fn table(self, size: Size) -> Table {
         match (size, self) {
             (Size::Largest, _) => Table::Longest,
             (_, Kind::Relay(table) | Kind::Udts(table)) => table,
@@ -98,37 +100,18 @@ impl Kind {
     }
 }
 
-impl Size {
-    /// How destinations lie behind link sets.
-    fn routes(self) -> Routes {
-        match self {
-            Size::Usual => Routes::One,
-            Size::Wide | Size::Largest => Routes::Most,
-        }
-    }
-
-    /// How many messages may be unconfirmed.
-    fn window(self) -> u16 {
-        match self {
-            Size::Usual => WINDOW,
-            Size::Wide | Size::Largest => Limits::WINDOW as u16,
-        }
-    }
-
-    pub(crate) fn is_usual(self) -> bool {
-        matches!(self, Size::Usual)
-    }
-}
-
 /// What the program's arguments ask for.
 #[derive(Clone, Copy)]
 pub(crate) struct Arguments {
     pub kind: Kind,
+    /// Octets of the signalling information field of each message.
     pub octets: usize,
-    pub destinations: usize,
-    /// Links in the settings. One of them carries the messages. Unless the settings are larger than usual, the others
-    /// are down, except those of its set before a changeover or a return, and those that are each a set of their own.
-    pub links: usize,
+    ghost label: { LABEL_OCTETS ≤ octets },
+    ghost fits: { octets ≤ Limits.SIF_OCTETS },
+    /// What the settings are made of. One of the links carries the messages. Unless the settings are larger than usual,
+    /// the others are down, except those of its set before a changeover or a return, and those that are each a set of
+    /// their own.
+    pub shape: Shape,
     pub count: u32,
     pub size: Size,
 }
@@ -136,68 +119,54 @@ pub(crate) struct Arguments {
 impl Arguments {
     /// Reads the five words, and a sixth if the settings are larger than usual. None if one of them is missing, unknown
     /// or out of range, if each destination is the adjacent point of a link set, or if there are too many sets.
-    pub(crate) fn read(words: &[String]) -> Option<Arguments>
-        ensures octets { IfSome result (λ arguments. arguments.octets ≤ Limits.SIF_OCTETS) }
-        ensures label { IfSome result (λ arguments. LABEL_OCTETS ≤ arguments.octets) }
-        ensures few { IfSome result (λ arguments. arguments.destinations ≤ Limits.DESTINATIONS) }
-        ensures links { IfSome result (λ arguments. arguments.links ≤ Limits.LINKS) }
-    {
-        let (words, size) = sized(words)?;
-        let [kind, octets, destinations, links, count] = words else {
-            return None;
+    pub(crate) fn read(words: &[String]) -> Option<Arguments> {
+        let (kind, octets, destinations, links, count, size) = match words {
+            [kind, octets, destinations, links, count] => {
+                (kind, octets, destinations, links, count, Size::Usual)
+            }
+            [kind, octets, destinations, links, count, size] => {
+                (
+                    kind,
+                    octets,
+                    destinations,
+                    links,
+                    count,
+                    size_of(size.as_str())?,
+                )
+            }
+            _ => return None,
         };
         let kind = kind_of(kind.as_str())?;
-        let octets = within(
-            octets.as_str(),
-            kind.fewest_octets(size),
-            Limits::SIF_OCTETS,
-        )?;
-        let destinations = within(
-            destinations.as_str(),
-            FEWEST_DESTINATIONS,
-            Limits::DESTINATIONS,
-        )?;
-        let links = within(links.as_str(), 1, Limits::LINKS)?;
-        let count = count.as_str().parse::<u32>().ok()?;
-        let sets = kind.sets(size).count(links);
-        if destinations <= sets || sets > Limits::SETS {
-            return None;
-        }
         Some(Arguments {
             kind,
-            octets,
-            destinations,
-            links,
-            count,
+            octets: within(
+                octets.as_str(),
+                kind.fewest_octets(size),
+                Limits::SIF_OCTETS,
+            )?,
+            shape: shape_of(kind, size, destinations.as_str(), links.as_str())?,
+            count: count.as_str().parse().ok()?,
             size,
         })
     }
-
-    /// What the settings are made of.
-    pub(crate) fn shape(&self) -> Shape
-        ensures destinations { result.destinations ≡ self.now.destinations }
-        ensures links { result.links ≡ self.now.links }
-    {
-        Shape {
-            destinations: self.destinations,
-            links: self.links,
-            sets: self.kind.sets(self.size),
-            routes: self.size.routes(),
-            window: self.size.window(),
-            table: self.kind.table(self.size),
-        }
-    }
 }
 
-/// The words that each run has, and the size that one after them names.
-fn sized(words: &[String]) -> Option<(&[String], Size)> {
-    if words.len() <= WORDS {
-        return Some((words, Size::Usual));
-    }
-    let [size] = &words[WORDS..] else {
-        return None;
+/// What settings of this size are made of for messages of a kind, with as many destinations and links as the words say.
+fn shape_of(kind: Kind, size: Size, destinations: &str, links: &str) -> Option<Shape> {
+    let (routes, window) = match size {
+        Size::Usual => (Routes::One, WINDOW),
+        Size::Wide | Size::Largest => (Routes::Most, Limits::WINDOW as u16),
     };
-    Some((&words[..WORDS], size_of(size.as_str())?))
+    let shape = Shape {
+        destinations: within(destinations, FEWEST_DESTINATIONS, Limits::DESTINATIONS)? as u16,
+        links: within(links, 1, Limits::LINKS)? as u8,
+        sets: kind.sets(size),
+        routes,
+        window,
+        table: kind.table(size),
+    };
+    let sets = shape.set_count();
+    (sets < shape.destinations && usize::from(sets) <= Limits::SETS).then_some(shape)
 }
 
 fn size_of(name: &str) -> Option<Size> {
@@ -241,6 +210,6 @@ fn within(word: &str, least: usize, most: usize) -> Option<usize>
     ensures above { IfSome result (λ number. least ≤ number) }
     ensures fits { IfSome result (λ number. number ≤ most) }
 {
-    let number = word.parse::<usize>().ok()?;
+    let number = word.parse().ok()?;
     (least <= number && number <= most).then_some(number)
 }

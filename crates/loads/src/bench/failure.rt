@@ -24,8 +24,8 @@ pub(crate) fn change_over(peer: &mut Peer, stage: Stage, mut message: Incoming, 
     for _ in 0..count {
         peer.send(first(), &mut message);
     }
-    let before = peer.taken(peer.link());
-    peer.take_window(peer.link());
+    let before = peer.taken(peer.link);
+    peer.take_window(peer.link);
     match stage {
         Stage::Queue => {}
         Stage::Failure => peer.break_off(),
@@ -34,7 +34,7 @@ pub(crate) fn change_over(peer: &mut Peer, stage: Stage, mut message: Incoming, 
             complete(peer, before);
         }
     }
-    for number in 0..peer.link().index() {
+    for number in 0..peer.link.index() {
         peer.take_frame(LinkId::new(number as u8));
     }
 }

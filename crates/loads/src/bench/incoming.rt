@@ -5,7 +5,7 @@ ghost use Rattle.m2pa_codec.specs.declared.frame.TheConstants.{BUFFER_OCTETS};
 ghost use Rattle.m2pa_codec.specs.Frames.{sif_of};
 ghost use Rattle.m2pa_codec.specs.Values.{value_of};
 
-use super::draft::{INTERNATIONAL, adjacent, own};
+use crate::draft::{INTERNATIONAL, adjacent, own};
 use exchange::BUFFER_OCTETS;
 use m2pa_codec::{Frame, encode};
 use mtp3_codec::{MANAGEMENT_OCTETS, Management};

@@ -1,11 +1,9 @@
 //! Nodes that are only made, before the first event.
 
-ghost use Rattle.std.specs.Prelude.{◌≤◌};
-
-use super::draft::{Shape, draft_with};
 use super::total::Total;
+use crate::draft::{Shape, draft_with};
 use exchange::Exchange;
-use settings::{Limits, Settings};
+use settings::Settings;
 use std::alloc::Global;
 
 /// How far a node is made.
@@ -20,41 +18,31 @@ pub(crate) enum Making {
 }
 
 /// Nodes of this shape are made this many times, one after another, each only so far. None if memory ran out.
-pub(crate) fn make(alloc: Global, making: Making, shape: &Shape, count: u32) -> Option<Total>
-    requires destinations { shape.now.destinations ≤ Limits.DESTINATIONS }
-    requires links { shape.now.links ≤ Limits.LINKS }
-{
+pub(crate) fn make(alloc: Global, making: Making, shape: &Shape, count: u32) -> Option<Total> {
     for _ in 0..count {
-        make_one(alloc, making, shape)?;
+        if !is_made(alloc, making, shape) {
+            return None;
+        }
     }
     Some(Total::NOTHING)
 }
 
-/// A node of this shape is made so far. None if memory ran out.
-fn make_one(alloc: Global, making: Making, shape: &Shape) -> Option<()>
-    requires destinations { shape.now.destinations ≤ Limits.DESTINATIONS }
-    requires links { shape.now.links ≤ Limits.LINKS }
-{
+/// Whether a node of this shape is made so far: it isn't if memory ran out.
+fn is_made(alloc: Global, making: Making, shape: &Shape) -> bool {
     match making {
-        Making::Draft => draft_with(alloc, shape).ok().map(|_| ()),
-        Making::Check => checked(alloc, shape).map(|_| ()),
-        Making::Boot => booted(alloc, shape).map(|_| ()),
+        Making::Draft => draft_with(alloc, shape).is_ok(),
+        Making::Check => checked(alloc, shape).is_some(),
+        Making::Boot => booted(alloc, shape).is_some(),
     }
 }
 
 /// The checked settings of this shape. None if memory ran out.
-fn checked(alloc: Global, shape: &Shape) -> Option<Settings>
-    requires destinations { shape.now.destinations ≤ Limits.DESTINATIONS }
-    requires links { shape.now.links ≤ Limits.LINKS }
-{
+fn checked(alloc: Global, shape: &Shape) -> Option<Settings> {
     let draft = draft_with(alloc, shape).ok()?;
     Settings::check(alloc, draft).ok()
 }
 
 /// The exchange with settings of this shape, before its first event. None if memory ran out.
-pub(crate) fn booted(alloc: Global, shape: &Shape) -> Option<Exchange>
-    requires destinations { shape.now.destinations ≤ Limits.DESTINATIONS }
-    requires links { shape.now.links ≤ Limits.LINKS }
-{
+pub(crate) fn booted(alloc: Global, shape: &Shape) -> Option<Exchange> {
     Exchange::boot(alloc, checked(alloc, shape)?).ok()
 }

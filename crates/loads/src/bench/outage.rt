@@ -20,7 +20,7 @@ pub(crate) fn come_and_go(peer: &mut Peer, mut message: Incoming, count: u32) {
 /// The links of the first set before the one that carries the messages come into service, and what they declare is
 /// answered.
 pub(crate) fn join_set(peer: &mut Peer) {
-    for number in 0..peer.link().index() {
+    for number in 0..peer.link.index() {
         let link = LinkId::new(number as u8);
         peer.open(link);
         peer.answer_each(Limits::LINKS_PER_SET as u8, link);
@@ -29,7 +29,7 @@ pub(crate) fn join_set(peer: &mut Peer) {
 
 /// The link fails, and its changeover is answered on the first link.
 fn fail(peer: &mut Peer) {
-    let number = peer.taken(peer.link());
+    let number = peer.taken(peer.link);
     peer.break_off();
     peer.take(first());
     let mut answer = answer_about(peer.selection(), number);
@@ -39,7 +39,7 @@ fn fail(peer: &mut Peer) {
 /// The link returns, and each declaration is answered. A message of the link comes by the first link before that, and
 /// goes out after the last answer.
 fn come_back(peer: &mut Peer, message: &mut Incoming) {
-    let link = peer.link();
+    let link = peer.link;
     peer.open(link);
     peer.send(first(), message);
     peer.answer_each(Limits::LINKS_PER_SET as u8, link);

@@ -8,7 +8,6 @@ use super::peer::Peer;
 use super::side::Side;
 use super::total::Total;
 use super::traffic::forwarded;
-use settings::Limits;
 use std::alloc::Global;
 
 /// Datagrams that a SACK confirms.
@@ -51,10 +50,7 @@ pub(crate) fn over_sctp(
     peer: &mut Peer,
     arguments: &Arguments,
     datagrams: Datagrams,
-) -> Option<Total>
-    requires octets { arguments.now.octets ≤ Limits.SIF_OCTETS }
-    requires destinations { arguments.now.destinations ≤ Limits.DESTINATIONS }
-{
+) -> Option<Total> {
     let mut near = Side::new(alloc, 1).ok()?;
     let mut far = Side::new(alloc, 2).ok()?;
     open(&mut near, &mut far);
@@ -63,7 +59,7 @@ pub(crate) fn over_sctp(
     for _ in 0..arguments.count / CONFIRMED / in_each.max(1) {
         carry_round(peer, &mut message, in_each, &mut near, &mut far);
     }
-    Some(far.told().total())
+    Some(far.told.total)
 }
 
 /// An association begins.
@@ -87,7 +83,7 @@ fn carry_round(
 ) {
     for _ in 0..CONFIRMED {
         for _ in 0..in_each {
-            peer.send(peer.link(), message);
+            peer.send(peer.link, message);
             peer.hand_over(near);
         }
         near.flush(far);

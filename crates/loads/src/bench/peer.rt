@@ -4,12 +4,12 @@ ghost use Rattle.std.specs.Prelude.{◌≤◌};
 
 mod answering;
 
-use super::draft::Shape;
 use super::end::{End, place};
 use super::incoming::Incoming;
 use super::making::booted;
 use super::side::Side;
 use super::total::Total;
+use crate::draft::Shape;
 use exchange::{BUFFER_OCTETS, Event, Exchange};
 use m2pa_codec::{Frame, LinkStatus, encode};
 use settings::{Limits, LinkId, MsuRef, Sls};
@@ -26,7 +26,7 @@ const STATUSES: usize = 3;
 pub(crate) struct Peer {
     exchange: Exchange,
     /// The last link of the first set, which carries the messages.
-    link: LinkId,
+    pub(crate) link: LinkId,
     /// How many links there are.
     links: u8,
     /// The peer's ends of the links, by their numbers.
@@ -34,7 +34,8 @@ pub(crate) struct Peer {
     /// A frame without a message.
     empty: Incoming,
     buffer: [u8; BUFFER_OCTETS],
-    total: Total,
+    /// What the peer took.
+    pub(crate) total: Total,
 }
 
 // By hand, so that no proof above has what a peer owns.
@@ -62,16 +63,13 @@ impl Peer {
     /// The peer of an exchange with settings of this shape. The last link of the first set is in service and carries
     /// all messages, so the others of its set are looked at for nothing. All that is owed was told and confirmed, which
     /// doesn't count. None if memory ran out.
-    pub(crate) fn of_exchange_with(alloc: Global, shape: &Shape) -> Option<Peer>
-        requires destinations { shape.now.destinations ≤ Limits.DESTINATIONS }
-        requires links { shape.now.links ≤ Limits.LINKS }
-    {
+    pub(crate) fn of_exchange_with(alloc: Global, shape: &Shape) -> Option<Peer> {
         let exchange = booted(alloc, shape)?;
-        let link = shape.sets.last_of_first(shape.links);
+        let link = shape.last_of_first_set();
         let mut peer = Peer {
             exchange,
             link,
-            links: shape.links as u8,
+            links: shape.links,
             ends: [End::first(); Limits::LINKS],
             empty: Incoming::empty(),
             buffer: [0; BUFFER_OCTETS],
@@ -83,15 +81,10 @@ impl Peer {
         Some(peer)
     }
 
-    /// The link that carries the messages.
-    pub(crate) fn link(&self) -> LinkId {
-        self.link
-    }
-
     /// The selection whose flows try the link that carries the messages first, if it is the last one of its set. That
     /// is its signalling link code, too.
     pub(crate) fn selection(&self) -> Sls {
-        Sls::new((self.link.index() % Limits::SELECTIONS) as u8).unwrap()
+        Sls::of_low_bits(self.link.index() as u32)
     }
 
     /// How many messages may be unconfirmed.
@@ -113,9 +106,7 @@ impl Peer {
         self.tell(link, LinkStatus::ProvingNormal);
         self.tell(link, LinkStatus::Ready);
         let ticks = self.exchange.settings().timers().l4;
-        for _ in 0..ticks {
-            self.tick();
-        }
+        self.pass(u32::from(ticks));
         for _ in 0..STATUSES {
             self.exchange.take(link, &mut self.buffer);
         }
@@ -167,18 +158,18 @@ impl Peer {
         self.exchange.step(&Event::Submit(message));
     }
 
-    /// One tick of the clock passes.
-    pub(crate) fn tick(&mut self) {
-        self.exchange.step(&Event::Tick);
+    /// Ticks of the clock pass.
+    pub(crate) fn pass(&mut self, ticks: u32) {
+        for _ in 0..ticks {
+            self.exchange.step(&Event::Tick);
+        }
     }
 
     /// Time passes until T1 ends, after which a link that failed as the last one of its set may open again. Each other
     /// timer that runs now ends too, since all run as long.
     pub(crate) fn outlast_timers(&mut self) {
         let ticks = self.exchange.settings().timers().t1;
-        for _ in 0..ticks {
-            self.tick();
-        }
+        self.pass(u32::from(ticks));
     }
 
     /// Sends a message on a link, in a frame that confirms all that was taken of it.
@@ -262,10 +253,5 @@ impl Peer {
         for number in 0..self.links {
             self.settle(LinkId::new(number));
         }
-    }
-
-    /// What the peer took.
-    pub(crate) fn total(&self) -> Total {
-        self.total
     }
 }

@@ -1,21 +1,11 @@
 //! What changes routes or passes time, again and again. Adjacent points take and confirm what they are told.
 
-ghost use Rattle.std.specs.Prelude.{◌≤◌};
-
-use super::draft::OWN;
 use super::end::first;
 use super::incoming::Incoming;
 use super::peer::Peer;
+use crate::draft::OWN;
 use mtp3_codec::Management;
-use settings::{Limits, PointCode};
-
-/// Ticks of the clock. With one link the first ten meet T8 of each destination that its point was told of; later ones,
-/// and all with more links, meet no timer that runs.
-pub(crate) fn tick(peer: &mut Peer, count: u32) {
-    for _ in 0..count {
-        peer.tick();
-    }
-}
+use settings::PointCode;
 
 /// The adjacent point of the first set reports a point, transfer-prohibited and then transfer-allowed, this many times.
 pub(crate) fn change_status(peer: &mut Peer, about: PointCode, count: u32) {
@@ -35,20 +25,20 @@ pub(crate) fn enter(peer: &mut Peer, count: u32) {
         peer.break_off();
         peer.settle_each();
         peer.outlast_timers();
-        peer.open(peer.link());
+        peer.open(peer.link);
         peer.settle_each();
     }
 }
 
 /// The adjacent point of the first set reports that each destination is prohibited by it. T10 runs from then on for
 /// those that the set leads to.
-pub(crate) fn prohibit_each(peer: &mut Peer, destinations: usize)
-    requires { destinations ≤ Limits.DESTINATIONS }
-{
+pub(crate) fn prohibit_each(peer: &mut Peer, destinations: u16) {
     for number in 0..destinations {
-        let about = PointCode::of_low_bits(u32::from(OWN) + 1 + number as u32);
-        let mut prohibited = Incoming::with_management(Management::TransferProhibited(about));
-        hear(peer, &mut prohibited);
+        let about = PointCode::of_low_bits(u32::from(OWN) + 1 + u32::from(number));
+        hear(
+            peer,
+            &mut Incoming::with_management(Management::TransferProhibited(about)),
+        );
     }
 }
 

@@ -1,6 +1,6 @@
 //! An end of an SCTP association, which hears what the other end puts out.
 
-use super::told::Told;
+use super::total::Total;
 use sctp_endpoint::endpoint::KEY_OCTETS;
 use sctp_endpoint::{Address, Endpoint, Event, Settings, Watch};
 use sctp_sending::{Bounds, Message};
@@ -34,12 +34,24 @@ const USER_DATA: u16 = 1;
 
 const M2PA: u32 = 5;
 
+/// Octets of a datagram, at most.
+const OCTETS: usize = 1_200;
+
+/// The frames that an end tells, and the last datagram that it puts out while it hears one.
+#[derive(Drop)]
+pub(crate) struct Told {
+    /// What it told.
+    pub(crate) total: Total,
+    octets: [u8; OCTETS],
+    count: usize,
+}
+
 /// An end of the association. It hears what the other end puts out as that is put out, without a copy. Its state is
 /// hidden from proofs, so nothing is promised of it.
 pub(crate) struct Side {
     endpoint: Endpoint,
     /// What it tells, and the datagrams that it puts out while it hears one.
-    told: Told,
+    pub(crate) told: Told,
     /// The time, in milliseconds.
     now: u32,
 }
@@ -66,7 +78,11 @@ impl Side {
     pub(crate) fn new(alloc: Global, key: u8) -> Result<Side, AllocError> {
         Ok(Side {
             endpoint: Endpoint::new(alloc, SETTINGS, [key; KEY_OCTETS], [key; KEY_OCTETS])?,
-            told: Told::nothing(),
+            told: Told {
+                total: Total::NOTHING,
+                octets: [0; OCTETS],
+                count: 0,
+            },
             now: 0,
         })
     }
@@ -95,17 +111,14 @@ impl Side {
 
     /// The other end hears what was put out while this one heard a datagram.
     pub(crate) fn answer(&mut self, other: &mut Side) {
-        other.hear(self.told.datagram());
-        self.told.forget();
+        let count = self.told.count.min(OCTETS);
+        other.hear(&self.told.octets[..count]);
+        self.told.count = 0;
     }
 
     /// A millisecond passes.
     pub(crate) fn tick(&mut self) {
         self.now = self.now.wrapping_add(1);
-    }
-
-    pub(crate) fn told(&self) -> &Told {
-        &self.told
     }
 
     /// A datagram comes.
@@ -128,4 +141,22 @@ impl Watch for Side {
     }
 
     fn tell(&mut self, _event: &Event<'_>) {}
+}
+
+impl Watch for Told {
+    // nothing is proved of it
+    ghost has = { λ _ _ _. Unit {0} };
+
+    fn send(&mut self, octets: &[u8], _to: &Address) {
+        let count = octets.len().min(OCTETS);
+        self.octets[..count].copy_from_slice(&octets[..count]);
+        self.count = count;
+    }
+
+    #[inline(always)]
+    fn tell(&mut self, event: &Event<'_>) {
+        if let Event::Heard(message) = event {
+            self.total = self.total.with(message.octets);
+        }
+    }
 }

@@ -1,17 +1,17 @@
 //! Messages of one kind, one after another.
 
-ghost use Rattle.std.specs.Prelude.{◌^◌, ◌<◌, ◌≤◌, length};
+ghost use Rattle.std.specs.Prelude.{◌≤◌, length};
 
 use super::arguments::{Arguments, Kind, LABEL_OCTETS, Size};
-use super::draft::{ADJACENT, INTERNATIONAL, ISUP, OWN, PAIR};
 use super::failure::change_over;
 use super::incoming::Incoming;
 use super::outage::{come_and_go, join_set};
 use super::peer::Peer;
-use super::route_changes::{change_status, enter, prohibit_each, test_routes, tick};
+use super::route_changes::{change_status, enter, prohibit_each, test_routes};
 use super::unitdata::{title_from, unitdata};
+use crate::draft::{INTERNATIONAL, ISUP, PAIR, adjacent, own};
 use mtp3_codec::Label;
-use settings::{Limits, MsuRef, PointCode, Sls};
+use settings::{Limits, MsuRef, Sls};
 
 /// After how many messages an empty frame confirms them.
 const CONFIRMED_AT_ONCE: u32 = 64;
@@ -23,28 +23,27 @@ const SIO: u8 = INTERNATIONAL << 6 | ISUP;
 const FILLING: u8 = 0xaa;
 
 /// Carries the messages, all to the last destination or to the node's own point, which may lead or send them on.
-pub(crate) fn carry(peer: &mut Peer, arguments: &Arguments)
-    requires octets { arguments.now.octets ≤ Limits.SIF_OCTETS }
-    requires destinations { arguments.now.destinations ≤ Limits.DESTINATIONS }
-{
+pub(crate) fn carry(peer: &mut Peer, arguments: &Arguments) {
     bring_in(peer, arguments);
     let count = arguments.count;
     match arguments.kind {
         Kind::Acknowledgement => acknowledge(peer, count),
         Kind::Relay(_) => forward(peer, unitdata_of(peer, arguments, 0), count),
         Kind::Udts(_) => forward(peer, unitdata_of(peer, arguments, 0xff), count),
-        Kind::Tick => tick(peer, count),
-        Kind::Status => {
-            let about = PointCode::new(last_point(arguments)).unwrap();
-            change_status(peer, about, count);
-        }
+        // with one link the first ten meet T8 of each destination that its point was told of; later ones, and all with
+        // more links, meet no timer that runs
+        Kind::Tick => peer.pass(count),
+        Kind::Status => change_status(peer, arguments.shape.last_point(), count),
         Kind::Entry => enter(peer, count),
         Kind::Expiry => {
-            prohibit_each(peer, arguments.destinations);
+            prohibit_each(peer, arguments.shape.destinations);
             test_routes(peer, count);
         }
-        Kind::Make(_) => {}
-        _ => carry_isup(peer, arguments),
+        Kind::Submit => {
+            let field = isup_field(peer, arguments);
+            submit(peer, &field[..arguments.octets], count);
+        }
+        _ => carry_isup(peer, arguments, isup_message(peer, arguments)),
     }
 }
 
@@ -59,81 +58,77 @@ fn bring_in(peer: &mut Peer, arguments: &Arguments) {
         (Size::Usual, _) => {}
         (_, kind) => {
             let is_entry = matches!(kind, Kind::Entry);
-            peer.open_from(if is_entry { PAIR as u8 } else { 0 });
+            peer.open_from(if is_entry { PAIR } else { 0 });
             peer.outlast_timers();
         }
     }
 }
 
-/// Carries messages of the ISDN user part.
-fn carry_isup(peer: &mut Peer, arguments: &Arguments)
-    requires octets { arguments.now.octets ≤ Limits.SIF_OCTETS }
-    requires destinations { arguments.now.destinations ≤ Limits.DESTINATIONS }
-{
-    let to = match arguments.kind {
-        Kind::Local => OWN,
-        _ => last_point(arguments),
-    };
-    let field = longest_field(ADJACENT, to, selection_of(peer, arguments));
-    let sif = &field[..arguments.octets];
-    let message = Incoming::with_message(SIO, sif);
+/// Carries messages of the ISDN user part, which are like this one.
+fn carry_isup(peer: &mut Peer, arguments: &Arguments, message: Incoming) {
     let count = arguments.count;
     match arguments.kind {
-        Kind::Forward => forward(peer, message, count),
         Kind::Burst => burst(peer, message, count),
-        Kind::Submit => submit(peer, sif, count),
         Kind::Local => local(peer, message, count),
         Kind::Standing(stage) => change_over(peer, stage, message, count),
         Kind::Return => come_and_go(peer, message, count),
-        _ => {}
+        _ => forward(peer, message, count),
     }
 }
 
 /// A message of the ISDN user part to the last destination, once what is to be in service is.
-pub(crate) fn forwarded(peer: &mut Peer, arguments: &Arguments) -> Incoming
-    requires octets { arguments.now.octets ≤ Limits.SIF_OCTETS }
-    requires destinations { arguments.now.destinations ≤ Limits.DESTINATIONS }
-{
+pub(crate) fn forwarded(peer: &mut Peer, arguments: &Arguments) -> Incoming {
     bring_in(peer, arguments);
-    let field = longest_field(
-        ADJACENT,
-        last_point(arguments),
-        selection_of(peer, arguments),
-    );
+    isup_message(peer, arguments)
+}
+
+/// A message of the ISDN user part.
+fn isup_message(peer: &Peer, arguments: &Arguments) -> Incoming {
+    let field = isup_field(peer, arguments);
     Incoming::with_message(SIO, &field[..arguments.octets])
 }
 
-/// The point of the last destination.
-fn last_point(arguments: &Arguments) -> u16
-    requires { arguments.now.destinations ≤ Limits.DESTINATIONS }
-    ensures { result < 2 ^ 14 }
-{
-    OWN + arguments.destinations as u16
+/// The field of a message of the ISDN user part to the last destination, or to this point: a label, and octets after
+/// it, as many as may be.
+fn isup_field(peer: &Peer, arguments: &Arguments) -> [u8; Limits::SIF_OCTETS] {
+    let label = Label {
+        opc: adjacent(),
+        dpc: match arguments.kind {
+            Kind::Local => own(),
+            _ => arguments.shape.last_point(),
+        },
+        sls: selection_of(peer, arguments),
+    };
+    let mut octets = [FILLING; Limits::SIF_OCTETS];
+    octets[..LABEL_OCTETS].copy_from_slice(&label.write());
+    octets
 }
 
 /// The selection of all messages: one of the link that carries them, if others of its set are in service too.
 fn selection_of(peer: &Peer, arguments: &Arguments) -> Sls {
-    match arguments.kind {
-        Kind::Standing(_) | Kind::Return => peer.selection(),
-        _ if arguments.size.is_usual() => Sls::new(0).unwrap(),
+    match (arguments.size, arguments.kind) {
+        (Size::Usual, Kind::Standing(_) | Kind::Return) => peer.selection(),
+        (Size::Usual, _) => Sls::of_low_bits(0),
         _ => peer.selection(),
     }
 }
 
 /// A UDT with a title that begins with these octets.
-fn unitdata_of(peer: &Peer, arguments: &Arguments, first: u8) -> Incoming
-    requires { arguments.now.octets ≤ Limits.SIF_OCTETS }
-{
-    let table = arguments.kind.table(arguments.size);
+fn unitdata_of(peer: &Peer, arguments: &Arguments, first: u8) -> Incoming {
     let selection = selection_of(peer, arguments);
-    unitdata(&title_from(first), table, selection, arguments.octets)
+    unitdata(
+        &title_from(first),
+        arguments.shape.table,
+        selection,
+        arguments.octets,
+    )
 }
 
 /// Messages that come, and go on or back, each confirmed by the next one.
 fn forward(peer: &mut Peer, mut message: Incoming, count: u32) {
     for _ in 0..count {
-        peer.send(peer.link(), &mut message);
-        peer.take(peer.link());
+        peer.send(peer.link, &mut message);
+        peer.take(peer.link);
     }
 }
 
@@ -141,9 +136,9 @@ fn forward(peer: &mut Peer, mut message: Incoming, count: u32) {
 fn burst(peer: &mut Peer, mut message: Incoming, count: u32) {
     for _ in 0..count as usize / peer.window().max(1) {
         for _ in 0..peer.window() {
-            peer.send(peer.link(), &mut message);
+            peer.send(peer.link, &mut message);
         }
-        peer.take_window(peer.link());
+        peer.take_window(peer.link);
     }
 }
 
@@ -153,9 +148,9 @@ fn submit(peer: &mut Peer, sif: &[u8], count: u32)
 {
     for number in 0..count {
         peer.submit(MsuRef { sio: SIO, sif });
-        peer.take(peer.link());
+        peer.take(peer.link);
         if number % CONFIRMED_AT_ONCE == 0 {
-            peer.confirm(peer.link());
+            peer.confirm(peer.link);
         }
     }
 }
@@ -163,29 +158,14 @@ fn submit(peer: &mut Peer, sif: &[u8], count: u32)
 /// Messages that come for a user part, each acknowledged.
 fn local(peer: &mut Peer, mut message: Incoming, count: u32) {
     for _ in 0..count {
-        peer.send(peer.link(), &mut message);
-        peer.take_frame(peer.link());
+        peer.send(peer.link, &mut message);
+        peer.take_frame(peer.link);
     }
 }
 
 /// Frames without a message.
 fn acknowledge(peer: &mut Peer, count: u32) {
     for _ in 0..count {
-        peer.confirm(peer.link());
+        peer.confirm(peer.link);
     }
-}
-
-/// The longest signalling information field: a label from one point to another, and octets after it.
-fn longest_field(from: u16, to: u16, sls: Sls) -> [u8; Limits::SIF_OCTETS]
-    requires from { from < 2 ^ 14 }
-    requires to { to < 2 ^ 14 }
-{
-    let label = Label {
-        opc: PointCode::new(from).unwrap(),
-        dpc: PointCode::new(to).unwrap(),
-        sls,
-    };
-    let mut octets = [FILLING; Limits::SIF_OCTETS];
-    octets[..LABEL_OCTETS].copy_from_slice(&label.write());
-    octets
 }

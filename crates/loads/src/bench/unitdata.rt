@@ -4,9 +4,9 @@ ghost use Rattle.std.specs.Prelude.{◌≡◌, ◌+◌, ◌/◌, ◌≤◌, leng
 ghost use Rattle.sccp_codec.specs.Messages.{address_octets};
 ghost use Rattle.sccp_codec.specs.Values.{address_of};
 
-use super::draft::{INTERNATIONAL, adjacent, own};
 use super::incoming::Incoming;
-use super::titles::{NATURE, PLAN, SUBSYSTEM, TRANSLATION, Table};
+use crate::draft::{INTERNATIONAL, adjacent, own};
+use crate::titles::{NATURE, PLAN, SUBSYSTEM, TRANSLATION, Table};
 use mtp3_codec::Label;
 use sccp_codec::{Address, Field, Parts, Routing, TitleIndicator, Udt};
 use settings::{Limits, Sls};

@@ -1,10 +1,10 @@
 //! Both peers of a node, by the clock of this machine.
 
-use super::opening::{self, Place, RECEIVER, SENDER};
+use super::nodes::{RECEIVER, SENDER, peer};
 use super::station::Station;
 use served_link::TickClock;
 use std::io;
-use std::time::{Duration, Instant};
+use std::time::Instant;
 
 /// How long a tick takes, in milliseconds.
 const TICK_MS: u16 = 100;
@@ -29,141 +29,97 @@ pub(crate) struct Load {
     pub octets: usize,
 }
 
-/// The clock of a run.
+/// Both peers, and the clock of their run.
 #[derive(Drop)]
 struct Run<'a> {
     rt: &'a HostRuntime,
+    near: Station,
+    far: Station,
     clock: TickClock,
     started: Instant,
 }
 
-impl<'a> Run<'a> {
-    fn begin(rt: &'a HostRuntime) -> io::Result<Run<'a>> {
-        Ok(Run {
-            rt,
-            clock: TickClock::new(TICK_MS),
-            started: Instant::now(rt)?,
-        })
+/// Has messages pass from one peer to the other, and prints what came.
+pub(crate) fn pass(rt: &HostRuntime, load: Load) -> io::Result<()> {
+    let started = Instant::now(rt)?;
+    match begun(rt, load, started) {
+        Some(mut run) => run.pass(load.count),
+        None => println!(rt; "the node can't be opened"),
     }
+}
 
-    /// How long the run has taken.
-    fn now(&self) -> io::Result<Duration> {
-        Ok(Instant::now(self.rt)?.duration_since(self.started))
-    }
+/// The peers before their first round. None if memory can't be had.
+fn begun(rt: &HostRuntime, load: Load, started: Instant) -> Option<Run<'_>> {
+    let Load { port, octets, .. } = load;
+    let alloc = rt.alloc();
+    let (near, far) = (peer(alloc, SENDER, RECEIVER), peer(alloc, RECEIVER, SENDER));
+    Some(Run {
+        rt,
+        near: Station::new(alloc, near, port, octets)?,
+        far: Station::new(alloc, far, port.saturating_add(1), octets)?,
+        clock: TickClock::new(TICK_MS),
+        started,
+    })
+}
 
-    /// Whether the run has taken too long.
-    fn is_late(&self) -> io::Result<bool> {
-        Ok(millis(self.now()?) > MOST_MS)
-    }
-
-    /// Does what there is to do at both peers, and waits for nothing. Returns how long the run had taken by then.
-    fn round(&mut self, near: &mut Station, far: &mut Station) -> io::Result<Duration> {
-        let now = self.now()?;
-        let is_due = self.clock.is_due(millis(now));
-        near.wait(now, Duration::ZERO)?;
-        near.turn(self.rt, now, is_due);
-        far.wait(now, Duration::ZERO)?;
-        far.turn(self.rt, now, is_due);
-        Ok(now)
+impl Run<'_> {
+    /// Has messages pass from one peer to the other, and prints what came.
+    fn pass(&mut self, count: u32) -> io::Result<()> {
+        self.await_rest()?;
+        let took = self.pass_all(count)?;
+        let came = self.far.arrivals.came;
+        let right = self.far.arrivals.wrong == 0 && came == u64::from(count);
+        println!(self.rt;
+            "{came} messages came; each once and in order: {right}; {took} ms from the first to the last"
+        )
     }
 
     /// Round after round, until both peers have been at rest for some time.
-    fn await_rest(&mut self, near: &mut Station, far: &mut Station) -> io::Result<()> {
-        let mut since = self.now()?;
+    fn await_rest(&mut self) -> io::Result<()> {
+        let mut since = self.millis()?;
         for _ in 0..u64::MAX {
-            let now = self.round(near, far)?;
-            if !near.is_at_rest() || !far.is_at_rest() {
+            let now = self.round()?;
+            if !self.near.is_at_rest() || !self.far.is_at_rest() {
                 since = now;
             }
-            if millis(now.saturating_sub(since)) > REST_MS || self.is_late()? {
+            if now.saturating_sub(since) > REST_MS || now > MOST_MS {
                 break;
             }
         }
         Ok(())
     }
 
-    /// Submits this many messages at a peer, and makes rounds until they came to the other. No more than
-    /// `ON_THE_WAY` are on their way. Returns how long it took from the first to the last.
-    fn pass_all(
-        &mut self,
-        near: &mut Station,
-        far: &mut Station,
-        count: u32,
-    ) -> io::Result<Duration> {
-        let first = self.now()?;
+    /// Submits this many messages at one peer, and makes rounds until they came to the other. No more than
+    /// `ON_THE_WAY` are on their way. Returns how many milliseconds it took from the first to the last.
+    fn pass_all(&mut self, count: u32) -> io::Result<u64> {
+        let first = self.millis()?;
+        let mut now = first;
         for _ in 0..u64::MAX {
-            let came = far.arrivals.came;
-            if came >= u64::from(count) || self.is_late()? {
+            let came = self.far.arrivals.came;
+            if came >= u64::from(count) || now > MOST_MS {
                 break;
             }
-            let on_the_way = u64::from(near.taken).saturating_sub(came);
+            let taken = self.near.taken;
+            let on_the_way = u64::from(taken).saturating_sub(came);
             let room = ON_THE_WAY.saturating_sub(on_the_way) as u32;
-            let left = count.saturating_sub(near.taken);
-            submit(near, left.min(room), self.now()?);
-            self.round(near, far)?;
+            self.near.submit(room.min(count.saturating_sub(taken)));
+            now = self.round()?;
         }
-        Ok(self.now()?.saturating_sub(first))
+        Ok(self.millis()?.saturating_sub(first))
     }
 
-    /// Has messages pass from one peer to the other, and prints what came.
-    fn pass(&mut self, near: &mut Station, far: &mut Station, count: u32) -> io::Result<()> {
-        self.await_rest(near, far)?;
-        let took = self.pass_all(near, far, count)?;
-        self.tell(far, count, took)
+    /// Does what there is to do at both peers, and waits for nothing. Returns how long the run had taken by then.
+    fn round(&mut self) -> io::Result<u64> {
+        let now = self.millis()?;
+        let is_due = self.clock.is_due(now);
+        self.near.turn(self.rt, is_due);
+        self.far.turn(self.rt, is_due);
+        Ok(now)
     }
 
-    /// Prints what came.
-    fn tell(&self, station: &Station, count: u32, took: Duration) -> io::Result<()> {
-        let took = millis(took);
-        let came = station.arrivals.came;
-        let right = station.arrivals.wrong == 0 && came == u64::from(count);
-        println!(self.rt;
-            "{came} messages came; each once and in order: {right}; {took} ms from the first to the last"
-        )
+    /// How long the run has taken, in milliseconds.
+    fn millis(&self) -> io::Result<u64> {
+        let time = Instant::now(self.rt)?.duration_since(self.started);
+        Ok(u64::try_from(time.as_millis()).unwrap_or(u64::MAX))
     }
-}
-
-/// Submits messages, at most this many, until one isn't taken.
-fn submit(station: &mut Station, most: u32, now: Duration) {
-    for _ in 0..most {
-        if !station.submit(now) {
-            return;
-        }
-    }
-}
-
-/// The whole milliseconds of a time.
-fn millis(time: Duration) -> u64 {
-    u64::try_from(time.as_millis()).unwrap_or(u64::MAX)
-}
-
-/// Has messages pass from one peer to the other, and prints what came.
-pub(crate) fn pass(rt: &HostRuntime, load: Load) -> io::Result<()> {
-    let Some(near) = opening::open(rt, Place::beside(SENDER, load.port), load.octets) else {
-        return println!(rt; "the node can't be opened");
-    };
-    let behind = load.port.saturating_add(1);
-    match opening::open(rt, Place::beside(RECEIVER, behind), load.octets) {
-        Some(far) => pass_between(rt, near, far, load.count),
-        None => {
-            near.close();
-            println!(rt; "the node can't be opened")
-        }
-    }
-}
-
-/// The same between these two peers, which are closed at its end.
-fn pass_between(
-    rt: &HostRuntime,
-    mut near: Station,
-    mut far: Station,
-    count: u32,
-) -> io::Result<()> {
-    let done = match Run::begin(rt) {
-        Ok(mut run) => run.pass(&mut near, &mut far, count),
-        Err(error) => Err(error),
-    };
-    near.close();
-    far.close();
-    done
 }

@@ -1,38 +1,37 @@
 //! A peer: what came to it, and what it submits to the other.
 
+ghost use Rattle.std.specs.Prelude.{◌<◌, length};
+
 use super::FRONT_OCTETS;
 use super::arrivals::Arrivals;
-use super::opening::{RECEIVER, SENDER};
-use exchange::{Event, Label, LinkStanding};
-use script::{Sink, WriteFailed};
+use super::nodes::{RECEIVER, SENDER};
+use exchange::{Draft, Event, Exchange, Label, LinkStanding, Wants};
+use served_link::Association;
 use settings::{Limits, LinkId, MsuRef, Outcome, PointCode, Settings, Sls};
-use settings_file::serve::ServeSettings;
+use std::alloc::{AllocError, Global};
 use std::io;
+use std::io::{ErrorKind, Read, Write};
 use std::marker::Model;
-use std::time::Duration;
-use stp_server::{Places, Server};
-use trace::PointFormat;
+use std::net::{Ipv4Addr, TcpStream};
 
 /// The service information octet of the ISDN user part in the international network (Q.704 §14.2).
 const ISUP: u8 = 0x85;
 
-/// A log that keeps nothing.
-#[derive(Clone, Copy)]
-struct Unlogged;
+/// Octets of a read, at most.
+const READ_OCTETS: usize = 65_536;
 
-impl Sink for Unlogged {
-    ghost use Rattle.std.specs.Prelude.{None};
+/// Reads of a round, at most, and writes.
+const READS: usize = 16;
 
-    ghost output = { λ _. record { written = None; failures = 0 } };
+const WRITES: usize = 64;
 
-    fn write(&mut self, _octets: &[u8]) -> Result<(), WriteFailed> {
-        Ok(())
-    }
-}
-
-/// A server, what came to it, and how many messages it submitted.
+/// A peer, and how many messages it submitted. Its state is hidden from proofs: nothing is said of it.
 pub(crate) struct Station {
-    server: Server,
+    exchange: Exchange,
+    port: u16,
+    connection: Option<Connection>,
+    /// Where octets lie that came.
+    buffer: Vec<u8>,
     field: [u8; Limits::SIF_OCTETS],
     octets: usize,
     /// What came.
@@ -45,7 +44,10 @@ pub(crate) struct Station {
 impl Drop for Station {
     fn drop(self) {
         let Station {
-            server: _,
+            exchange: _,
+            port: _,
+            connection: _,
+            buffer: _,
             field: _,
             octets: _,
             arrivals: _,
@@ -54,7 +56,6 @@ impl Drop for Station {
     }
 }
 
-// Nothing is said of a server's state, so nothing is said of this.
 impl Model for Station {
     ghost Value = { Unit {0} };
 
@@ -62,25 +63,21 @@ impl Model for Station {
 }
 
 impl Station {
-    /// A node with these settings, whose messages have this many octets. None if a socket or memory can't be had.
-    pub(crate) fn open(
-        rt: &HostRuntime,
-        settings: Settings,
-        serve: &ServeSettings,
+    /// A node with these settings, whose link is to connect to a port of this machine, and whose messages have this
+    /// many octets. None if memory can't be had.
+    pub(crate) fn new(
+        alloc: Global,
+        draft: Result<Draft, AllocError>,
+        port: u16,
         octets: usize,
     ) -> Option<Station> {
-        let places = Places {
-            links: serve.links(),
-            udp: serve.udp(),
-            sctp: serve.sctp(),
-            console: None,
-            page: None,
-            is_page_open: false,
-            points: PointFormat::Plain,
-        };
-        let server = Server::open(rt, rt.alloc(), settings, places, &mut Unlogged).ok()?;
+        let settings = Settings::check(alloc, draft.ok()?).ok()?;
+        let exchange = Exchange::boot(alloc, settings).ok()?;
         Some(Station {
-            server,
+            exchange,
+            port,
+            connection: None,
+            buffer: vec![in alloc; 0; READ_OCTETS].ok()?,
             field: [0; Limits::SIF_OCTETS],
             octets,
             arrivals: Arrivals::new(),
@@ -88,72 +85,152 @@ impl Station {
         })
     }
 
-    /// Closes its sockets. Nothing else drops a server, since that is long to prove.
-    pub(crate) fn close(self) {
-        drop(self);
+    /// Submits messages, at most this many, until the node doesn't take one.
+    pub(crate) fn submit(&mut self, most: u32) {
+        for _ in 0..most {
+            if !self.submit_next() {
+                return;
+            }
+        }
     }
 
     /// Submits the next message. False if the node doesn't take it.
-    pub(crate) fn submit(&mut self, now: Duration) -> bool {
-        let Some(front) = front_of(self.taken) else {
-            return false;
-        };
+    fn submit_next(&mut self) -> bool {
+        let front = front_of(self.taken);
         self.field[..FRONT_OCTETS].copy_from_slice(&front);
         let Some(sif) = self.field.get(..self.octets) else {
             return false;
         };
-        let message = MsuRef { sio: ISUP, sif };
         let outcome = self
-            .server
-            .step(&Event::Submit(message), now, &mut Unlogged);
+            .exchange
+            .step(&Event::Submit(MsuRef { sio: ISUP, sif }));
         let is_taken = matches!(outcome, Outcome::Queued(_) | Outcome::Held);
-        if is_taken {
-            self.taken = self.taken.saturating_add(1);
-        }
+        self.taken = self.taken.saturating_add(u32::from(is_taken));
         is_taken
     }
 
-    /// Waits until something happens, but no longer than this.
-    pub(crate) fn wait(&mut self, now: Duration, most: Duration) -> io::Result<()> {
-        self.server.wait(now, most)
-    }
-
-    /// Lets a tick pass, if one is due, and does what there is to do on each socket.
-    pub(crate) fn turn(&mut self, rt: &HostRuntime, now: Duration, is_due: bool) {
+    /// Lets a tick pass, if one is due, and does what there is to do on the connection.
+    pub(crate) fn turn(&mut self, rt: &HostRuntime, is_due: bool) {
         if is_due {
-            self.server.tick(now, &mut Unlogged);
+            self.exchange.step(&Event::Tick);
+            self.settle(rt);
         }
-        self.server.turn(rt, now, &mut Unlogged, &mut self.arrivals);
+        let goes_on = match &mut self.connection {
+            Some(connection) => {
+                let buffer = self.buffer.as_mut_slice();
+                connection.read(&mut self.exchange, &mut self.arrivals, buffer)
+                    && connection.write(&mut self.exchange, &mut self.arrivals)
+            }
+            None => true,
+        };
+        if !goes_on {
+            self.end();
+        }
     }
 
-    /// Whether each link is in service, and no message waits on any.
+    /// Makes the connection or ends it, as the link wants.
+    fn settle(&mut self, rt: &HostRuntime) {
+        match self.exchange.wants(LinkId::new(0)) {
+            Wants::Open if self.connection.is_none() => {
+                self.connection = Connection::make(rt, self.port).ok();
+            }
+            Wants::Close => self.end(),
+            _ => {}
+        }
+    }
+
+    /// The connection ends.
+    fn end(&mut self) {
+        if let Some(connection) = &mut self.connection {
+            connection.association.fall(&mut self.exchange);
+        }
+        self.connection = None;
+    }
+
+    /// Whether its link is in service, and no message waits on it.
     pub(crate) fn is_at_rest(&self) -> bool {
-        let mut are_at_rest = true;
-        for link in 0..self.links() {
-            are_at_rest = are_at_rest
-                && match self.server.exchange().link(LinkId::new(link)) {
-                    Some(view) => view.standing == LinkStanding::InService && view.waiting == 0,
-                    None => false,
-                };
+        match self.exchange.link(LinkId::new(0)) {
+            Some(view) => view.standing == LinkStanding::InService && view.waiting == 0,
+            None => false,
         }
-        are_at_rest
+    }
+}
+
+/// The connection of a peer's link.
+#[derive(Drop)]
+struct Connection {
+    stream: TcpStream,
+    association: Association,
+}
+
+impl Connection {
+    /// A new connection to a port of this machine.
+    fn make(rt: &HostRuntime, port: u16) -> io::Result<Connection> {
+        let stream = TcpStream::connect(rt, (Ipv4Addr::LOCALHOST, port))?;
+        stream.set_nonblocking(true)?;
+        stream.set_nodelay(true)?;
+        Ok(Connection {
+            stream,
+            association: Association::connected(LinkId::new(0)),
+        })
     }
 
-    /// How many links its node has.
-    fn links(&self) -> u8 {
-        u8::try_from(self.server.exchange().settings().link_count()).unwrap_or(u8::MAX)
+    /// Reads what came, and hands it in. False if the connection is over.
+    fn read(
+        &mut self,
+        exchange: &mut Exchange,
+        arrivals: &mut Arrivals,
+        buffer: &mut [u8],
+    ) -> bool {
+        for _ in 0..READS {
+            let count = match self.stream.read(buffer) {
+                Ok(0) => return false,
+                Ok(count) => count,
+                Err(error) => return error.kind() == ErrorKind::WouldBlock,
+            };
+            if !hand_in(&mut self.association, exchange, &buffer[..count], arrivals) {
+                return false;
+            }
+        }
+        true
     }
+
+    /// Takes frames and writes them, as far as the socket takes them. False if the connection is over.
+    fn write(&mut self, exchange: &mut Exchange, arrivals: &mut Arrivals) -> bool {
+        for _ in 0..WRITES {
+            if !self.association.is_up() || !self.association.fill(exchange, arrivals) {
+                return true;
+            }
+            match self.stream.write(self.association.pending()) {
+                Ok(count) => self.association.written(count),
+                Err(error) => return error.kind() == ErrorKind::WouldBlock,
+            }
+        }
+        true
+    }
+}
+
+/// Hands in octets that came. The association comes up with the first. False if the connection is to end.
+fn hand_in(
+    association: &mut Association,
+    exchange: &mut Exchange,
+    octets: &[u8],
+    arrivals: &mut Arrivals,
+) -> bool
+    requires { 0 < length octets.now }
+{
+    association.hear(octets, exchange) && association.read(exchange, octets, arrivals).is_ok()
 }
 
 /// The front of the signalling information field of the message after this many others. The flows take turns, and each
 /// message has its number in the flow.
-fn front_of(others: u32) -> Option<[u8; FRONT_OCTETS]> {
+fn front_of(others: u32) -> [u8; FRONT_OCTETS] {
     let label = Label {
-        dpc: PointCode::new(u16::from(RECEIVER))?,
-        opc: PointCode::new(u16::from(SENDER))?,
-        sls: Sls::new((others % 16) as u8)?,
+        dpc: PointCode::of_low_bits(u32::from(RECEIVER)),
+        opc: PointCode::of_low_bits(u32::from(SENDER)),
+        sls: Sls::of_low_bits(others),
     };
     let [l0, l1, l2, l3] = label.write();
     let [n3, n2, n1, n0] = (others / 16).to_be_bytes();
-    Some([l0, l1, l2, l3, n3, n2, n1, n0])
+    [l0, l1, l2, l3, n3, n2, n1, n0]
 }

@@ -1,12 +1,10 @@
 //! The translation rows of the exchange.
 
-ghost use Rattle.std.specs.Prelude.{◌≤◌};
-
 use settings::{ChangeDraft, Limits, TitleDraft};
 use std::alloc::{AllocError, Global};
 
 /// Rows of a table that is short.
-const FEW_ROWS: usize = 2;
+const FEW_ROWS: u16 = 2;
 
 /// The translation type of all rows.
 pub(crate) const TRANSLATION: u8 = 0;
@@ -37,14 +35,13 @@ pub(crate) enum Table {
 }
 
 impl Table {
-    /// How many rows.
-    fn rows(self) -> usize
-        ensures { result ≤ Limits.TITLES }
-    {
+    /// How many rows, and what is after the number in the digits of each.
+    fn rows(self) -> (u16, &'static str) {
         match self {
-            Table::Empty => 0,
-            Table::Short => FEW_ROWS,
-            Table::Full | Table::Longest => Limits::TITLES,
+            Table::Empty => (0, ""),
+            Table::Short => (FEW_ROWS, ""),
+            Table::Full => (Limits::TITLES as u16, ""),
+            Table::Longest => (Limits::TITLES as u16, LONG_END),
         }
     }
 }
@@ -57,32 +54,26 @@ pub(crate) fn title_drafts(
     table: Table,
     point: i64,
 ) -> Result<Vec<TitleDraft>, AllocError> {
+    let (count, end) = table.rows();
     let mut titles = Vec::new(alloc);
-    for row in 0..table.rows() {
-        titles.push(title(alloc, digits_of(alloc, table, row)?, point)?)?;
+    for row in 0..count {
+        let digits = format!(in alloc; "{row:04x}{end}")?;
+        titles.push(title(alloc, digits, point)?)?;
     }
     Ok(titles)
-}
-
-/// The digits of the row of this number.
-fn digits_of(alloc: Global, table: Table, row: usize) -> Result<String, AllocError> {
-    match table {
-        Table::Longest => format!(in alloc; "{row:04x}{LONG_END}"),
-        _ => format!(in alloc; "{row:04x}"),
-    }
 }
 
 /// A row of these digits.
 fn title(alloc: Global, digits: String, point: i64) -> Result<TitleDraft, AllocError> {
     Ok(TitleDraft {
-        translation: TRANSLATION as i64,
-        plan: PLAN as i64,
-        nature: NATURE as i64,
+        translation: i64::from(TRANSLATION),
+        plan: i64::from(PLAN),
+        nature: i64::from(NATURE),
         digits,
         point,
         backup: None,
-        route: format!(in alloc; "ssn")?,
-        ssn: Some(SUBSYSTEM as i64),
+        route: String::from_str(alloc, "ssn")?,
+        ssn: Some(i64::from(SUBSYSTEM)),
         change: ChangeDraft::none(alloc),
     })
 }
