@@ -1,6 +1,6 @@
 -- The run of the example is one: each pair of it comes from the one before by a move.
 use Rattle.pair_moves.proofs.Basics.{true, false, [], refl, sym, arith, None}
-use Rattle.pair_moves.proofs.Definitions.{MessageFrame, turned, with_message, with_sent, with_frames_left, with_accepted, with_failure, with_completion, Move, Moves, plain_reading, read_plainly, the_message, the_order, the_answer, lines_with, Crosses}
+use Rattle.pair_moves.proofs.Definitions.{MessageFrame, turned, with_message, with_sent, with_frames_left, with_accepted, with_failure, with_completion, Move, Moves, plain_reading, the_message, the_order, the_answer, lines_with, Crosses}
 use Rattle.pair_moves.specs.Moves as moves
 use Rattle.pair_moves.specs.Crossing as run
 use Rattle.pair_moves.proofs.Lines.{false_is_true}
@@ -181,9 +181,13 @@ hands-over = moves.far (moves.hands_over (record {
   after = refl;
 }))
 
+pub ordered : Moves plain_reading run.failed_near run.ordered_run
+ordered =
+    (places-order, (sends-order, (takes-order, (fails-far, (drops, (completes-far, (places-answer, (sends-answer, (takes-answer, (completes-near, (takes-out, (places-second, (sends-second, (takes-second, (hands-over, tt)))))))))))))))
+
 crossing : Moves plain_reading run.opened_both run.crossing_run
 crossing =
-    (serves-first, (serves-second, (serves-first_there, (serves-second_there, (accepts, (places-first, (sends-first, (fails-near, (places-order, (sends-order, (takes-order, (fails-far, (drops, (completes-far, (places-answer, (sends-answer, (takes-answer, (completes-near, (takes-out, (places-second, (sends-second, (takes-second, (hands-over, tt)))))))))))))))))))))))
+    (serves-first, (serves-second, (serves-first_there, (serves-second_there, (accepts, (places-first, (sends-first, (fails-near, ordered))))))))
 
 pub crosses : Crosses
 crosses = record {

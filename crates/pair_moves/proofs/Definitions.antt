@@ -6,6 +6,7 @@ pub use Rattle.pair_moves.specs.Crossing.{plain_reading, read_plainly, the_messa
 pub use Rattle.pair_moves.specs.Ends.{LinkEnd, Line, Side, Pair, turned, turned_line, unreceived, first_pair, first_side, MessageFrame, Procedure, Changeover, Code, Time, closed_line, Frame, EmptyFrame, closed_end}
 pub use Rattle.pair_moves.specs.Failing.{with_failure, with_completion, without_wait, users_of, managements_of, Falls, FallsWithOrder, CompletesByOrder, AnswersOrder, CompletesByAnswer, EndsWait, IgnoresAnswer, HoldsInService, Suspends, ChangesOnly}
 pub use Rattle.pair_moves.specs.Flowing.{Carry, Name, Flows, IsFlowing, OpenedAlone, OpensAlone, IsEnd, is_in_use, NamesReceived, WaitsRightly}
+pub use Rattle.pair_moves.specs.LateOrders.{with_wait, OrdersLate}
 pub use Rattle.pair_moves.specs.Laws.{sum_to, under_way, one_if, saying, OrdersAreAwaited, WordsAreTrue, CodesAreOutstanding}
 pub use Rattle.pair_moves.specs.Moves.{last_of, Move, Moves, NearMove, RunsLate}
 pub use Rattle.pair_moves.specs.Once.{user, EachOnce}

@@ -6,7 +6,7 @@ use Rattle.pair_moves.proofs.Lines.{line-turned}
 use Rattle.pair_moves.proofs.Sound.{Sound}
 use Rattle.pair_moves.proofs.First.{sound-quiet, order-quiet, quiet-turned}
 use Rattle.pair_moves.proofs.Passed.{sound-accepts, sound-takes_out, sound-keeps, sound-places, sound-hands_over, sound-sends_status, sound-sends_message, sound-sends_empty, sound-hears_status, sound-takes_status, sound-doubles_status, sound-drops, sound-takes_empty, sound-takes_message}
-use Rattle.pair_moves.proofs.Failed.{sound-falls, sound-falls_with_order, sound-completes_by_order, sound-answers_order, sound-completes_by_answer, sound-ends_wait, sound-ignores_answer}
+use Rattle.pair_moves.proofs.Failed.{sound-falls, sound-falls_with_order, sound-orders_late, sound-completes_by_order, sound-answers_order, sound-completes_by_answer, sound-ends_wait, sound-ignores_answer}
 use Rattle.pair_moves.proofs.Returned.{sound-opens_first, sound-opens_second, sound-enters, sound-declares, sound-waits, sound-confirms, sound-ends_hold, sound-ignores_confirmation, sound-holds_in_service, sound-runs_late}
 use Rattle.pair_moves.proofs.Mixed.{sound-mixes_others, order-mixes_others, back-mixes_others}
 use Rattle.pair_moves.proofs.OrderPassed as passed
@@ -126,6 +126,8 @@ module _ (read : Reading) where
       step near far p q _ m.after refl refl refl refl refl refl (sound-falls read p q m) (λ f s. failed.order-falls read f p q m s) (λ f s. failed.back-falls read f p q m)
   near-kept near far p q (moves.falls_with_order m) =
       step near far p q _ m.after refl refl refl refl refl refl (sound-falls_with_order read p q m) (λ f s. failed.order-falls_with_order read f p q m s) (λ f s. failed.back-falls_with_order read f p q m)
+  near-kept near far p q (moves.orders_late m) =
+      step near far p q _ m.after refl refl refl refl refl refl (sound-orders_late read p q m) (λ f s. failed.order-orders_late read f p q m) (λ f s. failed.back-orders_late read f p q m)
   near-kept near far p q (moves.completes_by_order m) =
       step near far p q _ m.after refl refl refl refl refl refl (sound-completes_by_order read p q m) (λ f s. failed.order-completes_by_order read f p q m s) (λ f s. failed.back-completes_by_order read f p q m)
   near-kept near far p q (moves.answers_order m) =

@@ -26,4 +26,5 @@ pub mod Keeping
 pub mod Concluded
 pub mod CrossingBegun
 pub mod Crossed
+pub mod CrossedLate
 pub mod WentBack

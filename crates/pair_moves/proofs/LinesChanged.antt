@@ -1,6 +1,6 @@
 -- An end that fails, completes its changeover, opens or enters service keeps law (i); and law (iv).
 use Rattle.pair_moves.proofs.Basics.{◌≡◌, ◌⊎◌, inl, inr, ℕ, zero, suc, Bool, true, false, not, ◌||◌, ◌&&◌, ◌≤◌, List, [], drop, Option, refl, ap, sym, ◌∙◌, subst, arith}
-use Rattle.pair_moves.proofs.Definitions.{Message, WINDOW, Queue, first_queue, named_count, last_accepted, sound-first, sound-emptied, Frame, LinkEnd, Line, turned_line, with_failure, with_completion, without_wait, opened_end, opened_first, opened_second, MayOpen, with_service, Carry, Name, Flows, IsEnd, OpenedAlone, is_in_use, NamesReceived, WaitsRightly}
+use Rattle.pair_moves.proofs.Definitions.{Message, WINDOW, Queue, first_queue, named_count, last_accepted, sound-first, sound-emptied, Frame, LinkEnd, Line, turned_line, with_failure, with_completion, without_wait, with_wait, opened_end, opened_first, opened_second, MayOpen, with_service, Carry, Name, Flows, IsEnd, OpenedAlone, is_in_use, NamesReceived, WaitsRightly}
 use Rattle.std.specs.Prelude.{unwrap_or}
 use Rattle.pair_moves.proofs.Frames.{named-there}
 use Rattle.pair_moves.proofs.Lines.{IsLine, false_is_true, true_is_false, both, or-first, or-third, none-of, none-first, none-second, none-of_two, not-without, used-by, none-may, up-first, incomplete-joined, incomplete-first}
@@ -73,6 +73,18 @@ line-completion z awaited down far_down incomplete h = record {
   there = λ e. unused-completed z.near_may_follow z.far_may_follow z down far_down e;
   back = λ e. let b : Flows (turned_line z) = h.back e in
       record { confirmed = b.confirmed; received = b.received; carried = λ u. both u down; named = λ u. both u far_down };
+  first = λ n. incomplete-joined z h incomplete n;
+  second = λ n. incomplete-first z h incomplete n;
+}
+
+pub line-awaited : (z : Line) → z.near.incomplete ≡ true → IsLine z → IsLine (with_wait z)
+line-awaited z incomplete h = record {
+  near = record { queue = h.near.queue; base = h.near.base; serving = h.near.serving; incomplete = h.near.incomplete; awaited = λ e. h.near.incomplete incomplete; idle = h.near.idle };
+  far = h.far;
+  there = λ e. let f : Flows z = h.there e in
+      record { confirmed = f.confirmed; received = f.received; carried = f.carried; named = f.named };
+  back = λ e. let b : Flows (turned_line z) = h.back e in
+      record { confirmed = b.confirmed; received = b.received; carried = b.carried; named = b.named };
   first = λ n. incomplete-joined z h incomplete n;
   second = λ n. incomplete-first z h incomplete n;
 }

@@ -1,6 +1,6 @@
 -- Moves of a failure and its changeover keep the order of each flow.
 use Rattle.pair_moves.proofs.Basics.{◌≡◌, ◌≢◌, ◌⊎◌, inl, inr, ℕ, Bool, true, false, ◌<◌, ◌||◌, List, [], ◌∷◌, ◌++◌, drop, refl, ap, sym, ◌∙◌, subst, Some, ⊎_elim, cases_eq, append-nil, append_assoc}
-use Rattle.pair_moves.proofs.Definitions.{Message, Flow, last_accepted, Reading, Saying, turned_reading, Order, Answer, is_user_message, LinkEnd, Line, Changeover, Code, Time, Side, Pair, turned, unreceived, BecomeAt, with_failure, with_completion, without_wait, users_of, managements_of, Suspends, ChangesOnly, Falls, FallsWithOrder, CompletesByOrder, AnswersOrder, CompletesByAnswer, EndsWait, IgnoresAnswer, IsEnd, of_flow, standing_on, IsGuarded, by_route, by_changeover, by_time, by_code, IsInOrder}
+use Rattle.pair_moves.proofs.Definitions.{Message, Flow, last_accepted, Reading, Saying, Order, Answer, is_user_message, LinkEnd, Line, Changeover, Code, Time, Side, Pair, turned, unreceived, BecomeAt, with_failure, with_completion, without_wait, with_wait, users_of, managements_of, Suspends, ChangesOnly, Falls, FallsWithOrder, CompletesByOrder, AnswersOrder, CompletesByAnswer, EndsWait, IgnoresAnswer, OrdersLate, IsEnd, of_flow, standing_on, IsGuarded, by_route, by_changeover, by_time, by_code, IsInOrder}
 use Rattle.pair_moves.proofs.Lines.{IsLine, true_is_false, none-of_two, not-beside}
 use Rattle.pair_moves.proofs.LinesChanged.{drop-none}
 use Rattle.pair_moves.proofs.Books.{each-line}
@@ -101,6 +101,20 @@ module _ (read : Reading) (flow : Flow) where
       subst (λ (x : Pair). IsInOrder read.back flow (turned x)) (sym m.after)
       (back-line read.back flow p m.link (with_failure (p.line m.link) true) m.lines m.set refl refl
       (record p.near { route = m.route; holds = m.holds; loose = p.near.loose ++ m.order ∷ [] }) refl h)
+
+  -- ---- an order that goes out late
+
+  pub order-orders_late : (p q : Pair) → OrdersLate read p q → IsInOrder read.there flow p → IsInOrder read.there flow q
+  order-orders_late p q m h =
+      subst (IsInOrder read.there flow) (sym m.after)
+      (there-line-same read.there flow p m.link (with_wait (p.line m.link)) m.lines m.set refl refl (record p.near { loose = p.near.loose ++ m.order ∷ [] }) refl
+      (put-on read.there flow p p.near.held p.near.loose m.order (of-no-flow read.there flow m.order (Order m.link (last_accepted (p.line m.link).near.queue)) m.says refl))
+      refl refl h)
+
+  pub back-orders_late : (p q : Pair) → OrdersLate read p q → IsInOrder read.back flow (turned p) → IsInOrder read.back flow (turned q)
+  back-orders_late p q m h =
+      subst (λ (x : Pair). IsInOrder read.back flow (turned x)) (sym m.after)
+      (back-line read.back flow p m.link (with_wait (p.line m.link)) m.lines m.set refl refl (record p.near { loose = p.near.loose ++ m.order ∷ [] }) refl h)
 
   -- ---- a completion
 

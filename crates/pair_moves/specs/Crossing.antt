@@ -224,13 +224,18 @@ abbrev pub handed_over : Pair
 handed_over =
     turned (with_near (turned message_came) (record message_came.far { arrived = []; received = the_message ∷ [] }))
 
+-- once the order is made
+abbrev pub ordered_run : List Pair
+ordered_run =
+    order_placed ∷ order_sent
+    ∷ order_came ∷ failed_far ∷ message_dropped ∷ completed_far ∷ answer_placed ∷ answer_sent
+    ∷ answer_came ∷ completed_near ∷ taken_out ∷ placed_second ∷ sent_second ∷ message_came ∷ handed_over ∷ []
+
 -- once both links are open
 abbrev pub crossing_run : List Pair
 crossing_run =
     first_serves ∷ second_serves ∷ first_serves_there ∷ second_serves_there
-    ∷ accepted_one ∷ placed_first ∷ sent_first ∷ failed_near ∷ order_placed ∷ order_sent
-    ∷ order_came ∷ failed_far ∷ message_dropped ∷ completed_far ∷ answer_placed ∷ answer_sent
-    ∷ answer_came ∷ completed_near ∷ taken_out ∷ placed_second ∷ sent_second ∷ message_came ∷ handed_over ∷ []
+    ∷ accepted_one ∷ placed_first ∷ sent_first ∷ failed_near ∷ ordered_run
 
 -- once the first is
 abbrev pub second_run : List Pair

@@ -4,6 +4,7 @@ pub mod Passing
 pub mod Carrying
 pub mod Returning
 pub mod Failing
+pub mod LateOrders
 pub mod Moves
 pub mod Flowing
 pub mod Quiet
@@ -12,4 +13,5 @@ pub mod Once
 pub mod Order
 pub mod Theorems
 pub mod Crossing
+pub mod CrossingLate
 pub mod GoingBack

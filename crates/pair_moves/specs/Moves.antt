@@ -1,6 +1,5 @@
 -- All moves, and lists of them.
 use Rattle.std.specs.Prelude.{◌≡◌, Bool, true, List, [], ◌∷◌}
-use Rattle.signalling_types.specs.Message.{Message}
 use Rattle.signalling_types.specs.declared.point.Flow.{Flow}
 use Rattle.pair_moves.specs.Sayings.{Reading, turned_reading}
 use Rattle.pair_moves.specs.Ends.{Procedure, Pair, turned}
@@ -9,6 +8,7 @@ use Rattle.pair_moves.specs.Carrying.{SendsStatus, SendsMessage, SendsEmpty, Hea
 use Rattle.pair_moves.specs.Carrying.{TakesEmpty, TakesMessage}
 use Rattle.pair_moves.specs.Failing.{Falls, FallsWithOrder, CompletesByOrder, AnswersOrder}
 use Rattle.pair_moves.specs.Failing.{CompletesByAnswer, EndsWait, IgnoresAnswer, HoldsInService}
+use Rattle.pair_moves.specs.LateOrders.{OrdersLate}
 use Rattle.pair_moves.specs.Returning.{OpensFirst, OpensSecond, Enters, Declares, WaitsForTime}
 use Rattle.pair_moves.specs.Returning.{Confirms, EndsHold, IgnoresConfirmation}
 
@@ -41,6 +41,7 @@ module _ (read : Reading) where
     takes_message : TakesMessage read p q → NearMove p q
     falls : Falls read p q → NearMove p q
     falls_with_order : FallsWithOrder read p q → NearMove p q
+    orders_late : OrdersLate read p q → NearMove p q
     completes_by_order : CompletesByOrder read p q → NearMove p q
     answers_order : AnswersOrder read p q → NearMove p q
     completes_by_answer : CompletesByAnswer read p q → NearMove p q

@@ -1,7 +1,7 @@
 //! What holds after every list of moves from every quiet pair on, as the first is, in both directions, while neither
 //! node lost anything. A pair is quiet (`specs/Quiet.antt`) while all its links are closed at both ends and neither
 //! node has a message for the other. The moves are those of `specs/Passing.antt` (Q.704 §2), `specs/Carrying.antt` (RFC
-//! 4165 §2), `specs/Failing.antt` (Q.704 §5) and `specs/Returning.antt` (Q.704 §6).
+//! 4165 §2), `specs/Failing.antt` and `specs/LateOrders.antt` (Q.704 §5), and `specs/Returning.antt` (Q.704 §6).
 
 ghost use Rattle.pair_moves.specs.Theorems.{lines_flow, first_ends_are_alone, ends_are_sound};
 ghost use Rattle.pair_moves.specs.Theorems.{messages_come_in_order};
@@ -11,6 +11,7 @@ ghost use Rattle.pair_moves.specs.Theorems.{words_are_true, numbers_name_what_wa
 ghost use Rattle.pair_moves.specs.Theorems.{orders_move_what_is_lacked, answers_move_what_is_lacked};
 ghost use Rattle.pair_moves.specs.Quiet.{first_pairs_are_quiet};
 ghost use Rattle.pair_moves.specs.Crossing.{Crosses};
+ghost use Rattle.pair_moves.specs.CrossingLate.{CrossesLate};
 ghost use Rattle.pair_moves.specs.GoingBack.{Returns};
 ghost use Rattle.pair_moves.specs.Theorems.{codes_are_outstanding, none_is_given_up};
 ghost use Rattle.pair_moves.specs.Theorems.{each_message_once, each_flow_in_order};
@@ -87,6 +88,13 @@ pub fn a_new_pair_is_quiet()
 /// and received by the other, through a changeover order and its answer, and no flag is raised.
 pub fn a_message_crosses_a_failure()
     ensures { Crosses }
+{}
+
+/// An order may go out late. In a run of 40 moves the only link between the nodes fails with a message on it, and no
+/// order goes out. Once another link is in service at both ends the order does, and the message moves there as its
+/// answer comes. No flag is raised.
+pub fn a_late_order_moves_what_waits()
+    ensures { CrossesLate }
 {}
 
 /// Nor is the law of codes. The run goes on by 27 moves: the link that failed returns, and the flow goes back to it
