@@ -183,7 +183,7 @@ module _ (c z : Configuration) (a : AreFacing c z) where
           let far_two : Good z c (far_joint c z a) (turned_world two) = record {
             fits = s.far_good.fits;
             route = s.far_good.route;
-            unawaited = s.far_good.unawaited;
+            settled = s.far_good.settled;
             silent = s.far_good.silent;
             queued = s.far_good.queued;
             elsewhere = s.far_good.elsewhere;

@@ -12,7 +12,7 @@ use Rattle.neighbour_rules.specs.Promises.{AreBooked, EachOnce, InOrder}
 use Rattle.neighbour_rules.specs.Laws.{AreFinal, IsCarried, MovesLacked, NoneIsLeft}
 use Rattle.neighbour_rules.specs.Anew.{BothKeep, HoldAnew, IsQuietEnd, IsQuietPair, KeepsPromises, LostNothingSince, Stays, after_all, begun_anew, most, pairs_begin_quietly, promises_begin_anew, times_late, times_lost}
 use Rattle.neighbour_rules.proofs.Counted.{Base, CanGrow, IsBase, counts_of}
-use Rattle.neighbour_rules.proofs.World.{reading, says_of, shown}
+use Rattle.neighbour_rules.proofs.World.{reading, shown}
 use Rattle.neighbour_rules.proofs.Good.{Good}
 use Rattle.neighbour_rules.proofs.Asked.{AreEnds, begin-ends, ends-turned, steps-ends}
 use Rattle.neighbour_rules.proofs.Staying.{are-booked, with_settings, written}
@@ -127,7 +127,7 @@ module _ (c z : Configuration) (a : AreFacing c z) (q : PairState) (w : Works c 
         fits = g.fits;
         counted = b.near;
         route = record { beyond = g.route.beyond; between = g.route.between };
-        unawaited = g.unawaited;
+        settled = g.settled;
         silent = g.silent;
         queued = g.queued;
         elsewhere = g.elsewhere;
@@ -140,7 +140,7 @@ module _ (c z : Configuration) (a : AreFacing c z) (q : PairState) (w : Works c 
         fits = g.fits;
         counted = b.far;
         route = record { beyond = g.route.beyond; between = g.route.between };
-        unawaited = g.unawaited;
+        settled = g.settled;
         silent = g.silent;
         queued = g.queued;
         elsewhere = g.elsewhere;

@@ -1,9 +1,9 @@
 -- What an event brings in, a submission, a message that passes through, or what SCCP makes of one for this point: by
 -- moves.
 use Rattle.signalling_types.specs.Message.{opc_of}
-use Rattle.pair_rules.proofs.Basics.{◌≡◌, ◌≢◌, ◌⊎◌, inl, inr, ◌≤◌, ◌<◌, ℕ, Bool, true, false, not, ◌&&◌, ◌||◌, List, [], ◌∷◌, ◌++◌, length, Option, Some, None, refl, ap, sym, subst, ◌∙◌, nat_eq, nat_lt, arith, if◌then◌else◌, is_some, nat_tests, append-nil, ⊎_elim, cases_eq, eq-eqb, slice_index_or}
+use Rattle.pair_rules.proofs.Basics.{◌≡◌, ◌≢◌, ◌⊎◌, inl, inr, ◌≤◌, ◌<◌, ℕ, Bool, true, false, not, ◌&&◌, List, [], ◌∷◌, ◌++◌, length, Option, Some, None, refl, ap, sym, subst, ◌∙◌, nat_eq, nat_lt, arith, if◌then◌else◌, nat_tests, append-nil, ⊎_elim, cases_eq, eq-eqb, slice_index_or}
 use Rattle.std.proofs.lemmas.List.Quantifiers.{position-Some}
-use Rattle.pair_rules.proofs.Definitions.{with_parts, with_titles, Message, flow_of, is_management, dpc_of, service_indicator, network_indicator, SIF_OCTETS, Cause, Outcome, Handled, Held, Ignored, Local, Queued, Refused, Configuration, DestinationEntry, TitleEntry, IsWell, IsDestination, Discrimination, Label, Saying, UserMessage, is_user_message, destination_place, is_user, local, on_unitdata, sccp, Node, Done, answer, refuse, WholeQueues, whole, no_room_for, all_wait, waits, submit_to, whither_goes, link_of, comes-here}
+use Rattle.pair_rules.proofs.Definitions.{with_parts, with_titles, Message, flow_of, is_management, dpc_of, service_indicator, network_indicator, SIF_OCTETS, Cause, Outcome, Handled, Held, Ignored, Local, Queued, Refused, Configuration, DestinationEntry, IsWell, IsDestination, Discrimination, Label, Saying, UserMessage, is_user_message, destination_place, is_user, local, on_unitdata, sccp, Node, Done, answer, refuse, WholeQueues, whole, no_room_for, all_wait, waits, submit_to, whither_goes, link_of, comes-here}
 use Rattle.signalling_types.specs.declared.cause.Cause.TheVariants as causes
 use Rattle.mtp3_codec.specs.Headings.{label_at}
 use Rattle.mtp3_codec.specs.declared.discrimination.Discrimination.TheVariants as whither
@@ -98,7 +98,7 @@ module _ (c z : Configuration) (j : Joint c z) where
     good = λ g. record {
       fits = g.fits;
       route = g.route;
-      unawaited = g.unawaited;
+      settled = g.settled;
       silent = g.silent;
       queued = g.queued;
       elsewhere = g.elsewhere;

@@ -119,7 +119,7 @@ module _ (c z : Configuration) (j : Joint c z) where
     good = λ g. record {
       fits = g.fits;
       route = g.route;
-      unawaited = g.unawaited;
+      settled = g.settled;
       silent = g.silent;
       queued = g.queued;
       elsewhere = g.elsewhere;
@@ -192,7 +192,7 @@ module _ (c z : Configuration) (j : Joint c z) where
       let s : Standing = completed (changeover_of n.parts link) in
       let count : Option ℕ = accepted_count (queue_at n.queues link) number in
       passes-both c z j _ _ _
-      (by_any-elsewhere c z j w n link s n.parts.timers count arrived [] d l (λ a. a) (concluded-fits w n link number e))
+      (by_any-elsewhere c z j w n link s n.parts.timers count arrived [] d l e (concluded-fits w n link number e))
       (anew-passes c z j (behind (queue_at n.queues link) count) w (concluded_at c z j w n link s n.parts.timers count) arrived [])
   completes-past false w n arrived link number e d l =
       subst (λ (o : Node WholeQueues). Passes c z j (at c z j w n arrived []) (at c z j w o arrived [])) (sym (completed-same n link e)) (passes-none c z j (at c z j w n arrived []))
@@ -233,14 +233,14 @@ module _ (c z : Configuration) (j : Joint c z) where
         (fit-steps c).both _ _ _ ((fit-steps c).timed stilled n (clear-timed (T2 link) n.parts.timers (λ l e. cc)))
         ((fit-steps c).answered link over (with_parts n (record n.parts { timers = stilled })) e refl (λ a. absurd cc))
 
-    waited-unawaited : Fits c n → link < length c.links → ((other : ℕ) → down n.parts other ≡ false → (changeover_of n.parts other).awaited ≡ false)
-        → (other : ℕ) → down n.parts other ≡ false → (changeover_of acknowledged_node.parts other).awaited ≡ false
-    waited-unawaited f l h other up =
+    waited-settled : Fits c n → link < length c.links → ((other : ℕ) → down n.parts other ≡ false → changeover_of n.parts other ≡ no_changeover)
+        → (other : ℕ) → down n.parts other ≡ false → changeover_of acknowledged_node.parts other ≡ no_changeover
+    waited-settled f l h other up =
         ⊎_elim
         (λ (same : other ≡ link).
-        subst (λ (k : ℕ). (changeover_of acknowledged_node.parts k).awaited ≡ false) (sym same)
-        (ap (λ (x : Standing). x.awaited) (standing-here c z n.parts link over (subst (λ (k : ℕ). link < k) (sym f.places.parts.changeovers) l))))
-        (λ (d : other ≢ link). ap (λ (x : Standing). x.awaited) (standing-other c z n.parts link other over d) ∙ h other up)
+        subst (λ (k : ℕ). changeover_of acknowledged_node.parts k ≡ no_changeover) (sym same)
+        (standing-here c z n.parts link over (subst (λ (k : ℕ). link < k) (sym f.places.parts.changeovers) l)))
+        (λ (d : other ≢ link). standing-other c z n.parts link other over d ∙ h other up)
         (cases_eq other link)
 
     waited-other : (other : ℕ) → other ≢ link → end_of acknowledged_node other ≡ end_of n other
@@ -284,7 +284,7 @@ module _ (c z : Configuration) (j : Joint c z) where
           good = λ g. record {
             fits = (waited-fits n link e).stay g.fits;
             route = g.route;
-            unawaited = waited-unawaited n link g.fits l g.unawaited;
+            settled = waited-settled n link g.fits l g.settled;
             silent = g.silent;
             queued = g.queued;
             elsewhere = g.elsewhere;
@@ -310,7 +310,7 @@ module _ (c z : Configuration) (j : Joint c z) where
       good = λ g. record {
         fits = g.fits;
         route = g.route;
-        unawaited = g.unawaited;
+        settled = g.settled;
         silent = g.silent;
         queued = g.queued;
         elsewhere = g.elsewhere;
@@ -341,7 +341,7 @@ module _ (c z : Configuration) (j : Joint c z) where
     answer-past true e =
         let count : Option ℕ = accepted_count (queue_at n.queues link) number in
         passes-both c z j _ _ _
-        (by_any-elsewhere c z j w n link (over n link) (stilled n link) count arrived [] d l (λ a. absurd cc) (answered-fits n link w number e))
+        (by_any-elsewhere c z j w n link (over n link) (stilled n link) count arrived [] d l e (answered-fits n link w number e))
         (anew-passes c z j (behind (queue_at n.queues link) count) w (concluded_at c z j w n link (over n link) (stilled n link) count) arrived [])
     answer-past false e = passes-good c z j _ _ (λ g. unseen-passes c z j n (acknowledged_node n link) (record {
       fits = waited-fits n link e;
@@ -354,7 +354,7 @@ module _ (c z : Configuration) (j : Joint c z) where
       lost = refl;
       late = refl;
       route = λ e. e;
-      unawaited = waited-unawaited n link g.fits l;
+      settled = waited-settled n link g.fits l;
       silent = λ h. h;
     }) w arrived [])
 

@@ -1,7 +1,7 @@
 -- A changeover is completed: of a link between the two nodes, by the peer's order or its answer; of another link, by
 -- anything. By moves.
 use Rattle.pair_rules.proofs.Basics.{append-nil, filter, ◌≡◌, ◌≢◌, ◌<◌, ◌&&◌, ℕ, Bool, true, false, not, List, [], ◌∷◌, ◌++◌, length, Option, Some, None, refl, ap, sym, subst, ◌∙◌, nat_eq, nat_lt, drop, if◌then◌else◌, is_some, slice_set, slice_index_or, ⊎_elim, cases_eq}
-use Rattle.pair_rules.proofs.Definitions.{link_at, send_anew, Message, Flow, is_management, Configuration, Running, clear_timer, Link, link_in, is_down, lifted, leaves_others, HoldSet, Queue, emptied, named_count, last_accepted, Standing, standing_at, with_standing, behind, users_of, managements_of, Node, Parts, Found, Route, down, WholeQueues, queue_at, whole, changeover_of, concluded, lose, lose_each, send_each, set_of, Fits, StaysFit, Order, Answer, Pair, Saying, ChangesOnly, with_completion}
+use Rattle.pair_rules.proofs.Definitions.{link_at, send_anew, Message, Flow, is_management, Configuration, Running, clear_timer, Link, link_in, is_down, lifted, leaves_others, HoldSet, Queue, emptied, named_count, last_accepted, Standing, no_changeover, standing_at, with_standing, behind, users_of, managements_of, Node, Parts, Found, Route, down, WholeQueues, queue_at, whole, changeover_of, concluded, lose, lose_each, send_each, set_of, Fits, StaysFit, Order, Answer, Pair, Saying, ChangesOnly, with_completion}
 use Rattle.signalling_types.specs.declared.cause.Cause.TheVariants.{LostUnconfirmed}
 use Rattle.timers.specs.declared.name.TimerName.TheVariants.{T1}
 use Rattle.flow_hold.specs.declared.procedure.Procedure.TheVariants as held_by
@@ -19,7 +19,7 @@ use Rattle.pair_rules.proofs.UserLists.{each-drop, each-filter}
 use Rattle.neighbour_rules.proofs.Counted.{IsBase, base-lost, beyond-lost, counts_of}
 use Rattle.neighbour_rules.proofs.World.{code_of, holds_of, line_of, reading, route_of, says_of, shown}
 use Rattle.neighbour_rules.proofs.Good.{Good, IsSent, Joint, Passes, at, passes-both, passes-none, set}
-use Rattle.neighbour_rules.proofs.Lines.{at-line, becomes, none-becomes, own-line}
+use Rattle.neighbour_rules.proofs.Lines.{at-line, becomes, none-becomes, own-line, standing-settled}
 use Rattle.neighbour_rules.proofs.Placing.{other-leaves}
 use Rattle.neighbour_rules.proofs.Messages.{send_anew-passes}
 use Rattle.neighbour_rules.proofs.Falling.{hold_by, holds-by}
@@ -81,20 +81,9 @@ module _ (c z : Configuration) (j : Joint c z) where
         end-by c z n done other (queue_at n.queues other) (link_at n.parts other) (changeover_of n.parts other)
         (queue-other c z n.queues link other (emptied (queue_at n.queues link)) d) refl (standing-other c z n.parts link other s d)
 
-    done-awaits : Fits c n → (s.awaited ≡ true → (changeover_of n.parts link).awaited ≡ true) → link < length c.links → ((other : ℕ) → down n.parts other ≡ false → (changeover_of n.parts other).awaited ≡ false)
-        → (other : ℕ) → down n.parts other ≡ false → (changeover_of done.parts other).awaited ≡ false
-    done-awaits f awaits l h other up =
-        ⊎_elim
-        (λ (same : other ≡ link).
-        subst (λ (k : ℕ). (changeover_of done.parts k).awaited ≡ false) (sym same)
-        (ap (λ (x : Standing). x.awaited) (standing-here c z n.parts link s (subst (λ (k : ℕ). link < k) (sym f.places.parts.changeovers) l))
-        ∙ not-awaited s.awaited (λ e. sym (awaits e) ∙ h link (subst (λ (k : ℕ). down n.parts k ≡ false) same up))))
-        (λ (d : other ≢ link). ap (λ (x : Standing). x.awaited) (standing-other c z n.parts link other s d) ∙ h other up)
-        (cases_eq other link)
-      where
-        not-awaited : (b : Bool) → (b ≡ true → true ≡ false) → b ≡ false
-        not-awaited true f = f refl
-        not-awaited false f = refl
+    done-settled : (changeover_of n.parts link).incomplete ≡ true → ((other : ℕ) → down n.parts other ≡ false → changeover_of n.parts other ≡ no_changeover)
+        → (other : ℕ) → down n.parts other ≡ false → changeover_of done.parts other ≡ no_changeover
+    done-settled incomplete h other up = standing-settled c z n.parts link s incomplete h other up
 
     -- the emptied queue is the only one that changes
     done-each : (P : Message → Type 0) → Fits c n → link < length c.links → (other : ℕ) → Each P (queue_at n.queues other).all → Each P (queue_at done.queues other).all
@@ -112,12 +101,12 @@ module _ (c z : Configuration) (j : Joint c z) where
     done-held : Each Sent (queue_at n.queues link).all → Each Sent n.queues.held → Each Sent done.queues.held
     done-held each held = each-behind Sent (users_of moved) n.queues.held (moved-each Sent (λ m. not (is_management m)) each) held
 
-    done-good : (arrived rest before next : List Message) → StaysFit c n done → Each (IsSent z c j.base.back j.shares.far_set) rest → Each Sent next → (s.awaited ≡ true → (changeover_of n.parts link).awaited ≡ true)
+    done-good : (arrived rest before next : List Message) → StaysFit c n done → Each (IsSent z c j.base.back j.shares.far_set) rest → Each Sent next → (changeover_of n.parts link).incomplete ≡ true
         → link < length c.links → Good c z j (at c z j w n arrived before) → Good c z j (at c z j w done rest next)
-    done-good arrived rest before next stay r m awaits l g = record {
+    done-good arrived rest before next stay r m incomplete l g = record {
       fits = stay.stay g.fits;
       route = g.route;
-      unawaited = done-awaits g.fits awaits l g.unawaited;
+      settled = done-settled incomplete g.settled;
       silent = g.silent;
       queued = λ other. done-each Sent g.fits l other (g.queued other);
       elsewhere = λ other d. done-each (λ x. read x ≡ Other) g.fits l other (g.elsewhere other d);
@@ -199,7 +188,7 @@ module _ (c z : Configuration) (j : Joint c z) where
       good = λ g.
           done-good (m ∷ rest) rest [] (anew ++ reply ∷ []) stay g.arrived.1
           (each-behind Sent anew (reply ∷ []) (moved-each Sent is_management (g.queued link)) (sent, tt))
-          (λ e. sym same ∙ e) l g;
+          incomplete l g;
     }
 
     -- so does an answer
@@ -240,14 +229,14 @@ module _ (c z : Configuration) (j : Joint c z) where
       good = λ g.
           done-good (m ∷ rest) rest [] (anew ++ []) stay g.arrived.1
           (each-behind Sent anew [] (moved-each Sent is_management (g.queued link)) tt)
-          (λ e. awaited) l g;
+          incomplete l g;
     }
 
     -- ---- of a link that leads elsewhere
 
-    finishing-elsewhere : (arrived more : List Message) → set_of c link ≢ set c z j → link < length c.links → (s.awaited ≡ true → (changeover_of n.parts link).awaited ≡ true) → StaysFit c n done
+    finishing-elsewhere : (arrived more : List Message) → set_of c link ≢ set c z j → link < length c.links → (changeover_of n.parts link).incomplete ≡ true → StaysFit c n done
         → Passes c z j (at c z j w n arrived more) (at c z j w done arrived (anew ++ more))
-    finishing-elsewhere arrived more d l awaits stay = record {
+    finishing-elsewhere arrived more d l incomplete stay = record {
       goes = λ g.
           let before : Pair = shown c z (set c z j) j.shares.far_set j.base (at c z j w n arrived more) in
           let between : Pair = as_moved before (users_of moved ++ n.queues.held) (anew ++ more) in
@@ -264,7 +253,7 @@ module _ (c z : Configuration) (j : Joint c z) where
       good = λ g.
           done-good arrived arrived more (anew ++ more) stay g.arrived
           (each-behind Sent anew more (moved-each Sent is_management (g.queued link)) g.loose)
-          awaits l g;
+          incomplete l g;
     }
       where
         holds-past : (procedure : ends.Procedure) (flow : Flow) → holds_of c j.base.there (set c z j) done.parts procedure flow ≡ holds_of c j.base.there (set c z j) n.parts procedure flow
@@ -335,9 +324,9 @@ module _ (c z : Configuration) (j : Joint c z) where
     concluded-beyond h = beyond-lost j.base.near (counts_of lost_then) (counts_of (concluded_at None).parts) j.grows refl (still-counted h)
 
     pub lost-good : (arrived rest before next : List Message) → StaysFit c n (concluded_at None) → (Good c z j (at c z j w n arrived before) → Each (IsSent z c j.base.back j.shares.far_set) rest)
-        → (Good c z j (at c z j w n arrived before) → Each Sent next) → (s.awaited ≡ true → (changeover_of n.parts link).awaited ≡ true) → link < length c.links
+        → (Good c z j (at c z j w n arrived before) → Each Sent next) → (changeover_of n.parts link).incomplete ≡ true → link < length c.links
         → Good c z j (at c z j w n arrived before) → Good c z j (at c z j w (concluded_at None) rest next)
-    lost-good arrived rest before next stay r m awaits l g =
+    lost-good arrived rest before next stay r m incomplete l g =
         let noted : IsNoted ended lost_then = losses-noted (users_of (completion.in_doubt q None)) ended in
         record {
           fits = stay.stay g.fits;
@@ -345,9 +334,9 @@ module _ (c z : Configuration) (j : Joint c z) where
             beyond = ap (λ (rs : List (List Route)). slice_index_or rs j.destination []) noted.routes ∙ g.route.beyond;
             between = ap (λ (rs : List (List Route)). slice_index_or rs j.adjacent []) noted.routes ∙ g.route.between;
           };
-          unawaited = λ other up.
-              ap (λ (xs : List Standing). (standing_at xs other).awaited) noted.changeovers
-              ∙ done-awaits w n link q.sent s t g.fits awaits l g.unawaited other (ap (λ (xs : List Link). is_down (link_in xs other).alignment) (sym noted.links) ∙ up);
+          settled = λ other up.
+              ap (λ (xs : List Standing). standing_at xs other) noted.changeovers
+              ∙ done-settled w n link q.sent s t incomplete g.settled other (ap (λ (xs : List Link). is_down (link_in xs other).alignment) (sym noted.links) ∙ up);
           silent = subst (λ (xs : List Link). (other : ℕ) → IsSilent (link_in xs other)) (sym noted.links) g.silent;
           queued = λ other. done-each w n link q.sent s t Sent g.fits l other (g.queued other);
           elsewhere = λ other d. done-each w n link q.sent s t (λ x. read x ≡ Other) g.fits l other (g.elsewhere other d);
@@ -372,7 +361,7 @@ module _ (c z : Configuration) (j : Joint c z) where
       goes = λ g. goes-lost (reading c.own z.own j.base) _ _ (concluded-beyond g.counted);
       good = λ g. lost-good (m ∷ rest) rest [] (managements_of (behind q None) ++ reply ∷ []) stay (λ h. h.arrived.1)
           (λ h. each-behind Sent (managements_of (behind q None)) (reply ∷ []) (anew-sent (h.queued link)) (sent, tt))
-          (λ e. sym same ∙ e) l g;
+          incomplete l g;
     }
 
     -- and an answer does
@@ -384,15 +373,15 @@ module _ (c z : Configuration) (j : Joint c z) where
     by_answer None m rest number its named says l incomplete awaited complete over stay = record {
       goes = λ g. goes-lost (reading c.own z.own j.base) _ _ (concluded-beyond g.counted);
       good = λ g. lost-good (m ∷ rest) rest [] (managements_of (behind q None) ++ []) stay (λ h. h.arrived.1)
-          (λ h. each-behind Sent (managements_of (behind q None)) [] (anew-sent (h.queued link)) tt) (λ e. awaited) l g;
+          (λ h. each-behind Sent (managements_of (behind q None)) [] (anew-sent (h.queued link)) tt) incomplete l g;
     }
 
     -- whatever completes that of a link that leads elsewhere
-    pub by_any-elsewhere : (count : Option ℕ) (arrived more : List Message) → set_of c link ≢ set c z j → link < length c.links → (s.awaited ≡ true → (changeover_of n.parts link).awaited ≡ true)
+    pub by_any-elsewhere : (count : Option ℕ) (arrived more : List Message) → set_of c link ≢ set c z j → link < length c.links → (changeover_of n.parts link).incomplete ≡ true
         → StaysFit c n (concluded_at count) → Passes c z j (at c z j w n arrived more) (at c z j w (concluded_at count) arrived (managements_of (behind q count) ++ more))
-    by_any-elsewhere (Some count) arrived more d l awaits stay = finishing-elsewhere w n link count s (clear_timer (T1 link) t) arrived more d l awaits stay
-    by_any-elsewhere None arrived more d l awaits stay = record {
+    by_any-elsewhere (Some count) arrived more d l incomplete stay = finishing-elsewhere w n link count s (clear_timer (T1 link) t) arrived more d l incomplete stay
+    by_any-elsewhere None arrived more d l incomplete stay = record {
       goes = λ g. goes-lost (reading c.own z.own j.base) _ _ (concluded-beyond g.counted);
       good = λ g. lost-good arrived arrived more (managements_of (behind q None) ++ more) stay (λ h. h.arrived)
-          (λ h. each-behind Sent (managements_of (behind q None)) more (anew-sent (h.queued link)) h.loose) awaits l g;
+          (λ h. each-behind Sent (managements_of (behind q None)) more (anew-sent (h.queued link)) h.loose) incomplete l g;
     }

@@ -73,7 +73,7 @@ module _ (c z : Configuration) (j : Joint c z) where
       good = λ g. record {
         fits = (given-fit c link p first i None other n a e).stay g.fits;
         route = g.route;
-        unawaited = g.unawaited;
+        settled = g.settled;
         silent = g.silent;
         queued = g.queued;
         elsewhere = g.elsewhere;
@@ -175,7 +175,7 @@ module _ (c z : Configuration) (j : Joint c z) where
           record {
             fits = (given-fit c link p first i (Some code) other n a e).stay g.fits;
             route = g.route;
-            unawaited = g.unawaited;
+            settled = g.settled;
             silent = g.silent;
             queued = declared-still n other code g.queued (sent code few);
             elsewhere = λ k apart.
@@ -257,7 +257,7 @@ module _ (c z : Configuration) (j : Joint c z) where
       lost = refl;
       late = refl;
       route = λ e. e;
-      unawaited = λ h. h;
+      settled = λ h. h;
       silent = λ h. h;
     }) w arrived []
 
@@ -276,7 +276,7 @@ module _ (c z : Configuration) (j : Joint c z) where
       lost = refl;
       late = refl;
       route = λ e. e;
-      unawaited = λ h. h;
+      settled = λ h. h;
       silent = λ h. h;
     }) w arrived []
 

@@ -1,6 +1,6 @@
 -- T1 or T2 of a link runs out: by moves.
-use Rattle.pair_rules.proofs.Basics.{append-nil, ◌≡◌, ◌≢◌, ◌<◌, ℕ, Bool, true, false, List, [], length, None, refl, ap, sym, subst, ◌∙◌, nat_lt, arith, if◌then◌else◌, ⊎_elim, cases_eq, nat_tests}
-use Rattle.pair_rules.proofs.Definitions.{flagged, Message, Configuration, Queue, Standing, acknowledged, completed, behind, managements_of, Node, with_parts, is_link, WholeQueues, queue_at, whole, changeover_of, with_changeover, complete_if, on_changeover_timer, with_expiry, Fits, StaysFit, fit-steps, concluded-steps}
+use Rattle.pair_rules.proofs.Basics.{append-nil, ◌≡◌, ◌≢◌, ◌<◌, ℕ, Bool, true, false, List, [], length, None, refl, sym, subst, ◌∙◌, nat_lt, arith, if◌then◌else◌, ⊎_elim, cases_eq, nat_tests}
+use Rattle.pair_rules.proofs.Definitions.{flagged, Message, Configuration, Queue, Standing, no_changeover, acknowledged, completed, behind, managements_of, Node, with_parts, is_link, WholeQueues, queue_at, whole, changeover_of, with_changeover, complete_if, on_changeover_timer, with_expiry, Fits, StaysFit, fit-steps, concluded-steps}
 use Rattle.signalling_types.specs.declared.notice.ChangeoverTimer.{ChangeoverTimer}
 use Rattle.signalling_types.specs.declared.notice.ChangeoverTimer.TheVariants as timer
 use Rattle.signalling_types.specs.declared.notice.Notice.TheVariants as notices
@@ -8,7 +8,7 @@ use Rattle.pair_rules.proofs.World.{World}
 use Rattle.pair_rules.proofs.Going.{goes-lost}
 use Rattle.pair_rules.proofs.Lines.{standing-here, standing-other}
 use Rattle.neighbour_rules.proofs.Counted.{IsBase, base-lost, beyond-lost, counts_of, with_loss}
-use Rattle.neighbour_rules.proofs.World.{reading, says_of}
+use Rattle.neighbour_rules.proofs.World.{reading}
 use Rattle.neighbour_rules.proofs.Good.{Joint, Passes, at, passes-both, passes-good, passes-none}
 use Rattle.neighbour_rules.proofs.Relinked.{noted-passes}
 use Rattle.neighbour_rules.proofs.Completions.{anew-passes, anew-sent, concluded-beyond, concluded_at, found_by, lost-good}
@@ -23,7 +23,7 @@ module _ (c z : Configuration) (j : Joint c z) where
 
   -- ---- a changeover ends without a number: something may be lost
 
-  module _ (w : World) (n : Node WholeQueues) (link : ℕ) (s : Standing) (awaits : s.awaited ≡ true → (changeover_of n.parts link).awaited ≡ true) (there : is_link n.parts link ≡ true) where
+  module _ (w : World) (n : Node WholeQueues) (link : ℕ) (s : Standing) (there : is_link n.parts link ≡ true) where
     ends-lost : (changeover_of n.parts link).incomplete ≡ true → s.incomplete ≡ false
         → Passes c z j (at c z j w n [] []) (at c z j w (complete_if whole c true link None (with_parts n (with_changeover link s n.parts))) [] [])
     ends-lost e i =
@@ -33,7 +33,7 @@ module _ (c z : Configuration) (j : Joint c z) where
         (subst (λ (loose : List Message). Passes c z j (at c z j w n [] []) (at c z j w (concluded_at c z j w n link s n.parts.timers None) [] loose)) (sym (append-nil ms))
         (record {
           goes = λ g. goes-lost (reading c.own z.own j.base) _ _ (concluded-beyond c z j w n link s n.parts.timers g.counted);
-          good = λ g. lost-good c z j w n link s n.parts.timers [] [] [] ms concluded-fits (λ h. tt) (λ h. anew-sent c z j w n link s n.parts.timers (h.queued link)) awaits (listed n link g.fits there) g;
+          good = λ g. lost-good c z j w n link s n.parts.timers [] [] [] ms concluded-fits (λ h. tt) (λ h. anew-sent c z j w n link s n.parts.timers (h.queued link)) e (listed n link g.fits there) g;
         }))
         (anew-passes c z j (behind q None) w (concluded_at c z j w n link s n.parts.timers None) [] [])
       where
@@ -46,7 +46,7 @@ module _ (c z : Configuration) (j : Joint c z) where
 
   t1-ends : (b : Bool) (w : World) (n : Node WholeQueues) (link : ℕ) → (changeover_of n.parts link).incomplete ≡ b → is_link n.parts link ≡ true
       → Passes c z j (at c z j w n [] []) (at c z j w (complete_if whole c b link None (with_parts n (with_changeover link (completed (changeover_of n.parts link)) n.parts))) [] [])
-  t1-ends true w n link e there = ends-lost w n link (completed (changeover_of n.parts link)) (λ h. h) there e refl
+  t1-ends true w n link e there = ends-lost w n link (completed (changeover_of n.parts link)) there e refl
   t1-ends false w n link e there =
       subst (λ (o : Node WholeQueues). Passes c z j (at c z j w n [] []) (at c z j w o [] [])) (sym (completed-same c z j n link e)) (passes-none c z j (at c z j w n [] []))
 
@@ -54,18 +54,18 @@ module _ (c z : Configuration) (j : Joint c z) where
 
   t2-ends : (b : Bool) (w : World) (n : Node WholeQueues) (link : ℕ) → (changeover_of n.parts link).incomplete ≡ b → is_link n.parts link ≡ true → nat_lt j.base.near.lost n.parts.times_lost ≡ true
       → Passes c z j (at c z j w n [] []) (at c z j w (complete_if whole c b link None (with_parts n (with_changeover link (acknowledged (changeover_of n.parts link)) n.parts))) [] [])
-  t2-ends true w n link e there lost = ends-lost w n link (acknowledged (changeover_of n.parts link)) (λ h. absurd cc) there e refl
+  t2-ends true w n link e there lost = ends-lost w n link (acknowledged (changeover_of n.parts link)) there e refl
   t2-ends false w n link e there lost = record {
     goes = λ g. goes-lost (reading c.own z.own j.base) _ _ lost;
     good = λ g. record {
       fits = ((fit-steps c).answered link over n e refl (λ a. absurd cc)).stay g.fits;
       route = g.route;
-      unawaited = λ other up.
+      settled = λ other up.
           ⊎_elim
           (λ (same : other ≡ link).
-          subst (λ (k : ℕ). (changeover_of (with_changeover link over n.parts) k).awaited ≡ false) (sym same)
-          (ap (λ (x : Standing). x.awaited) (standing-here c z n.parts link over (subst (λ (k : ℕ). link < k) (sym g.fits.places.parts.changeovers) (listed n link g.fits there)))))
-          (λ (d : other ≢ link). ap (λ (x : Standing). x.awaited) (standing-other c z n.parts link other over d) ∙ g.unawaited other up)
+          subst (λ (k : ℕ). changeover_of (with_changeover link over n.parts) k ≡ no_changeover) (sym same)
+          (standing-here c z n.parts link over (subst (λ (k : ℕ). link < k) (sym g.fits.places.parts.changeovers) (listed n link g.fits there))))
+          (λ (d : other ≢ link). standing-other c z n.parts link other over d ∙ g.settled other up)
           (cases_eq other link);
       silent = g.silent;
       queued = g.queued;
@@ -92,7 +92,7 @@ module _ (c z : Configuration) (j : Joint c z) where
     good = λ g. record {
       fits = ((fit-steps c).both _ _ _ ((fit-steps c).lost n) ((fit-steps c).noted (notices.Expired timer.T2 link) (with_parts n (flagged n.parts)) (record { other = refl; lost = λ f. refl; late = λ f. absurd cc }))).stay g.fits;
       route = g.route;
-      unawaited = g.unawaited;
+      settled = g.settled;
       silent = g.silent;
       queued = g.queued;
       elsewhere = g.elsewhere;

@@ -1,6 +1,6 @@
 -- A link fails, between the two nodes or elsewhere, and an order goes out if another link of its set is left: by moves.
 use Rattle.pair_rules.proofs.Basics.{◌≡◌, ◌≢◌, ◌<◌, ◌||◌, ℕ, Bool, true, false, not, List, [], length, Some, refl, ap, sym, subst, ◌∙◌, if◌then◌else◌, ⊎_elim, cases_eq}
-use Rattle.pair_rules.proofs.Definitions.{is_down, Message, FailureReason, Flow, Configuration, failed, begun_by_peer, Link, after_failure, down_link, each-set, Node, Parts, with_parts, down, in_service, link_at, WholeQueues, queue_at, whole, begin, begin_by_peer, change_over, changeover_of, changeover_order, changing, fail, fail_by_peer, fail_link, has_other, is_ordered, make_unavailable, without_tests, peer_of, set_of, set_place, made-management, Fits, StaysFit, fit-steps, failing_by_peer-steps, fell-steps, timed_changeover-timed, with_failure}
+use Rattle.pair_rules.proofs.Definitions.{is_down, Message, FailureReason, Flow, Configuration, failed, begun_by_peer, Standing, no_changeover, Link, after_failure, down_link, each-set, Node, Parts, with_parts, down, in_service, link_at, WholeQueues, queue_at, whole, begin, begin_by_peer, change_over, changeover_of, changeover_order, changing, fail, fail_by_peer, fail_link, has_other, is_ordered, make_unavailable, without_tests, peer_of, set_of, set_place, made-management, Fits, StaysFit, fit-steps, failing_by_peer-steps, fell-steps, timed_changeover-timed, with_failure}
 use Rattle.signalling_types.specs.declared.notice.FailureReason.TheVariants as reasons
 use Rattle.exchange_rules.specs.ChangingOver.{suspended}
 use Rattle.exchange_rules.proofs.NamedLinks.{set-named}
@@ -12,7 +12,7 @@ use Rattle.pair_rules.proofs.Good.{IsSilent}
 use Rattle.pair_rules.proofs.Going.{goes-one}
 use Rattle.pair_rules.proofs.Lines.{end_by, end-by, link-here, link-other, up-listed}
 use Rattle.pair_rules.proofs.Routes.{failed-facts}
-use Rattle.neighbour_rules.proofs.World.{code_of, holds_of, line_of, reading, route_of, says_of, shown}
+use Rattle.neighbour_rules.proofs.World.{code_of, holds_of, line_of, reading, route_of, shown}
 use Rattle.neighbour_rules.proofs.Good.{Joint, Passes, at, passes-both, passes-good, set}
 use Rattle.neighbour_rules.proofs.Lines.{becomes, own-line}
 use Rattle.neighbour_rules.proofs.Made.{made-brief, adjacent-fits, past-other}
@@ -42,9 +42,9 @@ module _ (c z : Configuration) (j : Joint c z) where
     beginning : (last ordered : Bool) → set_of c link ≡ set c z j → StaysFit c n (with_parts (gone last link why n) (changing c ordered link (gone last link why n).parts))
         → Passes c z j (at c z j w n arrived []) (at c z j w (begin whole c ordered link (gone last link why n)) arrived [])
     beginning true false its stay =
-        falling c z j w n arrived [] link why (failed false (changeover_of n.parts link)) _ its serves up refl (λ u g. sym (g.unawaited link u)) stay
+        falling c z j w n arrived [] link why (failed false (changeover_of n.parts link)) _ its serves up refl (λ u g. sym (ap (λ (x : Standing). x.awaited) (g.settled link u))) stay
     beginning false false its stay =
-        falling c z j w n arrived [] link why (failed false (changeover_of n.parts link)) _ its serves up refl (λ u g. sym (g.unawaited link u)) stay
+        falling c z j w n arrived [] link why (failed false (changeover_of n.parts link)) _ its serves up refl (λ u g. sym (ap (λ (x : Standing). x.awaited) (g.settled link u))) stay
     beginning true true its stay =
         let m : Message = changeover_order c link (whole.last_accepted n.queues link) in
         passes-both c z j _ _ _
@@ -117,9 +117,9 @@ module _ (c z : Configuration) (j : Joint c z) where
         end-by c z n lost other (queue_at n.queues other) (link_at n.parts other) (changeover_of n.parts other) refl
         (link-other c z n.parts link other (after_failure (link_at n.parts link)) d) refl
 
-    dropped-unawaited : Fits c n → link < length c.links → ((k : ℕ) → down n.parts k ≡ false → (changeover_of n.parts k).awaited ≡ false)
-        → (other : ℕ) → down lost.parts other ≡ false → (changeover_of lost.parts other).awaited ≡ false
-    dropped-unawaited f l h other u =
+    dropped-settled : Fits c n → link < length c.links → ((k : ℕ) → down n.parts k ≡ false → changeover_of n.parts k ≡ no_changeover)
+        → (other : ℕ) → down lost.parts other ≡ false → changeover_of lost.parts other ≡ no_changeover
+    dropped-settled f l h other u =
         ⊎_elim
         (λ (same : other ≡ link).
         let is : down lost.parts link ≡ true = ap (λ (x : Link). is_down x.alignment) (dropped-link f l) in
@@ -162,7 +162,7 @@ module _ (c z : Configuration) (j : Joint c z) where
       good = λ g. record {
         fits = ((fit-steps c).dropped link why n out).stay g.fits;
         route = g.route;
-        unawaited = dropped-unawaited g.fits (up-listed c z n link g.fits up) g.unawaited;
+        settled = dropped-settled g.fits (up-listed c z n link g.fits up) g.settled;
         silent = dropped-silent g.silent;
         queued = g.queued;
         elsewhere = g.elsewhere;
@@ -186,7 +186,7 @@ module _ (c z : Configuration) (j : Joint c z) where
       lost = refl;
       late = refl;
       route = λ e. e;
-      unawaited = dropped-unawaited f l;
+      settled = dropped-settled f l;
       silent = dropped-silent;
     }) w arrived []
 

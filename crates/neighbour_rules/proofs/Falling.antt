@@ -1,6 +1,6 @@
 -- A link in service fails, between the two nodes with an order or without one, or elsewhere: by moves.
 use Rattle.pair_rules.proofs.Basics.{◌≡◌, ◌≢◌, ◌<◌, ◌&&◌, ◌||◌, ℕ, Bool, true, false, not, List, [], ◌∷◌, length, Option, Some, refl, ap, sym, subst, ◌∙◌, nat_eq, nat_lt, ⊎_elim, cases_eq}
-use Rattle.pair_rules.proofs.Definitions.{SELECTIONS, goes_by, is_down, Management, Order, Message, Flow, FailureReason, Configuration, ExtendedChangeoverOrder, Running, HoldSet, with_flows, flows_add, flows_leave, Standing, with_standing, Link, after_failure, down_link, each-set, chosen_link, Node, Parts, with_parts, down, in_service, link_at, WholeQueues, queue_at, whole, changeover_of, changeover_order, fail_link, facts, set_of, management_to, Fits, StaysFit, Suspends, with_failure, IsManagement, code-fits, last_accepted}
+use Rattle.pair_rules.proofs.Definitions.{SELECTIONS, goes_by, is_down, Management, Order, Message, Flow, FailureReason, Configuration, ExtendedChangeoverOrder, Running, HoldSet, with_flows, flows_add, flows_leave, Standing, with_standing, no_changeover, Link, after_failure, down_link, each-set, chosen_link, Node, Parts, with_parts, down, in_service, link_at, WholeQueues, queue_at, whole, changeover_of, changeover_order, fail_link, facts, set_of, management_to, Fits, StaysFit, Suspends, with_failure, IsManagement, code-fits, last_accepted}
 use Rattle.flow_hold.specs.Holds as hold
 use Rattle.flow_hold.specs.declared.procedure.Procedure.TheVariants as held_by
 use Rattle.exchange_rules.specs.ChangingOver.{suspended, is_failed}
@@ -99,15 +99,15 @@ module _ (c z : Configuration) (j : Joint c z) where
     fell-down : (s : Standing) (t : Running) → Fits c n → link < length c.links → down (fell s t).parts link ≡ true
     fell-down s t f l = ap (λ (x : Link). is_down x.alignment) (fell-link s t f l)
 
-    fell-unawaited : (s : Standing) (t : Running) → Fits c n → link < length c.links → ((other : ℕ) → down n.parts other ≡ false → (changeover_of n.parts other).awaited ≡ false)
-        → (other : ℕ) → down (fell s t).parts other ≡ false → (changeover_of (fell s t).parts other).awaited ≡ false
-    fell-unawaited s t f l h other up =
+    fell-settled : (s : Standing) (t : Running) → Fits c n → link < length c.links → ((other : ℕ) → down n.parts other ≡ false → changeover_of n.parts other ≡ no_changeover)
+        → (other : ℕ) → down (fell s t).parts other ≡ false → changeover_of (fell s t).parts other ≡ no_changeover
+    fell-settled s t f l h other up =
         ⊎_elim
         (λ (same : other ≡ link).
         let no : true ≡ false = sym (subst (λ (k : ℕ). down (fell s t).parts k ≡ true) (sym same) (fell-down s t f l)) ∙ up in
         absurd cc)
         (λ (d : other ≢ link).
-        ap (λ (x : Standing). x.awaited) (standing-other c z n.parts link other s d)
+        standing-other c z n.parts link other s d
         ∙ h other (ap (λ (x : Link). is_down x.alignment) (sym (link-other c z n.parts link other (after_failure (link_at n.parts link)) d)) ∙ up))
         (cases_eq other link)
 
@@ -173,7 +173,7 @@ module _ (c z : Configuration) (j : Joint c z) where
     fell-good s t next l stay m g = record {
       fits = stay.stay g.fits;
       route = g.route;
-      unawaited = fell-unawaited s t g.fits l g.unawaited;
+      settled = fell-settled s t g.fits l g.settled;
       silent = fell-silent s t g.silent;
       queued = g.queued;
       elsewhere = g.elsewhere;
@@ -229,7 +229,7 @@ module _ (c z : Configuration) (j : Joint c z) where
       lost = refl;
       late = refl;
       route = λ e. e;
-      unawaited = fell-unawaited s t f l;
+      settled = fell-settled s t f l;
       silent = fell-silent s t;
     }) w arrived loose
 
@@ -238,7 +238,7 @@ module _ (c z : Configuration) (j : Joint c z) where
   abbrev pub order_word : ℕ → Node WholeQueues → Management
   order_word link n = ExtendedChangeoverOrder (code_of c link) (whole.last_accepted n.queues link)
 
-  to_far : (link number : ℕ) → set_of c link ≡ set c z j → changeover_order c link number ≡ management_to c z.own (ExtendedChangeoverOrder (code_of c link) number)
+  pub to_far : (link number : ℕ) → set_of c link ≡ set c z j → changeover_order c link number ≡ management_to c z.own (ExtendedChangeoverOrder (code_of c link) number)
   to_far link number its = ap (λ (point : ℕ). management_to c point (ExtendedChangeoverOrder (code_of c link) number)) (shared-peer c z j.shares j.near_well link its)
 
   pub order_fits : (link : ℕ) (n : Node WholeQueues) → IsManagement (order_word link n)

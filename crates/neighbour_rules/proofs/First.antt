@@ -31,7 +31,7 @@ first-good near far j counted = record {
         ∙ ap (λ (sets : List ℕ). first_routes (record (slice_index_or near.destinations j.destination none) { sets = sets })) (ap (sets_to near) (sym j.place) ∙ j.only);
     between = (flows-stay near [] (set near far j) far.own j.adjacent j.shares.near_leads j.adjacent_place).route;
   };
-  unawaited = λ link e. each-replicate (λ (s : Standing). s.awaited ≡ false) (length near.links) link no_changeover refl;
+  settled = λ link e. each-replicate (λ (s : Standing). s ≡ no_changeover) (length near.links) link no_changeover refl;
   silent = λ link. each-replicate (λ (l : Link). IsSilent l) (length near.links) link down_link (λ e. (refl, refl));
   queued = λ link. each-replicate (λ (q : Queue). Each (IsSent near far j.base.there (set near far j)) q.all) (length near.links) link first_queue tt;
   elsewhere = λ link apart. each-replicate (λ (q : Queue). Each (λ (m : Message). says_of near.own far.own j.base.there m ≡ Other) q.all) (length near.links) link first_queue tt;

@@ -85,7 +85,7 @@ module _ (c z : Configuration) (j : Joint c z) where
     retold-good each n g = record {
       fits = g.fits;
       route = g.route;
-      unawaited = g.unawaited;
+      settled = g.settled;
       silent = g.silent;
       queued = g.queued;
       elsewhere = g.elsewhere;
@@ -220,7 +220,7 @@ module _ (c z : Configuration) (j : Joint c z) where
       good = λ g. record {
         fits = g.fits;
         route = g.route;
-        unawaited = g.unawaited;
+        settled = g.settled;
         silent = g.silent;
         queued = g.queued;
         elsewhere = g.elsewhere;
@@ -272,7 +272,7 @@ module _ (c z : Configuration) (j : Joint c z) where
       accepted-good arrived came g = record {
         fits = ((fit-steps c).accepted link d confirmed n tt serves accepts).stay g.fits;
         route = g.route;
-        unawaited = g.unawaited;
+        settled = g.settled;
         silent = g.silent;
         queued = λ other. accepted-all (IsSent c z j.base.there (set c z j)) n link d other g.queued;
         elsewhere = still-elsewhere n link d g.fits p.inside g.elsewhere;
@@ -305,7 +305,7 @@ module _ (c z : Configuration) (j : Joint c z) where
       good = λ g. record {
         fits = ((fit-steps c).accepted link d confirmed n tt serves accepts).stay g.fits;
         route = g.route;
-        unawaited = g.unawaited;
+        settled = g.settled;
         silent = g.silent;
         queued = λ other. accepted-all (IsSent c z j.base.there (set c z j)) n link d other g.queued;
         elsewhere = still-elsewhere n link d g.fits (served-listed c z n link g.fits serves) g.elsewhere;

@@ -1,7 +1,7 @@
 -- What holds of a node at work that shares a set with another, whatever other neighbours it has, and of what is in
 -- flight to it; and that a rule goes by moves and keeps this.
 use Rattle.pair_rules.proofs.Basics.{◌≡◌, ◌≢◌, ℕ, true, false, List, [], ◌∷◌, Some, Ok, slice_index_or}
-use Rattle.pair_rules.proofs.Definitions.{Message, Route, SIF_OCTETS, is_management, service_indicator, dpc_of, opc_of, Configuration, destination_place, Label, FrameValue, EmptyFrame, MessageFrame, IsSayable, read_management, Management, ExtendedChangeoverOrder, ExtendedChangeoverAcknowledgement, ChangebackDeclaration, ChangebackAcknowledgement, Node, Fits, WholeQueues, queue_at, changeover_of, down, link_at, set_of, whither_goes, first_route, IsWell}
+use Rattle.pair_rules.proofs.Definitions.{Message, Route, SIF_OCTETS, is_management, service_indicator, dpc_of, opc_of, Configuration, destination_place, Label, FrameValue, EmptyFrame, MessageFrame, IsSayable, read_management, Management, ExtendedChangeoverOrder, ExtendedChangeoverAcknowledgement, ChangebackDeclaration, ChangebackAcknowledgement, Node, Fits, WholeQueues, queue_at, changeover_of, no_changeover, down, link_at, set_of, whither_goes, first_route, IsWell}
 use Rattle.std.proofs.Common.{◌<◌, ◌≤◌, length}
 use Rattle.mtp3_codec.specs.declared.discrimination.Discrimination.TheVariants as whither
 use Rattle.settings.specs.Sharing.{SharesSet, sets_to}
@@ -98,8 +98,8 @@ module _ (c z : Configuration) (j : Joint c z) where
   pub record Good (w : World) : Type 0 where
     pub fits : Fits c w.near.node
     pub route : IsOpen w.near.node
-    -- no answer is awaited about a link that isn't down, and where a link is down nothing waits to go out
-    pub unawaited : (link : ℕ) → down w.near.node.parts link ≡ false → (changeover_of w.near.node.parts link).awaited ≡ false
+    -- no changeover goes on about a link that isn't down, and where a link is down nothing waits to go out
+    pub settled : (link : ℕ) → down w.near.node.parts link ≡ false → changeover_of w.near.node.parts link ≡ no_changeover
     pub silent : (link : ℕ) → IsSilent (link_at w.near.node.parts link)
     -- what is on the links of the set, on others, in Held, and nowhere yet
     pub queued : (link : ℕ) → Each (IsSent c z j.base.there set) (queue_at w.near.node.queues link).all

@@ -1,11 +1,10 @@
 -- A message that came is looked at, whether it is the other node's or passes by: by moves.
 use Rattle.exchange_rules.specs.Messages.{from_afar}
 use Rattle.pair_rules.proofs.Basics.{append-nil, ◌≡◌, ◌<◌, ◌≤◌, ◌&&◌, ◌||◌, ℕ, Bool, true, false, not, List, [], ◌∷◌, ◌++◌, length, Option, Some, Result, Ok, inr, refl, ap, sym, subst, ◌∙◌, nat_eq, nat_lt, arith, nat_tests, if◌then◌else◌, is_some, eq-eqb}
-use Rattle.pair_rules.proofs.Definitions.{Message, SIF_OCTETS, is_management, service_indicator, network_indicator, dpc_of, opc_of, Configuration, Discrimination, Label, Management, MgmtFault, read_management, Node, Done, refuse, in_service, set_of, WholeQueues, whole, distribute, manage, local, do_management, do_order, do_acknowledgement, do_test, is_adjacent, testing, on_management, on_changeback_acknowledgement, deliver, deliver_to, whither_goes, link_with_code, all_wait, brought_here, brought_to, unitdata_in, Order, Answer, Saying, UserMessage, answer}
+use Rattle.pair_rules.proofs.Definitions.{Message, SIF_OCTETS, is_management, service_indicator, network_indicator, dpc_of, opc_of, Configuration, Discrimination, Label, Management, MgmtFault, read_management, Node, Done, in_service, set_of, WholeQueues, whole, distribute, manage, local, do_management, do_order, do_acknowledgement, do_test, is_adjacent, testing, on_management, on_changeback_acknowledgement, deliver, deliver_to, whither_goes, link_with_code, all_wait, brought_here, brought_to, unitdata_in, Order, Answer, Saying, UserMessage, answer}
 use Rattle.mtp3_codec.specs.Headings.{label_at}
 use Rattle.mtp3_codec.specs.Management.{read_link_test}
 use Rattle.mtp3_codec.specs.declared.discrimination.Discrimination.TheVariants as whither
-use Rattle.signalling_types.specs.declared.cause.Cause.TheVariants as causes
 use Rattle.settings.specs.Sharing.{SharesSet}
 use Rattle.exchange_rules.proofs.Basics.{eqb-true}
 use Rattle.exchange_rules.proofs.SharingNodes.{AreEnds, shared-ends}
@@ -265,7 +264,7 @@ module _ (c z : Configuration) (j : Joint c z) where
         good = λ g. record {
           fits = g.fits;
           route = g.route;
-          unawaited = g.unawaited;
+          settled = g.settled;
           silent = g.silent;
           queued = g.queued;
           elsewhere = g.elsewhere;
@@ -294,7 +293,7 @@ module _ (c z : Configuration) (j : Joint c z) where
     good = λ g. record {
       fits = g.fits;
       route = g.route;
-      unawaited = g.unawaited;
+      settled = g.settled;
       silent = g.silent;
       queued = g.queued;
       elsewhere = g.elsewhere;

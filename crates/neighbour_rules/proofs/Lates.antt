@@ -66,7 +66,7 @@ module _ (c z : Configuration) (j : Joint c z) where
     good = λ g. record {
       fits = g.fits;
       route = g.route;
-      unawaited = g.unawaited;
+      settled = g.settled;
       silent = g.silent;
       queued = g.queued;
       elsewhere = g.elsewhere;
@@ -115,7 +115,7 @@ module _ (c z : Configuration) (j : Joint c z) where
     good = λ g. record {
       fits = (freed-steps (fit-steps c) (set c z j) code n).stay g.fits;
       route = g.route;
-      unawaited = g.unawaited;
+      settled = g.settled;
       silent = g.silent;
       queued = g.queued;
       elsewhere = g.elsewhere;
@@ -141,7 +141,7 @@ module _ (c z : Configuration) (j : Joint c z) where
     good = λ g. record {
       fits = g.fits;
       route = g.route;
-      unawaited = g.unawaited;
+      settled = g.settled;
       silent = g.silent;
       queued = g.queued;
       elsewhere = g.elsewhere;
@@ -176,7 +176,7 @@ module _ (c z : Configuration) (j : Joint c z) where
     lost = refl;
     late = refl;
     route = λ e. e;
-    unawaited = λ h. h;
+    settled = λ h. h;
     silent = λ h. h;
   }) w arrived loose
 
@@ -200,7 +200,7 @@ module _ (c z : Configuration) (j : Joint c z) where
     good = λ g. record {
       fits = stay.stay g.fits;
       route = g.route;
-      unawaited = g.unawaited;
+      settled = g.settled;
       silent = g.silent;
       queued = g.queued;
       elsewhere = g.elsewhere;
@@ -236,6 +236,6 @@ module _ (c z : Configuration) (j : Joint c z) where
     lost = refl;
     late = refl;
     route = λ e. e;
-    unawaited = λ h. h;
+    settled = λ h. h;
     silent = λ h. h;
   }) w arrived loose

@@ -38,6 +38,7 @@ pub mod Restarted
 pub mod Quieted
 pub mod Anew
 pub mod Failures
+pub mod LateOrders
 pub mod Completions
 pub mod Relinked
 pub mod Entries

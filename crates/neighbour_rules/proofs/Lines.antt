@@ -1,6 +1,6 @@
 -- Of the lines between two nodes that share a set, the near end of one changes; what happens on a link that leads
 -- elsewhere changes none.
-use Rattle.pair_rules.proofs.Basics.{◌≡◌, ◌≢◌, ◌<◌, ℕ, Bool, true, false, List, Option, Some, None, length, nat_eq, nat_lt, ap, sym, ◌∙◌, lt-ltb, position, []}
+use Rattle.pair_rules.proofs.Basics.{◌≡◌, ◌≢◌, ◌<◌, ℕ, Bool, true, false, List, Option, Some, None, length, nat_eq, nat_lt, ap, sym, subst, ◌∙◌, lt-ltb, position, [], slice_index_or, ⊎_elim, cases_eq}
 use Rattle.std.proofs.Common.{cond}
 use Rattle.std.proofs.lemmas.List.Quantifiers.{position-Some}
 use Rattle.exchange_rules.proofs.Basics.{eqb-true}
@@ -8,8 +8,9 @@ use Rattle.exchange_rules.proofs.NamedLinks.{code-named}
 use Rattle.exchange_rules.proofs.Settling.{left-true, right-true}
 use Rattle.exchange_rules.specs.Messages.{link_in_set}
 use Rattle.settings.specs.Sharing.{is_link_of}
-use Rattle.pair_rules.proofs.Definitions.{Message, Flow, Configuration, LinkEntry, IsWell, Node, WholeQueues, set_of, entry_of, code-fits, LinkEnd, BecomeAt}
+use Rattle.pair_rules.proofs.Definitions.{Message, Flow, Configuration, LinkEntry, IsWell, Node, Parts, WholeQueues, Standing, with_standing, no_changeover, changeover_of, down, set_of, entry_of, code-fits, LinkEnd, BecomeAt}
 use Rattle.pair_rules.proofs.World.{World, end_of}
+use Rattle.pair_rules.proofs.Lines.{standing-other}
 use Rattle.neighbour_rules.proofs.World.{code_of, link_at_code, line_of, shown_by}
 use Rattle.neighbour_rules.proofs.Good.{Joint, at, set}
 
@@ -42,6 +43,19 @@ module _ (c : Configuration) (well : IsWell c) (its_set : ℕ) where
         of_set = eqb-true (set_of c link) its_set (left-true (nat_eq (set_of c link) its_set) (nat_eq (code_of c link) code) is);
         its_code = eqb-true (code_of c link) code (right-true (nat_eq (set_of c link) its_set) (nat_eq (code_of c link) code) is);
       }
+
+module _ (c z : Configuration) where
+  -- a changeover goes on only about links that are down; so it does where one goes on otherwise
+  pub standing-settled : (p : Parts) (link : ℕ) (s : Standing) → (changeover_of p link).incomplete ≡ true → ((other : ℕ) → down p other ≡ false → changeover_of p other ≡ no_changeover)
+      → (other : ℕ) → down p other ≡ false → slice_index_or (with_standing p.changeovers link s) other no_changeover ≡ no_changeover
+  standing-settled p link s incomplete h other up =
+      ⊎_elim
+      (λ (same : other ≡ link).
+      let none : changeover_of p link ≡ no_changeover = h link (subst (λ (k : ℕ). down p k ≡ false) same up) in
+      let no : true ≡ false = sym incomplete ∙ ap (λ (x : Standing). x.incomplete) none in
+      absurd cc)
+      (λ (d : other ≢ link). standing-other c z p link other s d ∙ h other up)
+      (cases_eq other link)
 
 module _ (c z : Configuration) (j : Joint c z) where
   -- the near end of one line becomes this, and no other changes

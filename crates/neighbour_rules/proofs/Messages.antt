@@ -186,7 +186,7 @@ module _ (c z : Configuration) (j : Joint c z) where
     good = λ g. record {
       fits = ((fit-steps c).held m n e).stay g.fits;
       route = g.route;
-      unawaited = g.unawaited;
+      settled = g.settled;
       silent = g.silent;
       queued = g.queued;
       elsewhere = g.elsewhere;
@@ -210,9 +210,9 @@ module _ (c z : Configuration) (j : Joint c z) where
         beyond = ap (λ (rs : List (List Route)). slice_index_or rs j.destination []) routes ∙ g.route.beyond;
         between = ap (λ (rs : List (List Route)). slice_index_or rs j.adjacent []) routes ∙ g.route.between;
       };
-      unawaited = λ link up.
-          ap (λ (xs : List Standing). (standing_at xs link).awaited) changeovers
-          ∙ g.unawaited link (ap (λ (xs : List Link). is_down (link_in xs link).alignment) (sym links) ∙ up);
+      settled = λ link up.
+          ap (λ (xs : List Standing). standing_at xs link) changeovers
+          ∙ g.settled link (ap (λ (xs : List Link). is_down (link_in xs link).alignment) (sym links) ∙ up);
       silent = subst (λ (xs : List Link). (link : ℕ) → IsSilent (link_in xs link)) (sym links) g.silent;
       queued = subst (λ (qs : WholeQueues). (link : ℕ) → Each (IsSent c z j.base.there (set c z j)) (queue_at qs link).all) (sym queues) g.queued;
       elsewhere = subst (λ (qs : WholeQueues). (link : ℕ) → set_of c link ≢ set c z j → Each (λ x. read x ≡ Other) (queue_at qs link).all) (sym queues) g.elsewhere;
@@ -250,7 +250,7 @@ module _ (c z : Configuration) (j : Joint c z) where
     good = λ g. record {
       fits = ((fit-steps c).taken_out n).stay g.fits;
       route = g.route;
-      unawaited = g.unawaited;
+      settled = g.settled;
       silent = g.silent;
       queued = g.queued;
       elsewhere = g.elsewhere;
@@ -308,7 +308,7 @@ module _ (c z : Configuration) (j : Joint c z) where
     good = λ g. record {
       fits = g.fits;
       route = g.route;
-      unawaited = g.unawaited;
+      settled = g.settled;
       silent = g.silent;
       queued = g.queued;
       elsewhere = g.elsewhere;

@@ -1,6 +1,6 @@
 -- A link opens at one end, between the two nodes by one move, or elsewhere by none.
 use Rattle.pair_rules.proofs.Basics.{◌≡◌, ◌≢◌, ◌<◌, arith, nat_tests, ◌&&◌, ℕ, Bool, true, false, List, [], length, map, Option, None, refl, ap, sym, subst, ◌∙◌, nat_eq, nat_lt, if◌then◌else◌, option_and_then, option_map, ⊎_elim, cases_eq}
-use Rattle.pair_rules.proofs.Definitions.{period_of, SELECTIONS, Message, Flow, Configuration, FrameValue, Queue, first_queue, destination_place, set_of, Standing, may_restart, Link, down_link, is_down, opened_by, Facts, chosen_link, Node, link_at, WholeQueues, queue_at, whole, Handled, answer, refuse, is_link, may_open, association_up, changeover_of, open_link, Fits, fit-steps, each-set, LinkEnd, Line, MayOpen}
+use Rattle.pair_rules.proofs.Definitions.{period_of, SELECTIONS, Message, Flow, Configuration, FrameValue, Queue, first_queue, destination_place, set_of, Standing, no_changeover, may_restart, Link, down_link, is_down, opened_by, Facts, chosen_link, Node, link_at, WholeQueues, queue_at, whole, Handled, answer, refuse, is_link, may_open, association_up, changeover_of, open_link, Fits, fit-steps, each-set, LinkEnd, Line, MayOpen}
 use Rattle.signalling_types.specs.declared.cause.Cause.TheVariants as causes
 use Rattle.exchange_rules.specs.Opening.{begun}
 use Rattle.pair_moves.specs.Ends as ends
@@ -19,10 +19,10 @@ use Rattle.neighbour_rules.proofs.FarEnds.{IsLine, far-own, line-becomes, line_a
 use Rattle.neighbour_rules.proofs.Lines.{at-line, none-becomes}
 use Rattle.neighbour_rules.proofs.Unseen.{IsUnseen, own, unseen-passes}
 
-unawaited : (s : Standing) → may_restart s ≡ true → s.awaited ≡ false
-unawaited s e = by s.incomplete s.awaited e
+restarts-settled : (s : Standing) → may_restart s ≡ true → s ≡ no_changeover
+restarts-settled s e = by s.incomplete s.awaited e
   where
-    by : (a b : Bool) → may_restart (record { incomplete = a; awaited = b }) ≡ true → b ≡ false
+    by : (a b : Bool) → may_restart (record { incomplete = a; awaited = b }) ≡ true → record { incomplete = a; awaited = b } ≡ no_changeover
     by true b f = absurd cc
     by false true f = absurd cc
     by false false f = refl
@@ -73,11 +73,11 @@ module _ (c z : Configuration) (j : Joint c z) (w : World) (link : ℕ) (m : May
     opened-good coming h = record {
       fits = ((fit-steps c).opened link n tt m.there m.opens m.restarts).stay h.fits;
       route = h.route;
-      unawaited = λ other up.
+      settled = λ other up.
           ⊎_elim
-          (λ (same : other ≡ link). subst (λ (k : ℕ). (changeover_of n.parts k).awaited ≡ false) (sym same) (unawaited (changeover_of n.parts link) m.restarts))
+          (λ (same : other ≡ link). subst (λ (k : ℕ). changeover_of n.parts k ≡ no_changeover) (sym same) (restarts-settled (changeover_of n.parts link) m.restarts))
           (λ (d : other ≢ link).
-          h.unawaited other (ap (λ (x : Link). is_down x.alignment) (sym (link-other c z n.parts link other (opened_by c (period_of c link n.parts) (link_at n.parts link)) d)) ∙ up))
+          h.settled other (ap (λ (x : Link). is_down x.alignment) (sym (link-other c z n.parts link other (opened_by c (period_of c link n.parts) (link_at n.parts link)) d)) ∙ up))
           (cases_eq other link);
       silent = λ other. each-set (λ (x : Link). IsSilent x) n.parts.links link other (opened_by c (period_of c link n.parts) (link_at n.parts link)) down_link h.silent
           (λ gone. (let no : true ≡ false = sym gone in absurd cc));
@@ -219,9 +219,9 @@ module _ (c z : Configuration) (j : Joint c z) (w : World) (n : Node WholeQueues
       lost = refl;
       late = refl;
       route = λ e. e;
-      unawaited = λ h other up.
+      settled = λ h other up.
           ⊎_elim
-          (λ (same : other ≡ link). subst (λ (k : ℕ). (changeover_of n.parts k).awaited ≡ false) (sym same) (unawaited (changeover_of n.parts link) restarts))
+          (λ (same : other ≡ link). subst (λ (k : ℕ). changeover_of n.parts k ≡ no_changeover) (sym same) (restarts-settled (changeover_of n.parts link) restarts))
           (λ (d : other ≢ link). h other (ap (λ (y : Link). is_down y.alignment) (sym (link-other c z n.parts link other x d)) ∙ up))
           (cases_eq other link);
       silent = λ h other. each-set (λ (y : Link). IsSilent y) n.parts.links link other x down_link h (λ gone. (let no : true ≡ false = sym gone in absurd cc));
@@ -245,7 +245,7 @@ module _ (c z : Configuration) (j : Joint c z) (w : World) (n : Node WholeQueues
       good = λ g. record {
         fits = fits-anew f;
         route = g.route;
-        unawaited = g.unawaited;
+        settled = g.settled;
         silent = g.silent;
         queued = λ other. queue-anew (IsSent c z j.base.there (set c z j)) f l other (g.queued other);
         elsewhere = λ other d. queue-anew (λ (y : Message). says_of c.own z.own j.base.there y ≡ Other) f l other (g.elsewhere other d);

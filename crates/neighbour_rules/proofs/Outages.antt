@@ -7,7 +7,7 @@ use Rattle.flow_hold.specs.declared.procedure.Procedure.TheVariants as held_by
 use Rattle.exchange_rules.specs.ChangingOver.{is_failed}
 use Rattle.exchange_rules.specs.Frames.{become_busy, begin_outage, end_busy, end_outage, in_outage, let_back}
 use Rattle.exchange_rules.specs.Timing.{timed_busy, timed_busy_ended}
-use Rattle.exchange_rules.proofs.Outages.{back-in, back-serves, becomes-busy, begun-serves, ended-serves, out-serves, outed-serves, recovering-serves}
+use Rattle.exchange_rules.proofs.Outages.{back-serves, begun-serves, ended-serves, out-serves, outed-serves, recovering-serves}
 use Rattle.node_links.specs.NodeLinks.{recovered}
 use Rattle.exchange_rules.proofs.Places.{lifted-fits}
 use Rattle.exchange_rules.proofs.Serving.{serves-up}
@@ -58,7 +58,7 @@ module _ (c z : Configuration) (j : Joint c z) where
       good = λ g. record {
         fits = stay.stay g.fits;
         route = g.route;
-        unawaited = g.unawaited;
+        settled = g.settled;
         silent = g.silent;
         queued = g.queued;
         elsewhere = g.elsewhere;
@@ -82,7 +82,7 @@ module _ (c z : Configuration) (j : Joint c z) where
       lost = refl;
       late = refl;
       route = λ e. e;
-      unawaited = λ f. f;
+      settled = λ f. f;
       silent = λ f. f;
     }) w [] []
 

@@ -77,7 +77,7 @@ module _ (c z : Configuration) (j : Joint c z) where
         record {
           fits = stay.stay g.fits;
           route = g.route;
-          unawaited = g.unawaited;
+          settled = g.settled;
           silent = g.silent;
           queued = λ other. one-still (IsSent c z j.base.there (set c z j)) n link other m g.fits l g.loose.0 (g.queued other);
           elsewhere = λ other apart. apart-still (λ x. read x ≡ Other) n link other m (λ e. apart (ap (set_of c) e ∙ its)) (g.elsewhere other apart);
@@ -112,7 +112,7 @@ module _ (c z : Configuration) (j : Joint c z) where
         record {
           fits = stay.stay g.fits;
           route = g.route;
-          unawaited = g.unawaited;
+          settled = g.settled;
           silent = g.silent;
           queued = λ other. one-still (IsSent c z j.base.there (set c z j)) n link other m g.fits l g.loose.0 (g.queued other);
           elsewhere = λ other d. one-still (λ x. read x ≡ Other) n link other m g.fits l says (g.elsewhere other d);

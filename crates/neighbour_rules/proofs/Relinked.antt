@@ -1,7 +1,7 @@
 -- One link changes, but neither its alignment, its changeover nor whether it has a test to pass; or only timers,
 -- notices or translation rows change: the same pair is shown.
 use Rattle.pair_rules.proofs.Basics.{◌≡◌, ℕ, List, [], refl, ap, sym, ◌∙◌, slice_set}
-use Rattle.pair_rules.proofs.Definitions.{Message, Outcome, Handled, Held, Ignored, Local, Queued, Refused, Configuration, TitleEntry, Alignment, Running, Link, down_link, is_down, Node, Noted, with_parts, link_at, WholeQueues, note_outcome, with_titles, StaysFit, fit-steps, alike-at, each-set}
+use Rattle.pair_rules.proofs.Definitions.{Message, Outcome, Handled, Held, Ignored, Local, Queued, Refused, Configuration, Alignment, Running, Link, down_link, is_down, Node, Noted, with_parts, link_at, WholeQueues, note_outcome, with_titles, StaysFit, fit-steps, alike-at, each-set}
 use Rattle.sccp_relay.specs.Statuses.{TitlesValue}
 use Rattle.signalling_types.specs.declared.notice.Notice.TheVariants as notices
 use Rattle.pair_rules.proofs.World.{World}
@@ -32,7 +32,7 @@ module _ (c z : Configuration) (j : Joint c z) where
       lost = refl;
       late = refl;
       route = λ e. e;
-      unawaited = λ h other up. h other (ap (λ (a : Alignment). is_down a) (sym (alignment-same other)) ∙ up);
+      settled = λ h other up. h other (ap (λ (a : Alignment). is_down a) (sym (alignment-same other)) ∙ up);
       silent = λ h other. each-set (λ (l : Link). IsSilent l) n.parts.links link other x down_link h (quiet (h link));
     }) w arrived loose
 

@@ -129,8 +129,8 @@ module _ (c z : Configuration) (j : Joint c z) where
       lost = a.lost;
       late = a.late;
       route = stays;
-      unawaited = λ h link up.
-          ap (λ (xs : List Standing). (standing_at xs link).awaited) a.changeovers
+      settled = λ h link up.
+          ap (λ (xs : List Standing). standing_at xs link) a.changeovers
           ∙ h link (ap (λ (xs : List Link). is_down (link_in xs link).alignment) (sym a.links) ∙ up);
       silent = λ h link. subst (λ (xs : List Link). IsSilent (link_in xs link)) (sym a.links) (h link);
     }) w arrived loose

@@ -12,7 +12,7 @@ use Rattle.pair_rules.proofs.Standing.{rests, world_of}
 use Rattle.neighbour_rules.specs.Anew.{Change, Steps, NearRestarts, FarRestarts, NearGivesUp, FarGivesUp, after_all, after_change, begun_anew, given_up, restarted}
 use Rattle.neighbour_rules.specs.Neighbours.{Step, after_steps}
 use Rattle.neighbour_rules.proofs.Counted.{base-same, no_base, no_counts}
-use Rattle.neighbour_rules.proofs.World.{reading, says_of, shown}
+use Rattle.neighbour_rules.proofs.World.{reading, shown}
 use Rattle.neighbour_rules.proofs.Good.{Good}
 use Rattle.neighbour_rules.proofs.Adjacents.{first-knows}
 use Rattle.neighbour_rules.proofs.Asked.{AreEnds, IsAsked, aside, ends-turned, step-ends}
@@ -62,7 +62,7 @@ module _ (c z : Configuration) (a : AreFacing c z) (q : PairState) (w : Works c 
         fits = g.fits;
         counted = g.counted;
         route = g.route;
-        unawaited = g.unawaited;
+        settled = g.settled;
         silent = g.silent;
         queued = g.queued;
         elsewhere = g.elsewhere;
@@ -138,7 +138,7 @@ anew-good c z a q f g h = record {
   fits = h.fits;
   counted = h.counted;
   route = h.route;
-  unawaited = h.unawaited;
+  settled = h.settled;
   silent = h.silent;
   queued = h.queued;
   elsewhere = h.elsewhere;

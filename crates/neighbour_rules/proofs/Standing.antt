@@ -72,7 +72,7 @@ pub regood : (c z : Configuration) (j : Joint c z) (x y other : Mid) (f g h : Fl
 regood c z j x y other f g h m n s t a = record {
   fits = a.fits;
   route = a.route;
-  unawaited = a.unawaited;
+  settled = a.settled;
   silent = a.silent;
   queued = a.queued;
   elsewhere = a.elsewhere;

@@ -12,7 +12,7 @@ use Rattle.pair_rules.proofs.Flights.{IsFirst, changed-here, changed-other, chan
 use Rattle.pair_rules.proofs.Steps.{taken-there}
 use Rattle.m2pa_codec.proofs.FrameTexts.{read_frame-spelled}
 use Rattle.neighbour_rules.specs.Neighbours.{deliver_frame_for, end_there, far_end, take_frame, takes_in_for, users_to}
-use Rattle.neighbour_rules.proofs.World.{reading, says_of}
+use Rattle.neighbour_rules.proofs.World.{reading}
 use Rattle.neighbour_rules.proofs.Good.{AreFlying, Good, IsFlying, Joint, Passes, at, set}
 use Rattle.neighbour_rules.proofs.Good as good
 use Rattle.neighbour_rules.proofs.Bringing.{accepting}
@@ -106,7 +106,7 @@ module _ (c z : Configuration) (a : AreFacing c z) where
     far-good f g h o d flying = record {
       fits = d.fits;
       route = d.route;
-      unawaited = d.unawaited;
+      settled = d.settled;
       silent = d.silent;
       queued = d.queued;
       elsewhere = d.elsewhere;

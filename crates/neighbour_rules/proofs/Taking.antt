@@ -74,7 +74,7 @@ module _ (c z : Configuration) (j : Joint c z) (w : World) (link : ℕ) where
   sent-good v n coming l g = record {
     fits = (sent-stays n).stay g.fits;
     route = g.route;
-    unawaited = g.unawaited;
+    settled = g.settled;
     silent = g.silent;
     queued = λ other. each-set (λ (x : Queue). Each (IsSent c z j.base.there (set c z j)) x.all) n.queues.links link other (sent_one (queue_at n.queues link) c.window) first_queue g.queued
         (sent-all (IsSent c z j.base.there (set c z j)) (queue_at n.queues link) (to_send (queue_at n.queues link) c.window) (g.queued link));
@@ -178,7 +178,7 @@ module _ (c z : Configuration) (j : Joint c z) (w : World) (link : ℕ) where
     still-good v n e g = record {
       fits = g.fits;
       route = g.route;
-      unawaited = g.unawaited;
+      settled = g.settled;
       silent = g.silent;
       queued = g.queued;
       elsewhere = g.elsewhere;

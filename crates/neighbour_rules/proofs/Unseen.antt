@@ -1,7 +1,7 @@
 -- What isn't shown changes: timers, notices, what points are told, routes to third points, and the links that lead
 -- elsewhere. The same pair is shown.
-use Rattle.pair_rules.proofs.Basics.{◌≡◌, ◌≢◌, ◌<◌, ◌≤◌, ℕ, Bool, true, false, not, ◌&&◌, List, [], ◌∷◌, length, Option, Some, None, refl, ap, sym, subst, ◌∙◌, nat_eq, nat_lt, if◌then◌else◌, option_and_then, option_map, slice_index_or, ⊎_elim, cases_lt, get_or_past}
-use Rattle.pair_rules.proofs.Definitions.{SELECTIONS, Message, Flow, Configuration, destination_place, is_outstanding, Alignment, Link, down_link, is_down, is_in_service, carries_traffic, in_traffic, chosen_link, Node, Parts, down, in_service, link_at, link_of, WholeQueues, queue_at, changeover_of, Standing, standing_at, HoldSet, Codes, link_in, facts, set_of, first_route, Fits, StaysFit, Pair}
+use Rattle.pair_rules.proofs.Basics.{◌≡◌, ◌≢◌, ◌<◌, ◌≤◌, ℕ, Bool, true, false, not, ◌&&◌, List, length, Option, Some, None, refl, ap, sym, subst, ◌∙◌, nat_eq, nat_lt, if◌then◌else◌, option_and_then, option_map, ⊎_elim, cases_lt, get_or_past}
+use Rattle.pair_rules.proofs.Definitions.{SELECTIONS, Message, Flow, Configuration, destination_place, is_outstanding, Alignment, Link, down_link, is_down, is_in_service, carries_traffic, in_traffic, chosen_link, Node, Parts, down, in_service, link_at, link_of, WholeQueues, queue_at, changeover_of, Standing, no_changeover, standing_at, HoldSet, Codes, link_in, facts, set_of, Fits, StaysFit, Pair}
 use Rattle.exchange_rules.proofs.Basics.{eqb-true}
 use Rattle.exchange_rules.proofs.LoneRoutes.{set-decides}
 use Rattle.flow_hold.specs.Holds as hold
@@ -32,7 +32,7 @@ module _ (c z : Configuration) (j : Joint c z) where
     pub lost : o.parts.times_lost ≡ n.parts.times_lost
     pub late : o.parts.times_late ≡ n.parts.times_late
     pub route : IsOpen c z j n → IsOpen c z j o
-    pub unawaited : ((link : ℕ) → down n.parts link ≡ false → (changeover_of n.parts link).awaited ≡ false) → (link : ℕ) → down o.parts link ≡ false → (changeover_of o.parts link).awaited ≡ false
+    pub settled : ((link : ℕ) → down n.parts link ≡ false → changeover_of n.parts link ≡ no_changeover) → (link : ℕ) → down o.parts link ≡ false → changeover_of o.parts link ≡ no_changeover
     pub silent : ((link : ℕ) → IsSilent (link_at n.parts link)) → (link : ℕ) → IsSilent (link_at o.parts link)
 
   module _ (n o : Node WholeQueues) (u : IsUnseen n o) where
@@ -113,7 +113,7 @@ module _ (c z : Configuration) (j : Joint c z) where
         good = λ g. record {
           fits = u.fits.stay g.fits;
           route = u.route g.route;
-          unawaited = u.unawaited g.unawaited;
+          settled = u.settled g.settled;
           silent = u.silent g.silent;
           queued = subst (λ (qs : WholeQueues). (link : ℕ) → Each (IsSent c z j.base.there (set c z j)) (queue_at qs link).all) (sym u.queues) g.queued;
           elsewhere = subst (λ (qs : WholeQueues). (link : ℕ) → set_of c link ≢ set c z j → Each (λ (x : Message). says_of c.own z.own j.base.there x ≡ Other) (queue_at qs link).all) (sym u.queues) g.elsewhere;
@@ -144,8 +144,8 @@ module _ (c z : Configuration) (j : Joint c z) where
       lost = lost;
       late = late;
       route = route;
-      unawaited = λ h link up.
-          ap (λ (xs : List Standing). (standing_at xs link).awaited) changeovers
+      settled = λ h link up.
+          ap (λ (xs : List Standing). standing_at xs link) changeovers
           ∙ h link (ap (λ (xs : List Link). is_down (link_in xs link).alignment) (sym links) ∙ up);
       silent = λ h link. subst (λ (xs : List Link). IsSilent (link_in xs link)) (sym links) (h link);
     }) w arrived loose
