@@ -40,30 +40,38 @@ impl Rows for Codecs {
         let mut buffer = [0; OCTETS];
         let octets = octets(last(row), &mut buffer);
         match word(row, 0) {
-            "frame" => {
-                traces::say_words(said, row, octets);
-                frames::write_again(said, octets);
-            }
-            "pieces" => frames::pieces(said, row),
-            "point" => traces::point(said, row),
-            "capture" => traces::capture(said, row, octets),
-            "label" => mtp3::label(said, octets),
-            "route" => mtp3::route(said, row, octets),
-            "management" => mtp3::management(said, octets),
-            "test" => mtp3::test(said, octets),
-            "number" => mtp3::numbers(said, row),
-            "address" => sccp::address(said, octets),
-            "unitdata" => sccp::unitdata(said, octets),
-            "packet" => sctp::packet(said, octets),
-            "mac" => cookies::mac(said, row, octets),
-            "tags" => cookies::tags(said, row),
-            "sign" => cookies::sign(said, row),
-            "open" => cookies::open(said, row, octets),
             "title" => tables::titles(said, &mut self.titles, row),
             "links" => self.points = [number(row, 1), number(row, 2)],
             "relay" => tables::relayed(said, &self.titles, &self.points, octets, false),
             "extended" => tables::relayed(said, &self.titles, &self.points, octets, true),
-            _ => tables::digits_of(said, &mut self.trie, row),
+            "trie" => tables::digits_of(said, &mut self.trie, row),
+            kind => say_octets(said, kind, row, octets),
         }
+    }
+}
+
+/// Says what the octets of a row are, by its kind.
+fn say_octets(said: &mut Said, kind: &str, row: &str, octets: &[u8]) {
+    match kind {
+        "frame" => {
+            traces::say_words(said, row, octets);
+            frames::write_again(said, octets);
+        }
+        "pieces" => frames::pieces(said, row),
+        "point" => traces::point(said, row),
+        "capture" => traces::capture(said, row, octets),
+        "label" => mtp3::label(said, octets),
+        "route" => mtp3::route(said, row, octets),
+        "management" => mtp3::management(said, octets),
+        "test" => mtp3::test(said, octets),
+        "number" => mtp3::numbers(said, row),
+        "address" => sccp::address(said, octets),
+        "unitdata" => sccp::unitdata(said, octets),
+        "packet" => sctp::packet(said, octets),
+        "mac" => cookies::mac(said, row, octets),
+        "tags" => cookies::tags(said, row),
+        "sign" => cookies::sign(said, row),
+        "open" => cookies::open(said, row, octets),
+        _ => said.say("no kind"),
     }
 }

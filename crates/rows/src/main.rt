@@ -51,7 +51,11 @@ fn main(rt: HostRuntime) -> io::Result<()> {
 /// Prints the rows of a file, each with what it says.
 fn print_file<R: Files + Print + AllocGlobal>(rt: &R, name: &str) -> io::Result<()> {
     let text = fs::read_to_string(rt, name)?;
-    let text = text.as_str();
+    print_text(rt, name, text.as_str())
+}
+
+/// Prints the rows of a text, which are of the kind that a file of this name has.
+fn print_text<R: Print + AllocGlobal>(rt: &R, name: &str, text: &str) -> io::Result<()> {
     match name {
         "timers.rows" => parts::timer_rows::print(rt, text),
         "flows.rows" => parts::flow_rows::print(rt, text),

@@ -99,12 +99,16 @@ fn say_first_notice(said: &mut Said, shown: &Exchange) {
 /// Says what becomes of events about a link, and what a node with one link and one destination shows of it, and of a
 /// row of its number.
 pub(crate) fn absent(said: &mut Said, alloc: Global, row: &str) {
-    let link = LinkId::new(number(row, 1));
     if let Some(mut node) = Node::new(alloc, facing(alloc, 1, 2)) {
-        say_events(said, &mut node, link);
-        said.say(format_args!("taken {}", node.take(link).is_some()));
-        say_shown(said, node.shown(), link);
+        say_absent(said, &mut node, LinkId::new(number(row, 1)));
     }
+}
+
+/// The same of a node.
+fn say_absent(said: &mut Said, node: &mut Node, link: LinkId) {
+    say_events(said, node, link);
+    said.say(format_args!("taken {}", node.take(link).is_some()));
+    say_shown(said, node.shown(), link);
 }
 
 /// Says what becomes of events about a link.
@@ -143,26 +147,39 @@ pub(crate) fn plays(said: &mut Said, alloc: Global, text: &str, row: &str) {
         return;
     };
     for part in after_words(row, 1).split("; ") {
-        if part == "doubts" {
-            say_doubts(said, node.shown());
-        } else if !does(alloc, &mut node, script_of(text, part)) {
-            said.say(format_args!("undone {part}"));
-        }
+        play(said, alloc, &mut node, part, script_of(text, part));
+    }
+}
+
+/// Plays a script on a node, and says its name if it isn't done; `doubts` says whether messages may be lost, and
+/// whether they may be late.
+fn play(said: &mut Said, alloc: Global, node: &mut Node, name: &str, script: &str) {
+    if name == "doubts" {
+        say_doubts(said, node.shown());
+    } else if !does(alloc, node, script) {
+        said.say(format_args!("undone {name}"));
     }
 }
 
 /// Does a script. Whether all its lines are done: none is malformed, refused or ignored.
 fn does(alloc: Global, node: &mut Node, script: &str) -> bool {
-    let Ok(text) = text_of(alloc, script) else {
-        return false;
-    };
+    match text_of(alloc, script) {
+        Ok(text) => does_lines(alloc, node, text.as_str().as_bytes()),
+        Err(_) => false,
+    }
+}
+
+/// The same of its text.
+fn does_lines(alloc: Global, node: &mut Node, text: &[u8]) -> bool {
     let mut writer = MemorySink::new(alloc);
-    let run = node.play(
-        &mut MemorySource::new(text.as_str().as_bytes()),
-        &mut writer,
-    );
-    match str::from_utf8(writer.written()) {
-        Ok(text) => run.is_ok() && !text.contains("refused") && !text.contains("ignored"),
+    let run = node.play(&mut MemorySource::new(text), &mut writer);
+    run.is_ok() && are_done(writer.written())
+}
+
+/// Whether what was printed says that no line was refused or ignored.
+fn are_done(printed: &[u8]) -> bool {
+    match str::from_utf8(printed) {
+        Ok(text) => !text.contains("refused") && !text.contains("ignored"),
         Err(_) => false,
     }
 }

@@ -157,9 +157,10 @@ fn digit_of<L: Lanes>(lanes: &L, list: usize, place: usize) -> char {
     if list >= lanes.lanes() {
         return '?';
     }
-    let message = lanes.get(list, place);
-    let digit = message.and_then(|message| message.sif().last().copied());
-    char::from(digit.unwrap_or(b'?'))
+    match lanes.get(list, place) {
+        Some(message) => char::from(message.sif().last().copied().unwrap_or(b'?')),
+        None => '?',
+    }
 }
 
 /// Moves messages from a list to another.
