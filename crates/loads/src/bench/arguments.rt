@@ -22,7 +22,7 @@ const FEWEST_DESTINATIONS: usize = 2;
 const WINDOW: u16 = 128;
 
 /// How large the settings are apart from their destinations and links.
-#[derive(Clone, Copy, PartialEq, Eq)]
+#[derive(Clone, Copy)]
 pub(crate) enum Size {
     /// One set leads to each destination, the window is 128, and the kind says how many links a set has, how many
     /// translation rows there are, and whether links are in service.
