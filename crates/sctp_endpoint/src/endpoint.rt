@@ -14,6 +14,7 @@ mod echoing;
 mod ending;
 mod flushing;
 mod giving;
+mod giving_up;
 mod handling;
 mod hearing;
 mod heartbeats;

@@ -57,7 +57,7 @@ use Rattle.sctp_ends.proofs.Said.{waits-bundled, said-bundled, never-any}
 use Rattle.sctp_ends.proofs.Sent.{sack-confirms, shutdown-confirms, gone-only, going-same, going-said, timed-same}
 use Rattle.sctp_ends.proofs.Messages.{data-does, confirmed-goes, given-goes}
 use Rattle.sctp_ends.proofs.Alike.{receipts, gifts, Outcome, Starts, loosely, out-same, in-same, ack-said, Does, Goes, Alike, Stands, itself, alike-behind, plain-stands, alike-shows, alike-goes, also-does, also, hears, IsTagged}
-use Rattle.sctp_ends.proofs.Steps.{puts, ended-goes, wants-goes, begun-goes, renewed-goes, answered-anew-goes, answered-alike-goes}
+use Rattle.sctp_ends.proofs.Steps.{puts, ended-goes, given-up-goes, wants-goes, begun-goes, renewed-goes, answered-anew-goes, answered-alike-goes}
 use Rattle.sctp_ends.proofs.Steps.{echoed-goes, opened-by-ack-goes, opened-by-cookie-does}
 
 -- ---- tests
@@ -451,22 +451,14 @@ module _ (own far : Secrets) (mark : ℕ) (other : End) (good : AreGood own) whe
       Begins far own (young other) other tag (packets.InitChunk init) → Can s (opening.answered_alike c own now source init s)
   answered-alike c now source tag init s q came = answered-alike-goes own far mark other c now source tag init s q came
 
-  answered-if-trying : (c : Settings) (now : ℕ) (source : Address) (tag : ℕ) (init : InitValue) (s : State) →
-      Begins far own (young other) other tag (packets.InitChunk init) → Can s (opening.answered_if_trying c own now source init s)
-  answered-if-trying c now source tag init s came =
-      either-so (opening.is_waiting s.association.phase) s (opening.answered_alike c own now source init s) (silent s)
-      (λ e. answered-alike c now source tag init s (inl (waiting-stage s.association.phase e)) came) (λ e. stays s)
-
   answered-echoed : (c : Settings) (now : ℕ) (source : Address) (tag : ℕ) (init : InitValue) (s : State) →
       stage_of s.association.phase ≡ Echoing → Begins far own (young other) other tag (packets.InitChunk init) →
       Can s (opening.answered_echoed c own now source init s)
   answered-echoed c now source tag init s echoing came =
-      let anew : Done = opening.begun_anew c own now 0 s.association.address s in
-      let rule : State → Done = λ left. opening.answered_if_trying c own now source init left in
-      either (nat_eq init.tag s.association.far_tag) s (opening.answered_alike c own now source init s) (followed_by anew rule)
+      either (nat_eq init.tag s.association.far_tag) s (opening.answered_alike c own now source init s)
+      (opening.answered_anew c own now source init s)
       (answered-alike c now source tag init s (inr echoing) came)
-      (next s anew rule (begun-anew (own.beginning s.beginnings) c now 0 s.association.address s refl echoing)
-      (answered-if-trying c now source tag init anew.left came))
+      (answered-anew (own.beginning s.beginnings) c now source tag init s refl came)
 
   init-in : (phase : Phase) (c : Settings) (now : ℕ) (source : Address) (tag : ℕ) (init : InitValue) (s : State) →
       s.association.phase ≡ phase → Begins far own (young other) other tag (packets.InitChunk init) →
@@ -641,6 +633,33 @@ module _ (own far : Secrets) (mark : ℕ) (other : End) (good : AreGood own) whe
       (λ e. echo-stops tag s (opening.restarted phase c source cookie s) (restarted phase c source cookie s))
       (λ e. echo-stops tag s (silent s) (stays s))
 
+  given-up : (c : Settings) (source : Address) (cookie : Cookie) (s : State) → stage_of s.association.phase ≡ Echoing →
+      Can s (opening.given_up c source cookie s)
+  given-up c source cookie s echoing =
+      let left : State = record s { generation = s.generation + 1; association = no_association c } in
+      next s (silent left) (λ x. opening.stale c source 1 cookie x) (given-up-goes own far mark other c s echoing)
+      (stale c source 1 cookie left)
+
+  echo-in-try : (c : Settings) (now tag : ℕ) (source : Address) (cookie : Cookie) (s : State) →
+      s.association.phase ≡ CookieEchoed → cookie.own_first_tsn < modulus → cookie.own_tag ≡ tag → cookie.generation ≡ s.generation →
+      Contains other.echoes (cookie_of cookie) → Echoes tag s (opening.echo_in_try c now source cookie s)
+  echo-in-try c now tag source cookie s p fits same present came =
+      let a : Association = s.association in
+      let gives-up : opening.Echo = opening.stops (opening.given_up c source cookie s) in
+      echo-either-so (opening.is_own cookie a && opening.is_far cookie a) tag s (opening.opened_by c now source cookie s)
+      (if opening.is_own cookie a || opening.is_tied cookie a then gives-up else nothing s)
+      (λ w. opened-by c now tag source cookie s fits same present came
+      (λ e h.
+      let was : IsEchoing e s.is_wanted a = subst (λ (phase : Phase). IsIn (stage_of phase) e s.is_wanted a) p h.stage in
+      let parts = both-true (opening.is_own cookie a) (opening.is_far cookie a) w in (
+        was.wants,
+        subst (λ (phase : ends.Phase). MayOpen phase (cookie_of cookie)) (sym was.phase)
+            (eq-from cookie.own_tag a.own_tag parts.0, eq-from cookie.peer_tag a.far_tag parts.1),
+      )))
+      (λ w. echo-either-so (opening.is_own cookie a || opening.is_tied cookie a) tag s gives-up (nothing s)
+      (λ v. echo-stops tag s (opening.given_up c source cookie s) (given-up c source cookie s (ap stage_of p)))
+      (λ v. echo-stops tag s (silent s) (stays s)))
+
   good-echo : (phase : Phase) (c : Settings) (now tag : ℕ) (source : Address) (cookie : Cookie) (s : State) →
       s.association.phase ≡ phase → cookie.own_first_tsn < modulus → cookie.own_tag ≡ tag → cookie.generation ≡ s.generation →
       Contains other.echoes (cookie_of cookie) → Echoes tag s (opening.good_echo_in phase c now source cookie s)
@@ -661,18 +680,7 @@ module _ (own far : Secrets) (mark : ℕ) (other : End) (good : AreGood own) whe
             (eq-from cookie.own_tag s.association.own_tag w),
       )))
       (λ w. echo-stops tag s (silent s) (stays s))
-  good-echo CookieEchoed c now tag source cookie s p fits same present came =
-      echo-either-so (opening.is_own cookie s.association && opening.is_far cookie s.association) tag s
-      (opening.opened_by c now source cookie s) (nothing s)
-      (λ w. opened-by c now tag source cookie s fits same present came
-      (λ e h.
-      let was : IsEchoing e s.is_wanted s.association = subst (λ (phase : Phase). IsIn (stage_of phase) e s.is_wanted s.association) p h.stage in
-      let parts = both-true (opening.is_own cookie s.association) (opening.is_far cookie s.association) w in (
-        was.wants,
-        subst (λ (phase : ends.Phase). MayOpen phase (cookie_of cookie)) (sym was.phase)
-            (eq-from cookie.own_tag s.association.own_tag parts.0, eq-from cookie.peer_tag s.association.far_tag parts.1),
-      )))
-      (λ w. echo-stops tag s (silent s) (stays s))
+  good-echo CookieEchoed c now tag source cookie s p fits same present came = echo-in-try c now tag source cookie s p fits same present came
   good-echo Established c now tag source cookie s p fits same present came = echo-in Established c tag source cookie s
   good-echo ShutdownPending c now tag source cookie s p fits same present came = echo-in ShutdownPending c tag source cookie s
   good-echo ShutdownSent c now tag source cookie s p fits same present came = echo-in ShutdownSent c tag source cookie s

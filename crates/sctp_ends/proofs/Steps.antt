@@ -178,6 +178,37 @@ module _ (own far : Secrets) (mark : ℕ) (other : End) where
           quiet = λ b. ((λ n. (refl, tt)), tt);
         }
 
+  -- a try ends, and its user still wants an association
+  pub given-up-goes : (c : Settings) (s : State) → stage_of s.association.phase ≡ Echoing →
+      Goes own far mark other s (silent (record s { generation = s.generation + 1; association = no_association c }))
+  given-up-goes c s echoing = record { result = gives-up; tagged = λ tag t on. absurd (cc) } where
+    gives-up : (e : End) → IsSound e other → Shows own far mark e s →
+        Result own far mark other e (silent (record s { generation = s.generation + 1; association = no_association c }))
+    gives-up e sound h =
+        let shut : End = record e { generation = e.generation + 1; wanted = false; phase = Closed } in
+        let f : End = record shut { wanted = true } in
+        let was : IsEchoing e s.is_wanted s.association = subst (λ (stage : Stage). IsIn stage e s.is_wanted s.association) echoing h.stage in
+        record {
+          list = shut ∷ f ∷ [];
+          moves = (
+            moves.finishes (record { generation = e.generation + 1; later = omega arith; after = refl }),
+            (moves.wants (record { after = refl }), tt),
+          );
+          shows = record {
+            generation = omega (arith, h.generation);
+            stage = record { phase = refl; wants = sym was.wanted_is };
+            drawn = h.drawn;
+            control = tt;
+            trying = λ t q. absurd (cc);
+            later = h.later;
+          };
+          more = more-of e f refl (λ n i. i) (λ n i. i) (λ n i. i) (λ n i. i) (λ n i. i) (λ n i. i);
+          sent = tt;
+          told = refl;
+          given = refl;
+          quiet = λ b. ((λ n. (refl, tt)), ((λ n. (refl, n)), tt));
+        }
+
   -- ---- the user wants an association
 
   keep-control : (e f : End) → IsMore e f → mark ≤ load e.epochs → (stage : Stage) (tag : ℕ) (control : List ChunkValue) →

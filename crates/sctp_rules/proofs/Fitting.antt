@@ -541,14 +541,9 @@ module _ (c : Settings) (ports : HasPorts c) where
   answered-echoed : (k : Secrets) (now : ℕ) (source : Address) (init : InitValue) (s : State) → AreFit k → init.tag < 2 ^ 32 →
       Kept c s.association → Puts c (opening.answered_echoed c k now source init s)
   answered-echoed k now source init s fits t kept =
-      let anew : Done = opening.begun_anew c k now 0 s.association.address s in
-      let rule : State → Done = λ left. opening.answered_if_trying c k now source init left in
-      either (nat_eq init.tag s.association.far_tag) (opening.answered_alike c k now source init s) (followed_by anew rule)
-      (answered-alike k now source init s fits t kept)
-      (and-then anew rule (anew-with (k.beginning s.beginnings) now 0 s.association.address s (fits.beginnings s.beginnings) kept)
-      (λ left q.
-      either (opening.is_waiting left.association.phase) (opening.answered_alike c k now source init left) (silent left)
-      (answered-alike k now source init left fits t q) (silently left q)))
+      either (nat_eq init.tag s.association.far_tag) (opening.answered_alike c k now source init s)
+      (opening.answered_anew c k now source init s) (answered-alike k now source init s fits t kept)
+      (answered-anew (k.beginning s.beginnings) k now source init s fits t (fits.beginnings s.beginnings) kept)
 
   init-in : (phase : Phase) (k : Secrets) (now : ℕ) (source : Address) (init : InitValue) (s : State) → AreFit k → init.tag < 2 ^ 32 →
       Kept c s.association → Puts c (opening.init_in phase c k now source init s)
@@ -726,6 +721,22 @@ module _ (c : Settings) (ports : HasPorts c) where
       (opening.stops (opening.restarted phase c source cookie s)) (opening.stops (silent s))
       (restarted phase source cookie s h kept) (silently s kept)
 
+  given-up : (source : Address) (cookie : Cookie) (s : State) → HasTags cookie → Puts c (opening.given_up c source cookie s)
+  given-up source cookie s h =
+      let left : State = record s { generation = s.generation + 1; association = no_association c } in
+      and-then (silent left) (λ x. opening.stale c source 1 cookie x) (silently left kept-none) (λ x q. stale source 1 cookie x h q)
+
+  echo-in-try : (now : ℕ) (source : Address) (cookie : Cookie) (s : State) → HasTags cookie → Kept c s.association →
+      Puts c (opening.echo_in_try c now source cookie s).does
+  echo-in-try now source cookie s h kept =
+      let a : Association = s.association in
+      let gives-up : opening.Echo = opening.stops (opening.given_up c source cookie s) in
+      echo-either (opening.is_own cookie a && opening.is_far cookie a) (opening.opened_by c now source cookie s)
+      (if opening.is_own cookie a || opening.is_tied cookie a then gives-up else opening.stops (silent s))
+      (opened-by now source cookie s h)
+      (echo-either (opening.is_own cookie a || opening.is_tied cookie a) gives-up (opening.stops (silent s))
+      (given-up source cookie s h) (silently s kept))
+
   good-echo : (phase : Phase) (now : ℕ) (source : Address) (cookie : Cookie) (s : State) → HasTags cookie → Kept c s.association →
       Puts c (opening.good_echo_in phase c now source cookie s).does
   good-echo Closed now source cookie s h kept =
@@ -733,9 +744,7 @@ module _ (c : Settings) (ports : HasPorts c) where
   good-echo CookieWait now source cookie s h kept =
       echo-either (opening.is_own cookie s.association) (opening.opened_by c now source cookie s) (opening.stops (silent s))
       (opened-by now source cookie s h) (silently s kept)
-  good-echo CookieEchoed now source cookie s h kept =
-      echo-either (opening.is_own cookie s.association && opening.is_far cookie s.association) (opening.opened_by c now source cookie s)
-      (opening.stops (silent s)) (opened-by now source cookie s h) (silently s kept)
+  good-echo CookieEchoed now source cookie s h kept = echo-in-try now source cookie s h kept
   good-echo Established now source cookie s h kept = echo-in Established source cookie s h kept
   good-echo ShutdownPending now source cookie s h kept = echo-in ShutdownPending source cookie s h kept
   good-echo ShutdownSent now source cookie s h kept = echo-in ShutdownSent source cookie s h kept

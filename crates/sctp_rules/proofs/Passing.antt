@@ -644,20 +644,13 @@ module _ {A : Arrivals} {R : State → Done → Type 0} (steps : AreSteps A R) w
   answered-anew c k now source init (Some b) s r =
       putting c source init.tag _ s (record s { beginnings = s.beginnings + 1 }) tt (unmoved s r)
 
-  answered-if-trying : (c : Settings) (k : Secrets) (now : ℕ) (source : Address) (init : InitValue) (s : State) → Right s →
-      Passes R s (opening.answered_if_trying c k now source init s)
-  answered-if-trying c k now source init s r =
-      either (opening.is_waiting s.association.phase) s (opening.answered_alike c k now source init s) (silent s)
-      (answered-with c k now source init (opening.own_beginning s.association) s r) (stays s r)
-
-  answered-echoed : (c : Settings) (k : Secrets) (now : ℕ) (source : Address) (init : InitValue) (s : State) →
-      s.association.is_up ≡ false → s.is_wanted ≡ true → Right s → Passes R s (opening.answered_echoed c k now source init s)
-  answered-echoed c k now source init s d w r =
-      let anew : Done = opening.begun_anew c k now 0 s.association.address s in
-      let rule : State → Done = λ left. opening.answered_if_trying c k now source init left in
-      either (nat_eq init.tag s.association.far_tag) s (opening.answered_alike c k now source init s) (followed_by anew rule)
+  answered-echoed : (c : Settings) (k : Secrets) (now : ℕ) (source : Address) (init : InitValue) (s : State) → Right s →
+      Passes R s (opening.answered_echoed c k now source init s)
+  answered-echoed c k now source init s r =
+      either (nat_eq init.tag s.association.far_tag) s (opening.answered_alike c k now source init s)
+      (opening.answered_anew c k now source init s)
       (answered-with c k now source init (opening.own_beginning s.association) s r)
-      (next s anew rule (begun-anew c k now 0 s.association.address s d w r) (λ left q. answered-if-trying c k now source init left q))
+      (answered-anew c k now source init (k.beginning s.beginnings) s r)
 
   init-in : (phase : Phase) (c : Settings) (k : Secrets) (now : ℕ) (source : Address) (init : InitValue) (s : State) →
       s.association.phase ≡ phase → Right s → Passes R s (opening.init_in phase c k now source init s)
@@ -665,8 +658,7 @@ module _ {A : Arrivals} {R : State → Done → Type 0} (steps : AreSteps A R) w
       either s.is_wanted s (opening.answered_anew c k now source init s) (silent s)
       (answered-anew c k now source init (k.beginning s.beginnings) s r) (stays s r)
   init-in CookieWait c k now source init s e r = answered-with c k now source init (opening.own_beginning s.association) s r
-  init-in CookieEchoed c k now source init s e r =
-      answered-echoed c k now source init s (r.right.down (ap opening.is_there e)) (r.right.echoed (ap opening.is_echoed e)) r
+  init-in CookieEchoed c k now source init s e r = answered-echoed c k now source init s r
   init-in Established c k now source init s e r = answered-anew c k now source init (k.beginning s.beginnings) s r
   init-in ShutdownPending c k now source init s e r = answered-anew c k now source init (k.beginning s.beginnings) s r
   init-in ShutdownSent c k now source init s e r = answered-anew c k now source init (k.beginning s.beginnings) s r
@@ -833,6 +825,30 @@ module _ {A : Arrivals} {R : State → Done → Type 0} (steps : AreSteps A R) w
       (opening.stops (opening.restarted phase c source cookie s)) (nothing s)
       (echo-stops tag s (opening.restarted phase c source cookie s) (restarted phase c source cookie s r)) (echo-stops tag s (silent s) (stays s r))
 
+  given-up : (c : Settings) (source : Address) (cookie : Cookie) (s : State) →
+      s.association.is_up ≡ false → s.is_wanted ≡ true → Passes R s (opening.given_up c source cookie s)
+  given-up c source cookie s d w =
+      let left : State = record s { generation = s.generation + 1; association = no_association c } in
+      let closed : IsRight Closed false s.is_wanted = record { up = λ e. absurd (cc); down = λ e. refl; waiting = λ e. absurd (cc); echoed = λ e. absurd (cc) } in
+      next s (silent left) (λ x. opening.stale c source 1 cookie x)
+      (record {
+        kept = steps.tries s left []
+            (record { was_wanted = w; generation = omega arith; was_down = d; is_down = refl; takes_none = refl; is_none = refl }) none-sent;
+        left = record { right = closed; control = none-bare; trying = tt };
+      })
+      (λ x q. stale c source 1 cookie x q)
+
+  echo-in-try : (c : Settings) (now tag : ℕ) (source : Address) (cookie : Cookie) (s : State) → cookie.own_tag ≡ tag → A.tag cookie.own_tag →
+      s.association.is_up ≡ false → s.is_wanted ≡ true → Right s → Echoes tag s (opening.echo_in_try c now source cookie s)
+  echo-in-try c now tag source cookie s same t d w r =
+      let a : Association = s.association in
+      let gives-up : opening.Echo = opening.stops (opening.given_up c source cookie s) in
+      echo-either (opening.is_own cookie a && opening.is_far cookie a) tag s (opening.opened_by c now source cookie s)
+      (if opening.is_own cookie a || opening.is_tied cookie a then gives-up else nothing s)
+      (opened-by c now tag source cookie s same t d w)
+      (echo-either (opening.is_own cookie a || opening.is_tied cookie a) tag s gives-up (nothing s)
+      (echo-stops tag s (opening.given_up c source cookie s) (given-up c source cookie s d w)) (echo-stops tag s (silent s) (stays s r)))
+
   good-echo : (phase : Phase) (c : Settings) (now tag : ℕ) (source : Address) (cookie : Cookie) (s : State) →
       s.association.phase ≡ phase → cookie.own_tag ≡ tag → A.tag cookie.own_tag → Right s →
       Echoes tag s (opening.good_echo_in phase c now source cookie s)
@@ -843,9 +859,7 @@ module _ {A : Arrivals} {R : State → Done → Type 0} (steps : AreSteps A R) w
       echo-either (opening.is_own cookie s.association) tag s (opening.opened_by c now source cookie s) (nothing s)
       (opened-by c now tag source cookie s same t (r.right.down (ap opening.is_there e)) (r.right.waiting (ap opening.is_waiting e))) (echo-stops tag s (silent s) (stays s r))
   good-echo CookieEchoed c now tag source cookie s e same t r =
-      echo-either (opening.is_own cookie s.association && opening.is_far cookie s.association) tag s
-      (opening.opened_by c now source cookie s) (nothing s)
-      (opened-by c now tag source cookie s same t (r.right.down (ap opening.is_there e)) (r.right.echoed (ap opening.is_echoed e))) (echo-stops tag s (silent s) (stays s r))
+      echo-in-try c now tag source cookie s same t (r.right.down (ap opening.is_there e)) (r.right.echoed (ap opening.is_echoed e)) r
   good-echo Established c now tag source cookie s e same t r = echo-in Established c tag source cookie s r
   good-echo ShutdownPending c now tag source cookie s e same t r = echo-in ShutdownPending c tag source cookie s r
   good-echo ShutdownSent c now tag source cookie s e same t r = echo-in ShutdownSent c tag source cookie s r

@@ -73,13 +73,49 @@ pub try_is_refused : rows.try_is_refused
 unfolding after going drained run_from blocks_from lost_from named_below passed_below given next_place gone_again gone_first confirmation confirmed settled acknowledged after_t3 stopped
 try_is_refused = record { phase_is = refl; sent_is = refl; told_is = refl }
 
-pub another_init_begins_anew : rows.another_init_begins_anew
+pub init_in_cookie_wait_is_answered : rows.init_in_cookie_wait_is_answered
 unfolding after going drained run_from blocks_from lost_from named_below passed_below given next_place gone_again gone_first confirmation confirmed settled acknowledged after_t3 stopped
-another_init_begins_anew = record { phase_is = refl; sent_is = refl; told_is = refl }
+init_in_cookie_wait_is_answered = record { phase_is = refl; sent_is = refl; told_is = refl }
+
+pub with_the_tag_of_the_try : rows.with_the_tag_of_the_try
+unfolding after going drained run_from blocks_from lost_from named_below passed_below given next_place gone_again gone_first confirmation confirmed settled acknowledged after_t3 stopped
+with_the_tag_of_the_try = refl
+
+pub cookie_is_echoed_all_the_same : rows.cookie_is_echoed_all_the_same
+unfolding after going drained run_from blocks_from lost_from named_below passed_below given next_place gone_again gone_first confirmation confirmed settled acknowledged after_t3 stopped
+cookie_is_echoed_all_the_same = record { phase_is = refl; sent_is = refl; told_is = refl }
+
+pub init_in_cookie_echoed_is_answered : rows.init_in_cookie_echoed_is_answered
+unfolding after going drained run_from blocks_from lost_from named_below passed_below given next_place gone_again gone_first confirmation confirmed settled acknowledged after_t3 stopped
+init_in_cookie_echoed_is_answered = record { phase_is = refl; sent_is = refl; told_is = refl }
 
 pub with_another_tag : rows.with_another_tag
 unfolding after going drained run_from blocks_from lost_from named_below passed_below given next_place gone_again gone_first confirmation confirmed settled acknowledged after_t3 stopped
 with_another_tag = refl
+
+pub try_goes_on : rows.try_goes_on
+unfolding after going drained run_from blocks_from lost_from named_below passed_below given next_place gone_again gone_first confirmation confirmed settled acknowledged after_t3 stopped
+try_goes_on = refl
+
+pub acknowledgement_opens_all_the_same : rows.acknowledgement_opens_all_the_same
+unfolding after going drained run_from blocks_from lost_from named_below passed_below given next_place gone_again gone_first confirmation confirmed settled acknowledged after_t3 stopped
+acknowledgement_opens_all_the_same = record { phase_is = refl; sent_is = refl; told_is = refl }
+
+pub cookie_of_a_new_try_ends_the_try : rows.cookie_of_a_new_try_ends_the_try
+unfolding after going drained run_from blocks_from lost_from named_below passed_below given next_place gone_again gone_first confirmation confirmed settled acknowledged after_t3 stopped
+cookie_of_a_new_try_ends_the_try = record { phase_is = refl; sent_is = refl; told_is = refl }
+
+pub association_is_wanted_still : rows.association_is_wanted_still
+unfolding after going drained run_from blocks_from lost_from named_below passed_below given next_place gone_again gone_first confirmation confirmed settled acknowledged after_t3 stopped
+association_is_wanted_still = refl
+
+pub peer_that_began_anew_gets_in : rows.peer_that_began_anew_gets_in
+unfolding after going drained run_from blocks_from lost_from named_below passed_below given next_place gone_again gone_first confirmation confirmed settled acknowledged after_t3 stopped
+peer_that_began_anew_gets_in = record { phase_is = refl; sent_is = refl; told_is = refl }
+
+pub cookie_of_a_former_try_is_stale : rows.cookie_of_a_former_try_is_stale
+unfolding after going drained run_from blocks_from lost_from named_below passed_below given next_place gone_again gone_first confirmation confirmed settled acknowledged after_t3 stopped
+cookie_of_a_former_try_is_stale = record { phase_is = refl; sent_is = refl; told_is = refl }
 
 pub cookie_is_acknowledged_again : rows.cookie_is_acknowledged_again
 unfolding after going drained run_from blocks_from lost_from named_below passed_below given next_place gone_again gone_first confirmation confirmed settled acknowledged after_t3 stopped
@@ -333,9 +369,9 @@ pub cookie_of_another_peer_opens_a_try : rows.cookie_of_another_peer_opens_a_try
 unfolding after going drained run_from blocks_from lost_from named_below passed_below given next_place gone_again gone_first confirmation confirmed settled acknowledged after_t3 stopped
 cookie_of_another_peer_opens_a_try = record { phase_is = refl; sent_is = refl; told_is = refl }
 
-pub cookie_of_another_peer_is_dropped : rows.cookie_of_another_peer_is_dropped
+pub cookie_of_another_peer_ends_the_try : rows.cookie_of_another_peer_ends_the_try
 unfolding after going drained run_from blocks_from lost_from named_below passed_below given next_place gone_again gone_first confirmation confirmed settled acknowledged after_t3 stopped
-cookie_of_another_peer_is_dropped = record { phase_is = refl; sent_is = refl; told_is = refl }
+cookie_of_another_peer_ends_the_try = record { phase_is = refl; sent_is = refl; told_is = refl }
 
 pub usable_init_ack_is_echoed : rows.usable_init_ack_is_echoed
 unfolding after going drained run_from blocks_from lost_from named_below passed_below given next_place gone_again gone_first confirmation confirmed settled acknowledged after_t3 stopped

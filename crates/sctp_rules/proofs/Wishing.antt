@@ -10,7 +10,7 @@ use Rattle.sctp_receiving.specs.declared.violation.Violation.TheVariants as viol
 use Rattle.sctp_codec.specs.Packets.{ChunkValue}
 use Rattle.sctp_rules.specs.declared.loss.Loss.{Loss}
 use Rattle.sctp_rules.specs.declared.loss.Loss.TheVariants as losses
-use Rattle.sctp_rules.specs.Settings.{Settings, Secrets, Address, Beginning}
+use Rattle.sctp_rules.specs.Settings.{Settings, Secrets, Beginning}
 use Rattle.sctp_rules.specs.State as state
 use Rattle.sctp_rules.specs.State.{State, Told, Up, Heard, Down, Failed, Done, silent, followed_by, first_state}
 use Rattle.sctp_rules.specs.Ending as ending
@@ -18,8 +18,8 @@ use Rattle.sctp_rules.specs.Opening as opening
 use Rattle.sctp_rules.specs.Data as data_rules
 use Rattle.sctp_rules.specs.Endpoint.{Happening, Opens, Came, Ticked, Sends, Aborts, ShutsDown, Flushes, after, after_all}
 use Rattle.sctp_rules.specs.Wishing.{Wish, Idle, Seeking, Served, wish_by, wish_by_call, wish_after, and_then, wish_after_all, Fits, told_as_wished}
-use Rattle.sctp_rules.proofs.Passing.{AreSteps, Passes, Right, Alike, happens, none-right, answer-alike, closed-down, both-true}
-use Rattle.sctp_rules.proofs.Telling.{OnlyLast, rest-last, received-last, anything, anything_with, any-chunks, any-happening, Turns, turn-steps}
+use Rattle.sctp_rules.proofs.Passing.{AreSteps, Right, Alike, happens, none-right, answer-alike, closed-down, both-true}
+use Rattle.sctp_rules.proofs.Telling.{OnlyLast, rest-last, received-last, anything_with, any-chunks, any-happening, turn-steps}
 
 -- ---- lists of what is told
 

@@ -180,17 +180,13 @@ own_beginning a = record { tag = a.own_tag; first = a.own_first }
 abbrev pub answered_alike : Settings → Secrets → (now : ℕ) → Address → InitValue → State → Done
 answered_alike c k now source init s = answered_with c k now source init (own_beginning s.association) s
 
-abbrev pub answered_if_trying : Settings → Secrets → (now : ℕ) → Address → InitValue → State → Done
-answered_if_trying c k now source init s =
-    if is_waiting s.association.phase then answered_alike c k now source init s else silent s
-
--- an INIT of the peer whose cookie this end has echoed; or of one that has restarted since, and may have had an
--- association with this end's tag: then this end restarts, too
+-- an INIT of the peer whose cookie this end has echoed; or of one that has begun anew since, and may have had an
+-- association with this end's tag: that one gets another tag. Anybody may send an INIT, so it doesn't end the try
 abbrev pub answered_echoed : Settings → Secrets → (now : ℕ) → Address → InitValue → State → Done
 answered_echoed c k now source init s =
     if nat_eq init.tag s.association.far_tag
     then answered_alike c k now source init s
-    else followed_by (begun_anew c k now 0 s.association.address s) (answered_if_trying c k now source init)
+    else answered_anew c k now source init s
 
 -- by the state
 abbrev pub init_in : Phase → Settings → Secrets → (now : ℕ) → Address → InitValue → State → Done
@@ -363,17 +359,31 @@ echo_in_association phase c source cookie s =
     then stops (restarted phase c source cookie s)
     else stops (silent s)
 
--- a good cookie, by the state (§5.2.4). In COOKIE-WAIT its own tag must be that of the try, and in COOKIE-ECHOED the
--- peer's, too; any other is of a try that the peer gave up
+-- the peer has begun anew, so nobody acknowledges the cookie that this end echoed: the try ends, the generation grows,
+-- and this end waits for the new INIT that ERROR asks the peer for. The user isn't told, and goes on to want one
+abbrev pub given_up : Settings → Address → Cookie → State → Done
+given_up c source cookie s =
+    followed_by (silent (record s { generation = s.generation + 1; association = no_association c }))
+    (stale c source 1 cookie)
+
+-- in COOKIE-ECHOED: a cookie with the peer's tag opens. Of any other peer tag are those that this end has made in this
+-- try for another INIT. Who echoes one has heard this end, so it is no INIT in the peer's name
+abbrev pub echo_in_try : Settings → (now : ℕ) → Address → Cookie → State → Echo
+echo_in_try c now source cookie s =
+    if is_own cookie s.association && is_far cookie s.association
+    then opened_by c now source cookie s
+    else (if is_own cookie s.association || is_tied cookie s.association
+    then stops (given_up c source cookie s)
+    else stops (silent s))
+
+-- a good cookie, by the state (§5.2.4). In COOKIE-WAIT its own tag must be that of the try; any other is of a try that
+-- the peer gave up
 abbrev pub good_echo_in : Phase → Settings → (now : ℕ) → Address → Cookie → State → Echo
 good_echo_in Closed c now source cookie s =
     if s.is_wanted then opened_by c now source cookie s else stops (silent s)
 good_echo_in CookieWait c now source cookie s =
     if is_own cookie s.association then opened_by c now source cookie s else stops (silent s)
-good_echo_in CookieEchoed c now source cookie s =
-    if is_own cookie s.association && is_far cookie s.association
-    then opened_by c now source cookie s
-    else stops (silent s)
+good_echo_in CookieEchoed c now source cookie s = echo_in_try c now source cookie s
 good_echo_in phase c now source cookie s = echo_in_association phase c source cookie s
 
 abbrev pub is_there : Phase → Bool

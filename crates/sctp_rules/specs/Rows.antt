@@ -231,18 +231,88 @@ giving_up_in_cookie_echoed = Does (near Aborts echoes.left) Closed ((6 ∷ []) �
 
 -- ---- INIT and COOKIE ECHO that come again (§5.2)
 
--- of a peer that restarted: in COOKIE-ECHOED this end restarts, too
-abbrev pub init_of_another_try : PacketValue
-init_of_another_try = of_chunk 0 (InitChunk (init_of (record { tag = 77; first = 5 }) []))
+-- anybody may send an INIT in the peer's name: it is answered, and the try goes on. In COOKIE-WAIT the answer has the tag
+-- of the try
+abbrev pub init_of_a_stranger : PacketValue
+init_of_a_stranger = of_chunk 0 (InitChunk (init_of (record { tag = 77; first = 5 }) []))
 
-abbrev pub begins_anew : Done
-begins_anew = near (comes 3 init_of_another_try) echoes.left
+-- the tag that an INIT ACK offers
+abbrev pub offer_in : List ChunkValue → ℕ
+offer_in (InitAckChunk init ∷ []) = init.tag
+offer_in chunks = 0
 
-abbrev pub another_init_begins_anew : Type 0
-another_init_begins_anew = Does begins_anew CookieWait ((1 ∷ []) ∷ (2 ∷ []) ∷ []) []
+abbrev pub offer : Done → ℕ
+offer d = offer_in (packet d).chunks
+
+abbrev pub answers_in_cookie_wait : Done
+answers_in_cookie_wait = near (comes 1 init_of_a_stranger) tries.left
+
+abbrev pub init_in_cookie_wait_is_answered : Type 0
+init_in_cookie_wait_is_answered = Does answers_in_cookie_wait CookieWait ((2 ∷ []) ∷ []) []
+
+abbrev pub with_the_tag_of_the_try : Type 0
+with_the_tag_of_the_try = offer answers_in_cookie_wait ≡ 10
+
+abbrev pub cookie_is_echoed_all_the_same : Type 0
+cookie_is_echoed_all_the_same =
+    Does (near (comes 2 (packet answers)) answers_in_cookie_wait.left) CookieEchoed ((10 ∷ []) ∷ []) []
+
+-- in COOKIE-ECHOED it has another
+abbrev pub answers_in_cookie_echoed : Done
+answers_in_cookie_echoed = near (comes 3 init_of_a_stranger) echoes.left
+
+abbrev pub init_in_cookie_echoed_is_answered : Type 0
+init_in_cookie_echoed_is_answered = Does answers_in_cookie_echoed CookieEchoed ((2 ∷ []) ∷ []) []
 
 abbrev pub with_another_tag : Type 0
-with_another_tag = begins_anew.left.association.own_tag ≡ 11
+with_another_tag = offer answers_in_cookie_echoed ≡ 11
+
+abbrev pub try_goes_on : Type 0
+try_goes_on = answers_in_cookie_echoed.left.association ≡ echoes.left.association
+
+abbrev pub acknowledgement_opens_all_the_same : Type 0
+acknowledgement_opens_all_the_same =
+    Does (near (comes 4 (packet acknowledges)) answers_in_cookie_echoed.left) Established [] (Up ∷ [])
+
+-- a peer that has begun anew hears the answer, and echoes its cookie: that ends the try, and the peer is asked for
+-- another INIT, which opens an association
+abbrev pub other : Happening → State → Done
+other what s = after settings (secrets_from 30) what s
+
+abbrev pub other_tries : Done
+other_tries = other (Opens 5 true) new
+
+abbrev pub answers_new_try : Done
+answers_new_try = near (comes 5 (packet other_tries)) echoes.left
+
+abbrev pub new_try_echoes : Done
+new_try_echoes = other (comes 6 (packet answers_new_try)) other_tries.left
+
+abbrev pub gives_up : Done
+gives_up = near (comes 7 (packet new_try_echoes)) answers_new_try.left
+
+abbrev pub cookie_of_a_new_try_ends_the_try : Type 0
+cookie_of_a_new_try_ends_the_try = Does gives_up Closed ((9 ∷ []) ∷ []) []
+
+abbrev pub association_is_wanted_still : Type 0
+association_is_wanted_still = gives_up.left.is_wanted ≡ true
+
+abbrev pub tries_once_more : Done
+tries_once_more = other (comes 8 (packet gives_up)) new_try_echoes.left
+
+abbrev pub answers_once_more : Done
+answers_once_more = near (comes 9 (packet tries_once_more)) gives_up.left
+
+abbrev pub peer_that_began_anew_gets_in : Type 0
+peer_that_began_anew_gets_in =
+    let echo = other (comes 10 (packet answers_once_more)) tries_once_more.left in
+    Does (near (comes 11 (packet echo)) answers_once_more.left) Established [] (Up ∷ [])
+
+-- once the try is over, the cookie ends none
+abbrev pub cookie_of_a_former_try_is_stale : Type 0
+cookie_of_a_former_try_is_stale =
+    let tries_later = near (Opens 6 true) (near Aborts answers_new_try.left).left in
+    Does (near (comes 7 (packet new_try_echoes)) tries_later.left) CookieWait ((9 ∷ []) ∷ []) []
 
 -- the COOKIE ACK was lost
 abbrev pub cookie_is_acknowledged_again : Type 0
@@ -257,12 +327,6 @@ abbrev pub cookie_opens_once : Type 0
 cookie_opens_once = Does (far (comes 7 (packet echoes)) wants_again.left) Closed ((9 ∷ []) ∷ []) []
 
 -- the peer has restarted: the association is lost, and the cookie refused
-abbrev pub other : Happening → State → Done
-other what s = after settings (secrets_from 30) what s
-
-abbrev pub other_tries : Done
-other_tries = other (Opens 5 true) new
-
 abbrev pub answers_other : Done
 answers_other = far (comes 5 (packet other_tries)) acknowledges.left
 
@@ -458,7 +522,7 @@ far_echoes = far (comes 2 (packet near_answers)) answers_alike.left
 abbrev pub cookie_of_both_tags_opens : Type 0
 cookie_of_both_tags_opens = Does (near (comes 3 (packet far_echoes)) both_answer.left) Established [] (Up ∷ [])
 
--- but that of another peer tag doesn't: it opens only in COOKIE-WAIT
+-- but that of another peer tag doesn't: it opens only in COOKIE-WAIT, and ends a try in COOKIE-ECHOED
 abbrev pub answers_another : Done
 answers_another = near (comes 1 (packet other_tries)) tries.left
 
@@ -472,9 +536,9 @@ cookie_of_another_peer_opens_a_try =
 abbrev pub echoes_of_another : Done
 echoes_of_another = near (comes 2 (packet answers)) answers_another.left
 
-abbrev pub cookie_of_another_peer_is_dropped : Type 0
-cookie_of_another_peer_is_dropped =
-    Does (near (comes 3 (packet another_echoes)) echoes_of_another.left) CookieEchoed [] []
+abbrev pub cookie_of_another_peer_ends_the_try : Type 0
+cookie_of_another_peer_ends_the_try =
+    Does (near (comes 3 (packet another_echoes)) echoes_of_another.left) Closed ((9 ∷ []) ∷ []) []
 
 -- ---- T1 in COOKIE-ECHOED, and a stale cookie (§5.2.6)
 

@@ -9,7 +9,6 @@ ghost use Rattle.sctp_rules.specs.Opening.{
   answered_with,
   answered_anew,
   answered_alike,
-  answered_if_trying,
   answered_echoed,
   no_address,
   has_few_streams,
@@ -39,8 +38,6 @@ impl Endpoint {
         now: u64,
         watch: &mut W,
     )
-        requires generation { self.old.state.generation < 2 ^ 64 - 1 }
-        requires now { now ≤ 2 ^ 63 }
         ensures { Does W.has watch.old watch.new self.old self.new
             (heard_init self.old.settings (secrets_of self.old) now (address_of source.now) (init_of init.now)
             self.old.state) }
@@ -56,8 +53,6 @@ impl Endpoint {
 
     /// An INIT without a host name: one with too few streams is refused.
     fn judge_init<W: Watch>(&mut self, source: &Address, init: &Init<'_>, now: u64, watch: &mut W)
-        requires generation { self.old.state.generation < 2 ^ 64 - 1 }
-        requires now { now ≤ 2 ^ 63 }
         ensures { Does W.has watch.old watch.new self.old self.new
             (judged_init None self.old.settings (secrets_of self.old) now (address_of source.now) (init_of init.now)
             self.old.state) }
@@ -93,8 +88,6 @@ impl Endpoint {
 
     /// INIT is answered, by the state.
     fn answer_init<W: Watch>(&mut self, source: &Address, init: &Init<'_>, now: u64, watch: &mut W)
-        requires generation { self.old.state.generation < 2 ^ 64 - 1 }
-        requires now { now ≤ 2 ^ 63 }
         ensures { Does W.has watch.old watch.new self.old self.new
             (init_in self.old.state.association.phase self.old.settings (secrets_of self.old) now
             (address_of source.now) (init_of init.now) self.old.state) }
@@ -138,7 +131,8 @@ impl Endpoint {
         self.answer_with(source, init, self.own_tag, self.own_first, now, watch);
     }
 
-    /// If the cookie of the peer was echoed: an INIT of that peer, or of one that has restarted since.
+    /// If the cookie of the peer was echoed: an INIT of that peer is answered by the try, and any other with a new tag.
+    /// Neither ends the try.
     fn answer_echoed<W: Watch>(
         &mut self,
         source: &Address,
@@ -146,29 +140,14 @@ impl Endpoint {
         now: u64,
         watch: &mut W,
     )
-        requires generation { self.old.state.generation < 2 ^ 64 - 1 }
-        requires now { now ≤ 2 ^ 63 }
         ensures { Does W.has watch.old watch.new self.old self.new
             (answered_echoed self.old.settings (secrets_of self.old) now (address_of source.now) (init_of init.now)
             self.old.state) }
     {
         if init.offer.tag == self.far_tag {
             self.answer_alike(source, init, now, watch);
-            return;
-        }
-        let address = self.address;
-        self.begin_anew(0, &address, now, watch);
-        self.answer_if_trying(source, init, now, watch);
-    }
-
-    /// INIT ACK, if the end has restarted.
-    fn answer_if_trying<W: Watch>(&self, source: &Address, init: &Init<'_>, now: u64, watch: &mut W)
-        ensures { Gives W.has watch.old watch.new
-            (answered_if_trying self.now.settings (secrets_of self.now) now (address_of source.now) (init_of init.now)
-            self.now.state) }
-    {
-        if let Phase::CookieWait = self.phase {
-            self.answer_alike(source, init, now, watch);
+        } else {
+            self.answer_anew(source, init, now, watch);
         }
     }
 

@@ -159,10 +159,7 @@ impl Endpoint {
         match self.phase {
             Phase::Closed => self.open_if(self.is_wanted, source, cookie, now, watch),
             Phase::CookieWait => self.open_if(self.is_own(cookie), source, cookie, now, watch),
-            Phase::CookieEchoed => {
-                let is_awaited = self.is_own(cookie) && self.is_far(cookie);
-                self.open_if(is_awaited, source, cookie, now, watch)
-            }
+            Phase::CookieEchoed => self.hear_in_try(source, cookie, now, watch),
             Phase::Established
             | Phase::ShutdownPending
             | Phase::ShutdownSent
@@ -203,7 +200,13 @@ impl Endpoint {
     }
 
     /// The association opens: the peer is to hear COOKIE ACK, and the user is told.
-    fn open_by<W: Watch>(&mut self, source: &Address, cookie: &Cookie, now: u64, watch: &mut W)
+    pub(super) fn open_by<W: Watch>(
+        &mut self,
+        source: &Address,
+        cookie: &Cookie,
+        now: u64,
+        watch: &mut W,
+    )
         requires generation { self.old.state.generation < 2 ^ 64 - 1 }
         requires now { now ≤ 2 ^ 63 }
         ensures { Does W.has watch.old watch.new self.old self.new
@@ -279,7 +282,7 @@ impl Endpoint {
     }
 
     /// The peer is told that a cookie is stale.
-    fn tell_stale<W: Watch>(
+    pub(super) fn tell_stale<W: Watch>(
         &self,
         source: &Address,
         microseconds: u32,
