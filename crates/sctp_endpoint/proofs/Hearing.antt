@@ -1,12 +1,10 @@
 -- Cookies that come.
-use Rattle.std.proofs.Common.{◌≡◌, ◌<◌, ◌-◌, ℕ, Bool, true, false, List, refl, sym, ap, subst, ◌∙◌, nat_eq}
-use Rattle.std.specs.Prelude.{if◌then◌else◌}
+use Rattle.std.proofs.Common.{◌≡◌, ◌<◌, ◌-◌, ℕ, false, List, refl, subst, nat_eq}
 use Rattle.std.proofs.lemmas.Bool.{lt-ltb}
-use Rattle.sctp_codec.specs.Packets.{InitValue}
 use Rattle.sctp_cookie.specs.declared.cookie.Cookie.{Cookie}
 use Rattle.sctp_rules.specs.declared.loss.Loss.TheVariants.{Restart}
 use Rattle.sctp_rules.specs.Settings.{Address}
-use Rattle.sctp_rules.specs.State.{Told, State, Done, silent, followed_by}
+use Rattle.sctp_rules.specs.State.{Told, Done, followed_by}
 use Rattle.sctp_rules.specs.Ending.{ended}
 use Rattle.sctp_rules.specs.Opening.{stale, staleness}
 use Rattle.sctp_bundling.specs.Watching.{Sent, Gives}
@@ -16,12 +14,12 @@ use Rattle.sctp_endpoint.specs.Hearing.{heard_another, heard_in_time}
 
 pub stale-in-time : {W : Type 0} (has : W → List Sent → List Told → Type 0) (w v : W) (e : Endpoint) (source : Address) (now : ℕ) (cookie : Cookie)
     → nat_eq cookie.generation e.state.generation ≡ false → Gives has w v (stale e.settings source 1 cookie e.state)
-    → Does has w v e e (heard_in_time e.settings now source cookie e.state).does
+    → Does has w v e e (heard_in_time e.settings (secrets_of e) now source cookie e.state).does
 stale-in-time has w v e source now cookie other g = rw other (record { gives = g; left_is = refl })
 
 pub stale-late : {W : Type 0} (has : W → List Sent → List Told → Type 0) (w v : W) (e : Endpoint) (source : Address) (now : ℕ) (cookie : Cookie) (n : ℕ)
     → n ≡ staleness now cookie → cookie.life < now - cookie.made → Gives has w v (stale e.settings source n cookie e.state)
-    → Does has w v e e (heard_another e.settings now source cookie e.state).does
+    → Does has w v e e (heard_another e.settings (secrets_of e) now source cookie e.state).does
 stale-late has w v e source now cookie n same late g =
     rw (lt-ltb cookie.life (now - cookie.made) late) (record {
       gives = subst (λ (m : ℕ). Gives has w v (stale e.settings source m cookie e.state)) same g;

@@ -51,4 +51,11 @@ impl Beginnings {
         self.count += 1;
         Some(tag)
     }
+
+    /// The next tag, if one is left; it isn't drawn by this.
+    pub fn peek(&self) -> Option<u32>
+        ensures { result ≡ next_tag (drawing_after self.now.key self.now.count) }
+    {
+        self.tags.peek()
+    }
 }

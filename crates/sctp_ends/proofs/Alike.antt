@@ -22,7 +22,7 @@ use Rattle.sctp_moves.proofs.Keeping.{IsSound, sound-move}
 use Rattle.sctp_moves.proofs.Concluded.{far-differ}
 use Rattle.sctp_ends.specs.Said.{Each, load, since, never, IsAck, ack_in, IsSaid, AreSaid}
 use Rattle.sctp_ends.specs.Shown.{Stage, Off, Waiting, Echoing, There, stage_of, own_name, far_name, IsIn, IsPresent}
-use Rattle.sctp_ends.specs.Shown.{SendsOut, TakesIn, IsPlain, Waits, Shows, IsDrawn}
+use Rattle.sctp_ends.specs.Shown.{SendsOut, TakesIn, IsPlain, Waits, Shows, IsOffered, AreDrawn, own_of}
 use Rattle.sctp_ends.specs.Told.{with_last, text_told, told_by, opened_by}
 use Rattle.sctp_ends.proofs.Said.{each-append, IsMore, more-same, more-behind, more-all-said}
 
@@ -364,7 +364,8 @@ module _ (own far : Secrets) (mark : ℕ) (other : End) where
   alike-shows e s left sound a h = record {
     generation = h.generation ∙ a.generation;
     stage = subst (λ (stage : Stage). IsIn stage e left.is_wanted left.association) a.stage (stage-stays (stage_of s.association.phase) e s left a h.stage);
-    drawn = λ n c. subst (λ (many : ℕ). IsDrawn own many n.tag) a.beginnings (h.drawn n c);
+    offered = λ n c. subst (λ (many : ℕ). IsOffered own many n) a.beginnings (h.offered n c);
+    drawn = subst (λ (many : ℕ). AreDrawn own many e.phase e.echoes (map own_of e.epochs)) a.beginnings h.drawn;
     control = subst (λ (stage : Stage). Each (Waits stage mark e left.association.far_tag) left.association.control) a.stage
         (subst (λ (tag : ℕ). Each (Waits (stage_of s.association.phase) mark e tag) left.association.control) a.far_tag
         (a.control (Waits (stage_of s.association.phase) mark e s.association.far_tag)

@@ -22,12 +22,13 @@ use Rattle.sctp_rules.specs.GivenMessages.{IsInOrder}
 use Rattle.sctp_rules.specs.Data.{piece_of, told_each}
 use Rattle.sctp_rules.specs.Sending.{is_established}
 use Rattle.sctp_moves.specs.Numbers.{window, number_of, cumulative, steps_between}
+use Rattle.sctp_moves.specs.Ends as ends
 use Rattle.sctp_moves.specs.Ends.{Message, Name, Answer, Cookie, Chunk, Epoch, End}
 use Rattle.sctp_moves.specs.Moves as moves
 use Rattle.sctp_moves.specs.Moves.{EndMove, EndMoves, last_end, chunk_of, ack_of}
 use Rattle.sctp_moves.proofs.Keeping.{IsSound}
 use Rattle.sctp_ends.specs.Said.{young, IsData, IsAck, ack_in}
-use Rattle.sctp_ends.specs.Shown.{Stage, There, stage_of, IsIn, IsPresent, SendsOut, course_of, Waits, Shows}
+use Rattle.sctp_ends.specs.Shown.{Stage, There, stage_of, IsIn, IsPresent, SendsOut, course_of, Waits, AreDrawn, own_of, Shows}
 use Rattle.sctp_ends.specs.Told.{with_last, text_told, text_given, told_by, opened_by}
 use Rattle.sctp_ends.proofs.Said.{each-weaker, first-in, more-in, IsMore, replaced-more, more-never, more-waits}
 use Rattle.sctp_ends.proofs.Alike.{gifts, Outcome, Result, Does, Goes}
@@ -111,6 +112,15 @@ established-there phases.ShutdownSent e = absurd (cc)
 established-there phases.ShutdownReceived e = absurd (cc)
 established-there phases.ShutdownAckSent e = absurd (cc)
 
+-- names that stay the same stay drawn
+same-drawn : (own : Secrets) (many : ℕ) (e f : End) → f.phase ≡ e.phase → f.echoes ≡ e.echoes → map own_of f.epochs ≡ map own_of e.epochs →
+    AreDrawn own many e.phase e.echoes (map own_of e.epochs) → AreDrawn own many f.phase f.echoes (map own_of f.epochs)
+same-drawn own many e f phase echoes names d = record {
+  tried = λ n t. d.tried n (subst (λ (p : ends.Phase). moves.IsTrying p n) phase t);
+  echoed = λ c i. d.echoed c (subst (λ (xs : List Cookie). Contains xs c) echoes i);
+  opened = λ n i. d.opened n (subst (λ (xs : List Name). Contains xs n) names i);
+}
+
 module _ (own far : Secrets) (mark : ℕ) (other : End) where
   present : (e : End) (s : State) → stage_of s.association.phase ≡ There → Shows own far mark e s → IsPresent e s.association
   present e s there h = subst (λ (stage : Stage). IsIn stage e s.is_wanted s.association) there h.stage
@@ -158,7 +168,9 @@ module _ (own far : Secrets) (mark : ℕ) (other : End) where
         shows = record {
           generation = k.generation ∙ h.generation;
           stage = subst (λ (stage : Stage). IsIn stage f left.is_wanted left.association) (sym there) here;
-          drawn = λ n i. h.drawn n (subst (λ (xs : List Name). Contains xs n) k.drawn i);
+          offered = λ n i. h.offered n (subst (λ (xs : List Name). Contains xs n) k.drawn i);
+          drawn = same-drawn own s.beginnings e f k.phase k.echoes
+              (ap (map own_of) t.epochs ∙ ap (λ (n : Name). n ∷ map own_of was.past) t.same.own ∙ sym (ap (map own_of) was.now)) h.drawn;
           control = each-weaker (Waits (stage_of a.phase) mark e a.far_tag) (Waits (stage_of a.phase) mark f a.far_tag)
               (λ chunk w. more-waits mark e f m h.later (stage_of a.phase) a.far_tag chunk w) a.control h.control;
           trying = λ x q. more-never own far e f m a.far_tag x.chunks (h.trying x q);
@@ -242,7 +254,8 @@ module _ (own far : Secrets) (mark : ℕ) (other : End) where
           shows = record {
             generation = h.generation;
             stage = subst (λ (stage : Stage). IsIn stage f s.is_wanted (record a { sender = t; failures = failures })) (sym there) now-there;
-            drawn = h.drawn;
+            offered = h.offered;
+            drawn = same-drawn own s.beginnings e f refl refl (sym (ap (map own_of) was.now)) h.drawn;
             control = each-weaker (Waits (stage_of a.phase) mark e a.far_tag) (Waits (stage_of a.phase) mark f a.far_tag)
                 (λ chunk w. more-waits mark e f m h.later (stage_of a.phase) a.far_tag chunk w) a.control h.control;
             trying = λ x q. more-never own far e f m a.far_tag x.chunks (h.trying x q);
@@ -323,7 +336,8 @@ module _ (own far : Secrets) (mark : ℕ) (other : End) where
         shows = record {
           generation = h.generation;
           stage = subst (λ (stage : Stage). IsIn stage f s.is_wanted (record a { sender = given a.sender m })) (sym there) now-there;
-          drawn = h.drawn;
+          offered = h.offered;
+          drawn = same-drawn own s.beginnings e f refl refl (sym (ap (map own_of) was.now)) h.drawn;
           control = each-weaker (Waits (stage_of a.phase) mark e a.far_tag) (Waits (stage_of a.phase) mark f a.far_tag)
               (λ x w. more-waits mark e f more h.later (stage_of a.phase) a.far_tag x w) a.control h.control;
           trying = λ x q. more-never own far e f more a.far_tag x.chunks (h.trying x q);

@@ -46,18 +46,18 @@ use Rattle.sctp_moves.specs.Numbers.{modulus}
 use Rattle.sctp_moves.specs.Ends as ends
 use Rattle.sctp_moves.proofs.Keeping.{IsSound}
 use Rattle.sctp_moves.specs.Ends.{End}
-use Rattle.sctp_moves.specs.Moves.{MayOpen}
+use Rattle.sctp_moves.specs.Moves.{IsTrying, MayOpen}
 use Rattle.sctp_ends.specs.Told.{with_last, text_given, told_by, opened_by, given_by}
 use Rattle.sctp_ends.specs.Theorems.{begins, Heeds}
 use Rattle.sctp_ends.specs.Said.{Each, since, young, never, cookie_of, IsAnswer, IsEcho, IsData, IsAck, Bundles, Begins, IsSaid, AreSaid}
 use Rattle.sctp_ends.specs.Shown.{Stage, Off, Waiting, Echoing, There, stage_of, IsIn, IsOff, IsWaiting, IsEchoing, IsPresent}
-use Rattle.sctp_ends.specs.Shown.{AreGood, IsPlain, Waits, Shows}
+use Rattle.sctp_ends.specs.Shown.{AreGood, IsPlain, Waits, Shows, IsDrawn, AreDrawn, own_of, own_name, far_name}
 use Rattle.sctp_ends.proofs.Said.{each-append, each-weaker, more-same}
 use Rattle.sctp_ends.proofs.Said.{waits-bundled, said-bundled, never-any}
 use Rattle.sctp_ends.proofs.Sent.{sack-confirms, shutdown-confirms, gone-only, going-same, going-said, timed-same}
 use Rattle.sctp_ends.proofs.Messages.{data-does, confirmed-goes, given-goes}
 use Rattle.sctp_ends.proofs.Alike.{receipts, gifts, Outcome, Starts, loosely, out-same, in-same, ack-said, Does, Goes, Alike, Stands, itself, alike-behind, plain-stands, alike-shows, alike-goes, also-does, also, hears, IsTagged}
-use Rattle.sctp_ends.proofs.Steps.{puts, ended-goes, given-up-goes, wants-goes, begun-goes, renewed-goes, answered-anew-goes, answered-alike-goes}
+use Rattle.sctp_ends.proofs.Steps.{offered-on, all-drawn-on, MayOpenBy, puts, ended-goes, given-up-goes, wants-goes, begun-goes, renewed-goes, answered-anew-goes, answered-alike-goes}
 use Rattle.sctp_ends.proofs.Steps.{echoed-goes, opened-by-ack-goes, opened-by-cookie-does}
 
 -- ---- tests
@@ -356,6 +356,16 @@ takes-sack-there ShutdownSent e = absurd (cc)
 takes-sack-there ShutdownReceived e = refl
 takes-sack-there ShutdownAckSent e = absurd (cc)
 
+-- the next tag is this one
+record IsNext (own : Secrets) (many tag : ℕ) : Type 0 where
+  beginning : Beginning
+  drawn : own.beginning many ≡ Some beginning
+  same : beginning.tag ≡ tag
+
+next-is : (own : Secrets) (many tag : ℕ) (b : Option Beginning) → own.beginning many ≡ b → opening.is_next b tag ≡ true → IsNext own many tag
+next-is own many tag None e h = absurd (cc)
+next-is own many tag (Some b) e h = record { beginning = b; drawn = e; same = sym (eq-from tag b.tag h) }
+
 -- ---- the pass
 
 module _ (own far : Secrets) (mark : ℕ) (other : End) (good : AreGood own) where
@@ -564,9 +574,14 @@ module _ (own far : Secrets) (mark : ℕ) (other : End) (good : AreGood own) whe
   echo-stops : (tag : ℕ) (s : State) (d : Done) → Can s d → Echoes tag s (opening.stops d)
   echo-stops tag s d g = record { result = g.result; tag_is = λ e. absurd (cc) }
 
+  echo-either-so : (b : Bool) (tag : ℕ) (s : State) (x y : opening.Echo) → (b ≡ true → Echoes tag s x) → (b ≡ false → Echoes tag s y) →
+      Echoes tag s (if b then x else y)
+  echo-either-so true tag s x y t u = t refl
+  echo-either-so false tag s x y t u = u refl
+
   opened-by : (c : Settings) (now tag : ℕ) (source : Address) (cookie : Cookie) (s : State) → cookie.own_first_tsn < modulus → cookie.own_tag ≡ tag →
       cookie.generation ≡ s.generation → Contains other.echoes (cookie_of cookie) →
-      ((e : End) → Shows own far mark e s → (e.wanted ≡ true) × MayOpen e.phase (cookie_of cookie)) →
+      ((e : End) → Shows own far mark e s → MayOpenBy own s.beginnings e cookie) →
       Echoes tag s (opening.opened_by c now source cookie s)
   opened-by c now tag source cookie s fits same present came may =
       let peer : state.Peer = record { first = cookie.peer_first_tsn; window = cookie.peer_window } in
@@ -577,6 +592,41 @@ module _ (own far : Secrets) (mark : ℕ) (other : End) (good : AreGood own) whe
             (plainly up.left (ending.answered packets.CookieAckChunk up.left) (answer-alike packets.CookieAckChunk up.left tt)).result;
         tag_is = λ e. with-tag (ending.has_place [] packets.CookieAckChunk) up.left.association (packets.CookieAckChunk ∷ []) ∙ same;
       }
+
+  -- the next tag is drawn
+  counted : (e : End) (s : State) → Shows own far mark e s → Shows own far mark e (record s { beginnings = s.beginnings + 1 })
+  counted e s h = record {
+    generation = h.generation;
+    stage = h.stage;
+    offered = λ n i. offered-on own s.beginnings (s.beginnings + 1) n (omega arith) (h.offered n i);
+    drawn = all-drawn-on own s.beginnings (s.beginnings + 1) e.phase e.echoes (map own_of e.epochs) (omega arith) h.drawn;
+    control = h.control;
+    trying = h.trying;
+    later = h.later;
+  }
+
+  echo-without-try : (c : Settings) (now tag : ℕ) (source : Address) (cookie : Cookie) (s : State) →
+      s.association.phase ≡ Closed → cookie.own_first_tsn < modulus → cookie.own_tag ≡ tag → cookie.generation ≡ s.generation →
+      Contains other.echoes (cookie_of cookie) → Echoes tag s (opening.echo_without_try c own now source cookie s)
+  echo-without-try c now tag source cookie s p fits same present came =
+      let drawn : State = opening.drawn_next s in
+      let opens : opening.Echo = opening.opened_by c now source cookie drawn in
+      let next-one : Option Beginning = own.beginning s.beginnings in
+      echo-either-so (s.is_wanted && opening.is_next next-one cookie.own_tag) tag s opens (opening.stops (silent s))
+      (λ w.
+      let parts = both-true s.is_wanted (opening.is_next next-one cookie.own_tag) w in
+      let n : IsNext own s.beginnings cookie.own_tag = next-is own s.beginnings cookie.own_tag next-one refl parts.1 in
+      let g : Echoes tag drawn opens =
+      opened-by c now tag source cookie drawn fits same present came
+      (λ e h.
+      let was : IsOff e s.is_wanted = subst (λ (phase : Phase). IsIn (stage_of phase) e s.is_wanted s.association) p h.stage in
+      record {
+        wanted = was.wants ∙ parts.0;
+        may = subst (λ (phase : ends.Phase). MayOpen phase (cookie_of cookie)) (sym was.phase) tt;
+        drawn = record { place = s.beginnings; before = omega arith; beginning = n.beginning; drawn = n.drawn; same = n.same };
+      }) in
+      record { result = λ e sound h. g.result e sound (counted e s h); tag_is = g.tag_is })
+      (λ w. echo-stops tag s (silent s) (stays s))
 
   acknowledged-again : (tag : ℕ) (s : State) → stage_of s.association.phase ≡ There → s.association.own_tag ≡ tag →
       Echoes tag s (opening.acknowledged_again s)
@@ -616,11 +666,6 @@ module _ (own far : Secrets) (mark : ℕ) (other : End) (good : AreGood own) whe
   restarted ShutdownSent c source cookie s = restart c source cookie s
   restarted ShutdownReceived c source cookie s = restart c source cookie s
 
-  echo-either-so : (b : Bool) (tag : ℕ) (s : State) (x y : opening.Echo) → (b ≡ true → Echoes tag s x) → (b ≡ false → Echoes tag s y) →
-      Echoes tag s (if b then x else y)
-  echo-either-so true tag s x y t u = t refl
-  echo-either-so false tag s x y t u = u refl
-
   abbrev nothing : State → opening.Echo
   nothing s = opening.stops (silent s)
 
@@ -640,45 +685,46 @@ module _ (own far : Secrets) (mark : ℕ) (other : End) (good : AreGood own) whe
       next s (silent left) (λ x. opening.stale c source 1 cookie x) (given-up-goes own far mark other c s echoing)
       (stale c source 1 cookie left)
 
+  try-drawn : (phase : ends.Phase) (e : End) (a : Association) (many : ℕ) → e.phase ≡ phase → IsTrying phase (own_name a) →
+      AreDrawn own many e.phase e.echoes (map own_of e.epochs) → IsDrawn own many a.own_tag
+  try-drawn phase e a many is t d = d.tried (own_name a) (subst (λ (p : ends.Phase). IsTrying p (own_name a)) (sym is) t)
+
   echo-in-try : (c : Settings) (now tag : ℕ) (source : Address) (cookie : Cookie) (s : State) →
       s.association.phase ≡ CookieEchoed → cookie.own_first_tsn < modulus → cookie.own_tag ≡ tag → cookie.generation ≡ s.generation →
       Contains other.echoes (cookie_of cookie) → Echoes tag s (opening.echo_in_try c now source cookie s)
   echo-in-try c now tag source cookie s p fits same present came =
       let a : Association = s.association in
       let gives-up : opening.Echo = opening.stops (opening.given_up c source cookie s) in
-      echo-either-so (opening.is_own cookie a && opening.is_far cookie a) tag s (opening.opened_by c now source cookie s)
-      (if opening.is_own cookie a || opening.is_tied cookie a then gives-up else nothing s)
+      echo-either-so (opening.is_own cookie a && opening.is_far cookie a) tag s (opening.opened_by c now source cookie s) gives-up
       (λ w. opened-by c now tag source cookie s fits same present came
       (λ e h.
       let was : IsEchoing e s.is_wanted a = subst (λ (phase : Phase). IsIn (stage_of phase) e s.is_wanted a) p h.stage in
-      let parts = both-true (opening.is_own cookie a) (opening.is_far cookie a) w in (
-        was.wants,
-        subst (λ (phase : ends.Phase). MayOpen phase (cookie_of cookie)) (sym was.phase)
-            (eq-from cookie.own_tag a.own_tag parts.0, eq-from cookie.peer_tag a.far_tag parts.1),
-      )))
-      (λ w. echo-either-so (opening.is_own cookie a || opening.is_tied cookie a) tag s gives-up (nothing s)
-      (λ v. echo-stops tag s (opening.given_up c source cookie s) (given-up c source cookie s (ap stage_of p)))
-      (λ v. echo-stops tag s (silent s) (stays s)))
+      let parts = both-true (opening.is_own cookie a) (opening.is_far cookie a) w in
+      let own-is : cookie.own_tag ≡ a.own_tag = eq-from cookie.own_tag a.own_tag parts.0 in
+      record {
+        wanted = was.wants;
+        may = subst (λ (phase : ends.Phase). MayOpen phase (cookie_of cookie)) (sym was.phase) (own-is, eq-from cookie.peer_tag a.far_tag parts.1);
+        drawn = subst (IsDrawn own s.beginnings) (sym own-is) (try-drawn (ends.CookieEchoed (own_name a) (far_name a)) e a s.beginnings was.phase refl h.drawn);
+      }))
+      (λ w. echo-stops tag s (opening.given_up c source cookie s) (given-up c source cookie s (ap stage_of p)))
 
   good-echo : (phase : Phase) (c : Settings) (now tag : ℕ) (source : Address) (cookie : Cookie) (s : State) →
       s.association.phase ≡ phase → cookie.own_first_tsn < modulus → cookie.own_tag ≡ tag → cookie.generation ≡ s.generation →
-      Contains other.echoes (cookie_of cookie) → Echoes tag s (opening.good_echo_in phase c now source cookie s)
+      Contains other.echoes (cookie_of cookie) → Echoes tag s (opening.good_echo_in phase c own now source cookie s)
   good-echo Closed c now tag source cookie s p fits same present came =
-      echo-either-so s.is_wanted tag s (opening.opened_by c now source cookie s) (nothing s)
-      (λ w. opened-by c now tag source cookie s fits same present came
-      (λ e h.
-      let was : IsOff e s.is_wanted = subst (λ (phase : Phase). IsIn (stage_of phase) e s.is_wanted s.association) p h.stage in
-      (was.wants ∙ w, subst (λ (phase : ends.Phase). MayOpen phase (cookie_of cookie)) (sym was.phase) tt)))
-      (λ w. echo-stops tag s (silent s) (stays s))
+      echo-without-try c now tag source cookie s p fits same present came
   good-echo CookieWait c now tag source cookie s p fits same present came =
-      echo-either-so (opening.is_own cookie s.association) tag s (opening.opened_by c now source cookie s) (nothing s)
+      let a : Association = s.association in
+      echo-either-so (opening.is_own cookie a) tag s (opening.opened_by c now source cookie s) (nothing s)
       (λ w. opened-by c now tag source cookie s fits same present came
       (λ e h.
-      let was : IsWaiting e s.is_wanted s.association = subst (λ (phase : Phase). IsIn (stage_of phase) e s.is_wanted s.association) p h.stage in (
-        was.wants,
-        subst (λ (phase : ends.Phase). MayOpen phase (cookie_of cookie)) (sym was.phase)
-            (eq-from cookie.own_tag s.association.own_tag w),
-      )))
+      let was : IsWaiting e s.is_wanted a = subst (λ (phase : Phase). IsIn (stage_of phase) e s.is_wanted a) p h.stage in
+      let own-is : cookie.own_tag ≡ a.own_tag = eq-from cookie.own_tag a.own_tag w in
+      record {
+        wanted = was.wants;
+        may = subst (λ (phase : ends.Phase). MayOpen phase (cookie_of cookie)) (sym was.phase) own-is;
+        drawn = subst (IsDrawn own s.beginnings) (sym own-is) (try-drawn (ends.CookieWait (own_name a)) e a s.beginnings was.phase refl h.drawn);
+      }))
       (λ w. echo-stops tag s (silent s) (stays s))
   good-echo CookieEchoed c now tag source cookie s p fits same present came = echo-in-try c now tag source cookie s p fits same present came
   good-echo Established c now tag source cookie s p fits same present came = echo-in Established c tag source cookie s
@@ -688,10 +734,10 @@ module _ (own far : Secrets) (mark : ℕ) (other : End) (good : AreGood own) whe
   good-echo ShutdownAckSent c now tag source cookie s p fits same present came = echo-in ShutdownAckSent c tag source cookie s
 
   heard-cookie : (c : Settings) (now tag : ℕ) (source : Address) (cookie : Cookie) (s : State) → cookie.own_first_tsn < modulus → cookie.own_tag ≡ tag →
-      Contains other.echoes (cookie_of cookie) → Echoes tag s (opening.heard_cookie c now source cookie s)
+      Contains other.echoes (cookie_of cookie) → Echoes tag s (opening.heard_cookie c own now source cookie s)
   heard-cookie c now tag source cookie s fits same came =
       let a : Association = s.association in
-      let good-one : opening.Echo = opening.good_echo_in a.phase c now source cookie s in
+      let good-one : opening.Echo = opening.good_echo_in a.phase c own now source cookie s in
       let old : opening.Echo = opening.stops (opening.stale c source 1 cookie s) in
       let late : opening.Echo = opening.stops (opening.stale c source (opening.staleness now cookie) cookie s) in
       let fresh : opening.Echo = if nat_eq cookie.generation s.generation then good-one else old in
@@ -716,11 +762,11 @@ module _ (own far : Secrets) (mark : ℕ) (other : End) (good : AreGood own) whe
       subst (λ (x : Cookie). Contains other.echoes (cookie_of x)) (sym same) i.there
 
   heard-echo : (found : Option Cookie) (c : Settings) (now tag : ℕ) (source : Address) (octets : List ℕ) (s : State) →
-      own.cookie_in octets ≡ found → IsEcho own other octets → Echoes tag s (opening.heard_echo_of found c now tag source s)
+      own.cookie_in octets ≡ found → IsEcho own other octets → Echoes tag s (opening.heard_echo_of found c own now tag source s)
   heard-echo None c now tag source octets s e came = echo-stops tag s (silent s) (stays s)
   heard-echo (Some cookie) c now tag source octets s e came =
       echo-either-so (nat_eq cookie.own_tag tag && nat_eq cookie.peer_port c.far_port) tag s
-      (opening.heard_cookie c now source cookie s) (nothing s)
+      (opening.heard_cookie c own now source cookie s) (nothing s)
       (λ w. heard-cookie c now tag source cookie s (good.cookies_fit octets cookie e)
       (eq-from cookie.own_tag tag (both-true (nat_eq cookie.own_tag tag) (nat_eq cookie.peer_port c.far_port) w).0) (is-signed octets cookie e came))
       (λ w. echo-stops tag s (silent s) (stays s))
@@ -795,6 +841,7 @@ module _ (own far : Secrets) (mark : ℕ) (other : End) (good : AreGood own) whe
           takes = was.takes;
           sends = gone-only e was.epoch (is_established s.association.phase) s.association.sender was.sends;
         };
+        offered = h.offered;
         drawn = h.drawn;
         control = waits;
         trying = h.trying;

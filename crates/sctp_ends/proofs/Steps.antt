@@ -1,5 +1,5 @@
 -- The rules that make moves: tries, answers, openings and ends.
-use Rattle.std.proofs.Common.{◌≡◌, ◌⊎◌, inl, inr, ℕ, ◌+◌, ◌%◌, ◌<◌, ◌≤◌, arith, Bool, true, false, List, [], ◌∷◌, ◌++◌, Option, Some, None, length, replicate, get_or, refl, ap, sym, ◌∙◌, subst}
+use Rattle.std.proofs.Common.{◌≡◌, ◌≢◌, ◌⊎◌, inl, inr, ℕ, ◌+◌, ◌%◌, ◌<◌, ◌≤◌, arith, Bool, true, false, List, [], ◌∷◌, ◌++◌, Option, Some, None, length, map, replicate, get_or, refl, ap, sym, ◌∙◌, subst}
 use Rattle.std.proofs.lemmas.Grind.{common_steps}
 use Rattle.std.proofs.lemmas.List.{length-replicate, get_or-replicate}
 use Rattle.std.proofs.lemmas.List.Elements.{All-nil}
@@ -28,15 +28,15 @@ use Rattle.sctp_rules.specs.Opening as opening
 use Rattle.sctp_rules.specs.Ending as ending
 use Rattle.sctp_moves.specs.Ends.{Message, Name, Answer, Chunk, Acknowledgement, Epoch, new_epoch, Closed, CookieWait, CookieEchoed, Established, End}
 use Rattle.sctp_moves.specs.Ends as ends
-use Rattle.sctp_moves.specs.Moves.{IsFresh, IsTrying, MayOpen, EndMove, EndMoves, last_end}
+use Rattle.sctp_moves.specs.Moves.{IsUnused, IsTrying, MayOpen, EndMove, EndMoves, last_end}
 use Rattle.sctp_moves.specs.Moves as moves
 use Rattle.sctp_moves.specs.Openings.{IsCalm, IsQuiet}
-use Rattle.sctp_moves.proofs.Members.{In, in-from, contains-from}
+use Rattle.sctp_moves.proofs.Members.{In, in-from, contains-from, in-map}
 use Rattle.sctp_moves.proofs.Keeping.{IsSound}
 use Rattle.sctp_ends.specs.Told.{told_by, opened_by}
 use Rattle.sctp_ends.specs.Said.{Each, named, load, Age, since, young, never, name_in, cookie_of, IsEcho, Bundles, Begins, IsSaid, AreSaid}
 use Rattle.sctp_ends.specs.Shown.{Stage, Off, Waiting, Echoing, There, stage_of, own_name, far_name, IsIn, IsOff, IsWaiting, IsEchoing}
-use Rattle.sctp_ends.specs.Shown.{SendsOut, TakesIn, AreGood, IsPlain, Waits, Shows, IsDrawn}
+use Rattle.sctp_ends.specs.Shown.{SendsOut, TakesIn, AreGood, IsPlain, Waits, Shows, IsOffered, IsDrawn, AreDrawn, own_of}
 use Rattle.sctp_ends.proofs.Said.{each-append, each-weaker, first-in, more-in, IsMore, IsGrown, grows_from, grows_new, more-of, more-bundles, more-never, more-waits}
 use Rattle.sctp_ends.proofs.Said.{plain-bundled, waits-bundled, said-bundled}
 use Rattle.sctp_ends.proofs.Alike.{receipts, gifts, Outcome, Result, Does, Goes, Starts, itself, alike-goes, hears}
@@ -93,25 +93,70 @@ same-stage There e f wanted a s h = record {
 
 -- ---- names
 
-drawn-more : (own : Secrets) (many : ℕ) (b : Beginning) (drawn : List Name) → own.beginning many ≡ Some b →
-    ((n : Name) → Contains drawn n → IsDrawn own many n.tag) →
-    (n : Name) → Contains (named b.tag b.first ∷ drawn) n → IsDrawn own (many + 1) n.tag
-drawn-more own many b drawn e h n c = by (in-from (named b.tag b.first ∷ drawn) n c) where
-  by : In n (named b.tag b.first ∷ drawn) → IsDrawn own (many + 1) n.tag
-  by (inl same) = record { place = many; before = omega arith; beginning = b; drawn = e; same = ap (λ (m : Name). m.tag) (sym same) }
-  by (inr m) =
-      let d : IsDrawn own many n.tag = h n (contains-from drawn n m) in
-      record { place = d.place; before = omega (arith, d.before); beginning = d.beginning; drawn = d.drawn; same = d.same }
+-- what is known of a name and a tag stays, however many are drawn
+pub offered-on : (own : Secrets) (many more : ℕ) (n : Name) → many ≤ more → IsOffered own many n → IsOffered own more n
+offered-on own many more n l d = record { place = d.place; before = omega (arith, d.before, l); beginning = d.beginning; drawn = d.drawn; same = d.same }
 
-is-fresh : (own : Secrets) → AreGood own → (e : End) (many : ℕ) (b : Beginning) → own.beginning many ≡ Some b →
-    ((n : Name) → Contains e.drawn n → IsDrawn own many n.tag) → IsFresh e b.tag
-is-fresh own good e many b is h n c same =
-    let d : IsDrawn own many n.tag = h n c in
+pub drawn-on : (own : Secrets) (many more tag : ℕ) → many ≤ more → IsDrawn own many tag → IsDrawn own more tag
+drawn-on own many more tag l d = record { place = d.place; before = omega (arith, d.before, l); beginning = d.beginning; drawn = d.drawn; same = d.same }
+
+pub all-drawn-on : (own : Secrets) (many more : ℕ) (phase : ends.Phase) (echoes : List ends.Cookie) (names : List Name) → many ≤ more →
+    AreDrawn own many phase echoes names → AreDrawn own more phase echoes names
+all-drawn-on own many more phase echoes names l d = record {
+  tried = λ n t. drawn-on own many more n.tag l (d.tried n t);
+  echoed = λ c i. drawn-on own many more c.far.tag l (d.echoed c i);
+  opened = λ n i. drawn-on own many more n.tag l (d.opened n i);
+}
+
+-- the next name is offered
+offered-more : (own : Secrets) (many : ℕ) (b : Beginning) (drawn : List Name) → own.beginning many ≡ Some b →
+    ((n : Name) → Contains drawn n → IsOffered own many n) →
+    (n : Name) → Contains (named b.tag b.first ∷ drawn) n → IsOffered own many n
+offered-more own many b drawn e h n c = by (in-from (named b.tag b.first ∷ drawn) n c) where
+  by : In n (named b.tag b.first ∷ drawn) → IsOffered own many n
+  by (inl same) = record { place = many; before = omega arith; beginning = b; drawn = e; same = sym same }
+  by (inr m) = h n (contains-from drawn n m)
+
+-- it is drawn
+next-drawn : (own : Secrets) (many : ℕ) (b : Beginning) → own.beginning many ≡ Some b → IsDrawn own (many + 1) b.tag
+next-drawn own many b e = record { place = many; before = omega arith; beginning = b; drawn = e; same = refl }
+
+same-beginning : (own : Secrets) (i j : ℕ) (a b : Beginning) → own.beginning i ≡ Some a → own.beginning j ≡ Some b → i ≡ j → a ≡ b
+same-beginning own i j a b e f is = by (sym e ∙ ap own.beginning is ∙ f) where
+  by : Some a ≡ Some b → a ≡ b
+  by q = cc
+
+-- a tag that was drawn isn't the next one
+not-next : (own : Secrets) → AreGood own → (many tag : ℕ) (b : Beginning) → own.beginning many ≡ Some b → IsDrawn own many tag → tag ≢ b.tag
+not-next own good many tag b is d same =
     let place : d.place ≡ many = good.fresh d.place many d.beginning b d.drawn is (d.same ∙ same) in
-    absurd (omega (arith, place, d.before))
+    omega (arith, place, d.before)
+
+-- the next name is unused
+is-unused : (own : Secrets) → AreGood own → (e : End) (many : ℕ) (b : Beginning) → own.beginning many ≡ Some b →
+    ((n : Name) → Contains e.drawn n → IsOffered own many n) → AreDrawn own many e.phase e.echoes (map own_of e.epochs) →
+    IsUnused e (named b.tag b.first)
+is-unused own good e many b is offered drawn = record {
+  named = λ n c same.
+      let d : IsOffered own many n = offered n c in
+      let tags : d.beginning.tag ≡ b.tag = ap (λ (m : Name). m.tag) d.same ∙ same in
+      let place : d.place ≡ many = good.fresh d.place many d.beginning b d.drawn is tags in
+      let one : d.beginning ≡ b = same-beginning own d.place many d.beginning b d.drawn is place in
+      sym d.same ∙ ap (λ (x : Beginning). named x.tag x.first) one;
+  unechoed = λ c i. not-next own good many c.far.tag b is (drawn.echoed c i);
+  unopened = λ k i.
+      not-next own good many k.own.tag b is
+      (drawn.opened k.own (contains-from (map own_of e.epochs) k.own (in-map own_of e.epochs k (in-from e.epochs k i))));
+}
 
 abbrev answer-with : (generation : ℕ) → Name → Name → Answer
 answer-with generation name init = moves.answer_to generation name init
+
+-- a cookie may open an association, whose tag was drawn
+pub record MayOpenBy (own : Secrets) (beginnings : ℕ) (e : End) (cookie : Cookie) : Type 0 where
+  pub wanted : e.wanted ≡ true
+  pub may : MayOpen e.phase (cookie_of cookie)
+  pub drawn : IsDrawn own beginnings cookie.own_tag
 
 -- ---- the rules
 
@@ -162,7 +207,8 @@ module _ (own far : Secrets) (mark : ℕ) (other : End) where
           shows = record {
             generation = omega (arith, h.generation);
             stage = record { phase = refl; wants = refl };
-            drawn = h.drawn;
+            offered = h.offered;
+            drawn = record { tried = λ n t. absurd t; echoed = h.drawn.echoed; opened = h.drawn.opened };
             control = tt;
             trying = λ t q. absurd (cc);
             later = h.later;
@@ -197,7 +243,8 @@ module _ (own far : Secrets) (mark : ℕ) (other : End) where
           shows = record {
             generation = omega (arith, h.generation);
             stage = record { phase = refl; wants = sym was.wanted_is };
-            drawn = h.drawn;
+            offered = h.offered;
+            drawn = record { tried = λ n t. absurd t; echoed = h.drawn.echoed; opened = h.drawn.opened };
             control = tt;
             trying = λ t q. absurd (cc);
             later = h.later;
@@ -230,6 +277,7 @@ module _ (own far : Secrets) (mark : ℕ) (other : End) where
           shows = record {
             generation = h.generation;
             stage = subst (λ (stage : Stage). IsIn stage f true s.association) (sym off) now;
+            offered = h.offered;
             drawn = h.drawn;
             control = keep-control e f m h.later (stage_of s.association.phase) s.association.far_tag s.association.control h.control;
             trying = λ t q. more-never own far e f m s.association.far_tag t.chunks (h.trying t q);
@@ -275,7 +323,12 @@ module _ (own far : Secrets) (mark : ℕ) (other : End) where
         shows = record {
           generation = counted;
           stage = record { phase = refl; fits = good.beginnings_fit s.beginnings b is; wants = refl; wanted_is = refl };
-          drawn = drawn-more own s.beginnings b e.drawn is h.drawn;
+          offered = λ n i. offered-on own s.beginnings (s.beginnings + 1) n (omega arith) (offered-more own s.beginnings b e.drawn is h.offered n i);
+          drawn = record {
+            tried = λ n t. subst (λ (m : Name). IsDrawn own (s.beginnings + 1) m.tag) (sym t) (next-drawn own s.beginnings b is);
+            echoed = λ x i. drawn-on own s.beginnings (s.beginnings + 1) x.far.tag (omega arith) (h.drawn.echoed x i);
+            opened = λ n i. drawn-on own s.beginnings (s.beginnings + 1) n.tag (omega arith) (h.drawn.opened n i);
+          };
           control = tt;
           trying = λ t q.
               let same : first ≡ t.chunks = ap (λ (x : Try). x.chunks) (is-try _ t q) in
@@ -304,7 +357,7 @@ module _ (own far : Secrets) (mark : ℕ) (other : End) where
                 closed = was.phase;
                 wanted = refl;
                 own = named b.tag b.first;
-                fresh = is-fresh own good (record e { wanted = true }) s.beginnings b is h.drawn;
+                unused = is-unused own good (record e { wanted = true }) s.beginnings b is h.offered h.drawn;
                 generation = e.generation;
                 later = omega arith;
                 after = refl;
@@ -332,7 +385,7 @@ module _ (own far : Secrets) (mark : ℕ) (other : End) where
                 old = own_name s.association;
                 trying = trying;
                 own = named b.tag b.first;
-                fresh = is-fresh own good (record e { wanted = true }) s.beginnings b is h.drawn;
+                unused = is-unused own good (record e { wanted = true }) s.beginnings b is h.offered h.drawn;
                 generation = e.generation + 1;
                 later = omega arith;
                 after = refl;
@@ -350,12 +403,12 @@ module _ (own far : Secrets) (mark : ℕ) (other : End) where
   abbrev answers : End → (drawn : List Name) → Name → Name → End
   answers e drawn name init = record e { drawn = drawn; answers = moves.answer_to e.generation name init ∷ e.answers }
 
-  answered-so : (c : Settings) (now : ℕ) (source : Address) (init : InitValue) (b : Beginning) (s : State) (many : ℕ) →
+  answered-so : (c : Settings) (now : ℕ) (source : Address) (init : InitValue) (b : Beginning) (s : State) →
       (e : End) → Shows own far mark e s → (drawn : List Name) →
-      ((n : Name) → Contains drawn n → IsDrawn own many n.tag) →
+      ((n : Name) → Contains drawn n → IsOffered own s.beginnings n) →
       EndMove other e (answers e drawn (named b.tag b.first) (name_in init)) →
-      Result own far mark other e (opening.answered_with c own now source init b (record s { beginnings = many }))
-  answered-so c now source init b s many e h drawn d mv =
+      Result own far mark other e (opening.answered_with c own now source init b s)
+  answered-so c now source init b s e h drawn d mv =
       let name : Name = named b.tag b.first in
       let f : End = answers e drawn name (name_in init) in
       let made : Cookie = opening.cookie_for c now s b init in
@@ -371,7 +424,8 @@ module _ (own far : Secrets) (mark : ℕ) (other : End) where
           generation = h.generation;
           stage = same-stage (stage_of s.association.phase) e f s.is_wanted s.association
               (record { phase = refl; wanted = refl; epochs = refl; cookie_acks = λ tag i. i; chunks = λ d i. i; acks = λ x i. i }) h.stage;
-          drawn = d;
+          offered = d;
+          drawn = h.drawn;
           control = keep-control e f m h.later (stage_of s.association.phase) s.association.far_tag s.association.control h.control;
           trying = λ t q. more-never own far e f m s.association.far_tag t.chunks (h.trying t q);
           later = h.later;
@@ -396,10 +450,10 @@ module _ (own far : Secrets) (mark : ℕ) (other : End) where
             init = name_in init;
             there = came;
             own = name;
-            fresh = is-fresh own good e s.beginnings b is h.drawn;
+            unused = is-unused own good e s.beginnings b is h.offered h.drawn;
             after = refl;
           }) in
-          answered-so c now source init b s (s.beginnings + 1) e h (name ∷ e.drawn) (drawn-more own s.beginnings b e.drawn is h.drawn) mv
+          answered-so c now source init b s e h (name ∷ e.drawn) (offered-more own s.beginnings b e.drawn is h.offered) mv
 
   -- the end tries by the name of the association
   is-trying : (stage : Stage) (e : End) (wanted : Bool) (a : Association) → IsIn stage e wanted a → (stage ≡ Waiting) ⊎ (stage ≡ Echoing) →
@@ -426,7 +480,7 @@ module _ (own far : Secrets) (mark : ℕ) (other : End) where
           trying = is-trying (stage_of s.association.phase) e s.is_wanted s.association h.stage q;
           after = refl;
         }) in
-        answered-so c now source init (opening.own_beginning s.association) s s.beginnings e h e.drawn h.drawn mv
+        answered-so c now source init (opening.own_beginning s.association) s e h e.drawn h.offered mv
 
   -- ---- INIT ACK is answered
 
@@ -437,6 +491,14 @@ module _ (own far : Secrets) (mark : ℕ) (other : End) where
 
   some-same : {X : Type 0} (x y : X) → Some x ≡ Some y → x ≡ y
   some-same x y e = cc
+
+  echoed-drawn : {many : ℕ} (first : ends.Cookie) (echoes : List ends.Cookie) → IsDrawn own many first.far.tag →
+      ((c : ends.Cookie) → Contains echoes c → IsDrawn own many c.far.tag) →
+      (c : ends.Cookie) → Contains (first ∷ echoes) c → IsDrawn own many c.far.tag
+  echoed-drawn {many} first echoes d h c i = by (in-from (first ∷ echoes) c i) where
+    by : In c (first ∷ echoes) → IsDrawn own many c.far.tag
+    by (inl same) = subst (λ (x : ends.Cookie). IsDrawn own many x.far.tag) (sym same) d
+    by (inr m) = h c (contains-from echoes c m)
 
   pub echoed-goes : (c : Settings) (now failures : ℕ) (init : InitValue) (octets : List ℕ) (s : State) →
       stage_of s.association.phase ≡ Waiting → cookie_in init.parameters ≡ Some octets →
@@ -453,6 +515,10 @@ module _ (own far : Secrets) (mark : ℕ) (other : End) where
           echoes = cookie_of came.cookie ∷ e.echoes;
         } in
         let m : IsMore e f = more-of e f refl (λ n i. i) (λ n i. i) (λ n i. more-in (cookie_of came.cookie) e.echoes n i) (λ n i. i) (λ n i. i) (λ n i. i) in
+        let tried : IsDrawn own s.beginnings s.association.own_tag =
+        h.drawn.tried (own_name s.association) (subst (λ (p : ends.Phase). IsTrying p (own_name s.association)) (sym was.phase) refl) in
+        let answer : Answer = record { to = tag; own = name_in init; cookie = cookie_of came.cookie } in
+        let sent-to : s.association.own_tag ≡ came.cookie.peer_tag = tag_is ∙ (sound.sides.far.answers answer (in-from other.answers answer came.there)).to in
         let echo : IsEcho far f octets = record {
           cookie = came.cookie;
           signed = some-same octets (far.signed came.cookie) (sym inside ∙ came.signed);
@@ -474,7 +540,12 @@ module _ (own far : Secrets) (mark : ℕ) (other : End) where
           shows = record {
             generation = h.generation;
             stage = record { phase = refl; fits = was.fits; wants = was.wants; wanted_is = was.wanted_is };
-            drawn = h.drawn;
+            offered = h.offered;
+            drawn = record {
+              tried = λ n t. h.drawn.tried n (subst (λ (p : ends.Phase). IsTrying p n) (sym was.phase) t);
+              echoed = echoed-drawn (cookie_of came.cookie) e.echoes (subst (IsDrawn own s.beginnings) sent-to tried) h.drawn.echoed;
+              opened = h.drawn.opened;
+            };
             control = plain;
             trying = λ t q.
                 subst (λ (chunks : List ChunkValue). IsSaid own far never f init.tag chunks) (ap (λ (x : Try). x.chunks) (some-same _ t q))
@@ -546,11 +617,18 @@ module _ (own far : Secrets) (mark : ℕ) (other : End) where
             grows_new (omega (arith, heavy, a, b, c)) (omega (arith, heavy, a, b, d))
         by heavy a b (inr m) = grows_from g (contains-from e.epochs g m) refl (omega (arith, heavy, a, b)) (omega (arith, heavy, a, b))
 
+  opened-drawn : {many : ℕ} (first : Name) (names : List Name) → IsDrawn own many first.tag →
+      ((n : Name) → Contains names n → IsDrawn own many n.tag) → (n : Name) → Contains (first ∷ names) n → IsDrawn own many n.tag
+  opened-drawn {many} first names d h n i = by (in-from (first ∷ names) n i) where
+    by : In n (first ∷ names) → IsDrawn own many n.tag
+    by (inl same) = subst (λ (x : Name). IsDrawn own many x.tag) (sym same) d
+    by (inr m) = h n (contains-from names n m)
+
   opened-so : (c : Settings) (now own_tag far_tag own_first : ℕ) (peer : state.Peer) (address : Address) (s : State) →
-      own_first < modulus → (e : End) → Shows own far mark e s →
+      own_first < modulus → IsDrawn own s.beginnings own_tag → (e : End) → Shows own far mark e s →
       EndMove other e (opens e (named own_tag own_first) (named far_tag peer.first)) →
       Result own far mark other e (opening.opened c now own_tag far_tag own_first peer address s)
-  opened-so c now own_tag far_tag own_first peer address s fits e h mv =
+  opened-so c now own_tag far_tag own_first peer address s fits drawn e h mv =
       let name : Name = named own_tag own_first in
       let away : Name = named far_tag peer.first in
       let first : Epoch = new_epoch name away in
@@ -588,7 +666,12 @@ module _ (own far : Secrets) (mark : ℕ) (other : End) where
             sends = new-sends f name away true c.bounds peer.window fits;
             takes = new-takes f name away (first-in (moves.ack_of first) e.acks);
           };
-          drawn = h.drawn;
+          offered = h.offered;
+          drawn = record {
+            tried = λ n t. absurd t;
+            echoed = h.drawn.echoed;
+            opened = opened-drawn name (map own_of e.epochs) drawn h.drawn.opened;
+          };
           control = tt;
           trying = λ t q. absurd (cc);
           later = omega (arith, h.later, heavy);
@@ -614,7 +697,9 @@ module _ (own far : Secrets) (mark : ℕ) (other : End) where
     ack-so e sound h =
         let a : Association = s.association in
         let was : IsEchoing e s.is_wanted a = subst (λ (stage : Stage). IsIn stage e s.is_wanted s.association) echoing h.stage in
-        opened-so c now a.own_tag a.far_tag a.own_first a.peer a.address s was.fits e h
+        let drawn : IsDrawn own s.beginnings a.own_tag =
+        h.drawn.tried (own_name a) (subst (λ (p : ends.Phase). IsTrying p (own_name a)) (sym was.phase) refl) in
+        opened-so c now a.own_tag a.far_tag a.own_first a.peer a.address s was.fits drawn e h
         (moves.opens_by_ack (record {
           own = own_name a;
           far = far_name a;
@@ -628,19 +713,19 @@ module _ (own far : Secrets) (mark : ℕ) (other : End) where
   -- a cookie of the present generation opens, where it may
   pub opened-by-cookie-does : (c : Settings) (now : ℕ) (source : Address) (cookie : Cookie) (s : State) →
       cookie.generation ≡ s.generation → cookie.own_first_tsn < modulus → Contains other.echoes (cookie_of cookie) →
-      ((e : End) → Shows own far mark e s → (e.wanted ≡ true) × MayOpen e.phase (cookie_of cookie)) →
+      ((e : End) → Shows own far mark e s → MayOpenBy own s.beginnings e cookie) →
       Does own far mark other s
       (opening.opened c now cookie.own_tag cookie.peer_tag cookie.own_first_tsn
       (record { first = cookie.peer_first_tsn; window = cookie.peer_window }) source s)
   opened-by-cookie-does c now source cookie s present fits came may e sound h =
       opened-so c now cookie.own_tag cookie.peer_tag cookie.own_first_tsn
-      (record { first = cookie.peer_first_tsn; window = cookie.peer_window }) source s fits e h
+      (record { first = cookie.peer_first_tsn; window = cookie.peer_window }) source s fits (may e h).drawn e h
       (moves.opens_by_cookie (record {
-        wanted = (may e h).0;
+        wanted = (may e h).wanted;
         cookie = cookie_of cookie;
         there = came;
         present = present ∙ sym h.generation;
-        may = (may e h).1;
+        may = (may e h).may;
         generation = e.generation + 1;
         later = omega arith;
         after = refl;

@@ -102,6 +102,7 @@ module _ (own far : Secrets) where
   remarked mark later e s none l h = record {
     generation = h.generation;
     stage = h.stage;
+    offered = h.offered;
     drawn = h.drawn;
     control = subst (λ (control : List _). Each (Waits (stage_of s.association.phase) later e s.association.far_tag) control) (sym none) tt;
     trying = h.trying;
@@ -146,7 +147,8 @@ module _ (own far : Secrets) where
     state = record {
       generation = refl;
       stage = record { phase = refl; wants = refl };
-      drawn = λ n i. absurd (in-from [] n i);
+      offered = λ n i. absurd (in-from [] n i);
+      drawn = record { tried = λ n t. absurd t; echoed = λ c i. absurd (in-from [] c i); opened = λ n i. absurd (in-from [] n i) };
       control = tt;
       trying = λ t q. absurd (cc);
       later = omega arith;

@@ -18,7 +18,8 @@ use Rattle.sctp_sending.specs.Outgoing as outgoing
 use Rattle.sctp_sending.specs.Sending.{Sending, most_octets}
 use Rattle.sctp_rules.specs.GivenMessages.{IsInOrder, Course}
 use Rattle.sctp_moves.specs.Numbers.{modulus, cumulative}
-use Rattle.sctp_moves.specs.Moves.{chunk_of, ack_of}
+use Rattle.sctp_moves.specs.Moves.{IsTrying, chunk_of, ack_of}
+use Rattle.sctp_moves.specs.Ends as ends
 use Rattle.sctp_moves.specs.Ends.{Message, Name, Epoch, Closed, CookieWait, CookieEchoed, Established, End}
 use Rattle.sctp_ends.specs.Said.{Each, named, load, since, never, Bundles, IsSaid}
 
@@ -33,6 +34,14 @@ pub record AreGood (own : Secrets) : Type 0 where
   pub beginnings_fit : (i : ℕ) (a : Beginning) → own.beginning i ≡ Some a → a.first < modulus
   pub cookies_fit :
       (octets : List ℕ) (opened : Cookie) → own.cookie_in octets ≡ Some opened → opened.own_first_tsn < modulus
+
+-- a name that was drawn, or is the next one
+pub record IsOffered (own : Secrets) (beginnings : ℕ) (name : Name) : Type 0 where
+  pub place : ℕ
+  pub before : place ≤ beginnings
+  pub beginning : Beginning
+  pub drawn : own.beginning place ≡ Some beginning
+  pub same : named beginning.tag beginning.first ≡ name
 
 -- a tag that was drawn
 pub record IsDrawn (own : Secrets) (beginnings tag : ℕ) : Type 0 where
@@ -174,6 +183,18 @@ Waits Waiting mark e tag chunk = IsPlain chunk
 Waits Echoing mark e tag chunk = IsPlain chunk
 Waits There mark e tag chunk = Bundles (since mark e) e tag chunk
 
+-- ---- names
+
+abbrev pub own_of : Epoch → Name
+own_of epoch = epoch.own
+
+-- a try, the cookies that were echoed, and the associations have tags that were drawn, each of which is never the next
+-- again
+pub record AreDrawn (own : Secrets) (beginnings : ℕ) (phase : ends.Phase) (echoes : List ends.Cookie) (names : List Name) : Type 0 where
+  pub tried : (n : Name) → IsTrying phase n → IsDrawn own beginnings n.tag
+  pub echoed : (c : ends.Cookie) → Contains echoes c → IsDrawn own beginnings c.far.tag
+  pub opened : (n : Name) → Contains names n → IsDrawn own beginnings n.tag
+
 -- ---- an end shows a state
 
 -- `own` are the secrets of this endpoint, `far` those of its peer; `mark` is the load of the end when packets were
@@ -181,7 +202,8 @@ Waits There mark e tag chunk = Bundles (since mark e) e tag chunk
 pub record Shows (own far : Secrets) (mark : ℕ) (e : End) (s : State) : Type 0 where
   pub generation : e.generation ≡ s.generation
   pub stage : IsIn (stage_of s.association.phase) e s.is_wanted s.association
-  pub drawn : (n : Name) → Contains e.drawn n → IsDrawn own s.beginnings n.tag
+  pub offered : (n : Name) → Contains e.drawn n → IsOffered own s.beginnings n
+  pub drawn : AreDrawn own s.beginnings e.phase e.echoes (map own_of e.epochs)
   pub control : Each (Waits (stage_of s.association.phase) mark e s.association.far_tag) s.association.control
   pub trying : (t : Try) → s.association.trying ≡ Some t → IsSaid own far never e s.association.far_tag t.chunks
   pub later : mark ≤ load e.epochs

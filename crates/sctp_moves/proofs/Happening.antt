@@ -1,13 +1,12 @@
 -- The run of the example: each pair of ends comes from the one before by a move.
-use Rattle.std.proofs.Common.{◌≡◌, ◌≢◌, inl, inr, ℕ, true, false, [], ◌∷◌, refl, ap, sym, ◌∙◌, arith}
+use Rattle.std.proofs.Common.{◌≡◌, ◌≢◌, inl, inr, true, false, List, [], ◌∷◌, refl, ap, sym, subst, arith}
 use Rattle.std.specs.List.{Contains}
 use Rattle.sctp_moves.specs.Ends.{Name, Cookie, Chunk, Acknowledgement, Epoch, new_epoch, Closed, CookieWait, CookieEchoed, Established, End, Ends, new_ends}
 use Rattle.sctp_moves.specs.Moves as moves
-use Rattle.sctp_moves.specs.Moves.{answer_to, Move}
+use Rattle.sctp_moves.specs.Moves.{IsUnused, answer_to, Move}
 use Rattle.sctp_moves.specs.Example.{near_name, far_name, next_near_name, next_far_name, old_cookie, next_cookie, lost_message, first_message, second_message}
 use Rattle.sctp_moves.specs.Example.{first_chunk, second_chunk, other_cookie, Happens}
 use Rattle.sctp_moves.proofs.Members.{In, in-from}
-use Rattle.sctp_moves.proofs.Sides.{tag_of}
 
 -- ---- the associations, as they go
 
@@ -150,14 +149,20 @@ s31 = record s30 { far = record s30.far { generation = 5; phase = Established; e
 
 -- ---- the moves
 
-fresh-none : (tag : ℕ) (n : Name) → Contains [] n → n.tag ≢ tag
-fresh-none tag n c q = in-from [] n c
+-- each of one
+each-one : {A : Type 0} (P : A → Type 0) (x : A) → P x → (y : A) → Contains (x ∷ []) y → P y
+each-one P x h y c = by (in-from (x ∷ []) y c) where
+  by : In y (x ∷ []) → P y
+  by (inl e) = subst P (sym e) h
+  by (inr i) = absurd i
 
-fresh-one : (old : Name) (tag : ℕ) → old.tag ≢ tag → (n : Name) → Contains (old ∷ []) n → n.tag ≢ tag
-fresh-one old tag d n c q = by (in-from (old ∷ []) n c) where
-  by : In n (old ∷ []) → ⊥
-  by (inl e) = d (ap tag_of (sym e) ∙ q)
-  by (inr i) = i
+-- a tag of an end that has drawn none
+first-of-all : (p : End) (own : Name) → p.drawn ≡ [] → p.echoes ≡ [] → p.epochs ≡ [] → IsUnused p own
+first-of-all p own drawn echoes epochs = record {
+  named = λ n c e. absurd (in-from [] n (subst (λ (xs : List Name). Contains xs n) drawn c));
+  unechoed = λ n c e. in-from [] n (subst (λ (xs : List Cookie). Contains xs n) echoes c);
+  unopened = λ n c e. in-from [] n (subst (λ (xs : List Epoch). Contains xs n) epochs c);
+}
 
 m1 : Move s0 s1
 m1 = moves.far (moves.wants (record { after = refl })) refl
@@ -166,10 +171,10 @@ m2 : Move s1 s2
 m2 = moves.near (moves.wants (record { after = refl })) refl
 
 m3 : Move s2 s3
-m3 = moves.far (moves.begins (record { closed = refl; wanted = refl; own = far_name; fresh = fresh-none 21; generation = 1; later = omega arith; after = refl })) refl
+m3 = moves.far (moves.begins (record { closed = refl; wanted = refl; own = far_name; unused = first-of-all s2.far far_name refl refl refl; generation = 1; later = omega arith; after = refl })) refl
 
 m4 : Move s3 s4
-m4 = moves.near (moves.answers_anew (record { init = far_name; there = (0, omega arith, refl); own = near_name; fresh = fresh-none 11; after = refl })) refl
+m4 = moves.near (moves.answers_anew (record { init = far_name; there = (0, omega arith, refl); own = near_name; unused = first-of-all s3.near near_name refl refl refl; after = refl })) refl
 
 m5 : Move s4 s5
 m5 = moves.far (moves.echoes (record { own = far_name; waits = refl; answer = answer_to 0 near_name far_name; there = (0, omega arith, refl); to = refl; after = refl })) refl
@@ -234,11 +239,25 @@ m24 = moves.far (moves.finishes (record { generation = 3; later = omega arith; a
 m25 : Move s24 s25
 m25 = moves.far (moves.wants (record { after = refl })) refl
 
+next-far : IsUnused s25.far next_far_name
+next-far = record {
+  named = each-one (λ (n : Name). n.tag ≡ 22 → n ≡ next_far_name) far_name (λ (q : 21 ≡ 22). absurd (omega (arith, q)));
+  unechoed = each-one (λ (c : Cookie). c.far.tag ≢ 22) old_cookie (λ (q : 21 ≡ 22). omega (arith, q));
+  unopened = each-one (λ (e : Epoch). e.own.tag ≢ 22) f3 (λ (q : 21 ≡ 22). omega (arith, q));
+}
+
 m26 : Move s25 s26
-m26 = moves.far (moves.begins (record { closed = refl; wanted = refl; own = next_far_name; fresh = fresh-one far_name 22 (λ (q : 21 ≡ 22). omega (arith, q)); generation = 4; later = omega arith; after = refl })) refl
+m26 = moves.far (moves.begins (record { closed = refl; wanted = refl; own = next_far_name; unused = next-far; generation = 4; later = omega arith; after = refl })) refl
+
+next-near : IsUnused s26.near next_near_name
+next-near = record {
+  named = each-one (λ (n : Name). n.tag ≡ 12 → n ≡ next_near_name) near_name (λ (q : 11 ≡ 12). absurd (omega (arith, q)));
+  unechoed = λ c i e. in-from [] c i;
+  unopened = each-one (λ (e : Epoch). e.own.tag ≢ 12) n6 (λ (q : 11 ≡ 12). omega (arith, q));
+}
 
 m27 : Move s26 s27
-m27 = moves.near (moves.answers_anew (record { init = next_far_name; there = (0, omega arith, refl); own = next_near_name; fresh = fresh-one near_name 12 (λ (q : 11 ≡ 12). omega (arith, q)); after = refl })) refl
+m27 = moves.near (moves.answers_anew (record { init = next_far_name; there = (0, omega arith, refl); own = next_near_name; unused = next-near; after = refl })) refl
 
 m28 : Move s27 s28
 m28 = moves.far (moves.echoes (record { own = next_far_name; waits = refl; answer = answer_to 2 next_near_name next_far_name; there = (0, omega arith, refl); to = refl; after = refl })) refl

@@ -3,10 +3,10 @@ use Rattle.std.proofs.Common.{◌≡◌, ◌≢◌, inl, inr, ℕ, List, [], ◌
 use Rattle.std.proofs.lemmas.Grind.{common_steps}
 use Rattle.sctp_moves.specs.Ends.{Name, Cookie, Epoch, Phase, CookieWait, CookieEchoed, End, new_end, Ends, new_ends}
 use Rattle.sctp_moves.specs.Moves as moves
-use Rattle.sctp_moves.specs.Moves.{IsTrying, MayOpen, IsFresh, answer_to, chunk_of, ack_of, EndMove, Move, Moves, last_of}
-use Rattle.sctp_moves.proofs.Members.{In, in-from, contains-from, in-map}
-use Rattle.sctp_moves.proofs.Sides.{Tie, tying, tie, Side, side_of, IsDown, IsBond, IsSide, AreSides, turned-sides, wanted-trying, trying-down, made, same-far}
-use Rattle.sctp_moves.proofs.Trying.{names-fresh, keeps-wants, keeps-cookie_ack, keeps-answer, keeps-try, keeps-finish}
+use Rattle.sctp_moves.specs.Moves.{IsTrying, MayOpen, IsUnused, answer_to, chunk_of, ack_of, EndMove, Move, Moves, last_of}
+use Rattle.sctp_moves.proofs.Members.{In, in-from, contains-from, in-map, in-unmap}
+use Rattle.sctp_moves.proofs.Sides.{Tie, tying, tie, Side, side_of, IsDown, IsBond, IsSide, AreSides, turned-sides, wanted-trying, trying-down, same-far}
+use Rattle.sctp_moves.proofs.Trying.{names-more, keeps-wants, keeps-cookie_ack, keeps-answer, keeps-try, keeps-finish}
 use Rattle.sctp_moves.proofs.Echoed.{keeps-echo}
 use Rattle.sctp_moves.proofs.Opened.{IsOpening, opened, keeps-opening, opening-cookie, opening-ack}
 use Rattle.sctp_moves.proofs.Carried.{AreCarrying, holding, keeps-take, keeps-hearing, keeps-handing, keeps-confirming, keeps-sending, keeps-acknowledging, keeps-opened}
@@ -27,8 +27,8 @@ in-present : (x y : End) (es : List Epoch) → x.epochs ≡ es → IsSound x y �
 in-present x y es e h = subst (λ (fs : List Epoch). IsSound (holding x fs) y) e h
 
 module _ (x y : End) (h : IsSound x y) where
-  fresh : (tag : ℕ) → IsFresh x tag → (n : Name) → In n x.drawn → n.tag ≢ tag
-  fresh tag f n i = f n (contains-from x.drawn n i)
+  named : (own : Name) → IsUnused x own → (n : Name) → In n x.drawn → n.tag ≡ own.tag → n ≡ own
+  named own u n i = u.named n (contains-from x.drawn n i)
 
   abbrev near : Side
   near = side_of x
@@ -36,10 +36,12 @@ module _ (x y : End) (h : IsSound x y) where
   abbrev far : Side
   far = side_of y
 
-  -- a fresh tag is bound to nothing
-  unbound : (own : Name) → IsFresh x own.tag → (t : Tie) → IsBond near t → t.own.tag ≢ own.tag
-  unbound own f t (inl b) q = fresh own.tag f b.0.far (made far near h.sides.far h.sides.near b.0 b.1).far (ap (λ (u : Tie). u.own.tag) b.2 ∙ q)
-  unbound own f t (inr i) q = fresh own.tag f t.own (h.sides.near.own t i) q
+  -- an unused tag is bound to nothing
+  pub unbound : (own : Name) → IsUnused x own → (t : Tie) → IsBond near t → t.own.tag ≢ own.tag
+  unbound own u t (inl b) q = u.unechoed b.0 (contains-from x.echoes b.0 b.1) (ap (λ (v : Tie). v.own.tag) b.2 ∙ q)
+  unbound own u t (inr i) q =
+      let e : (k : Epoch) × In k x.epochs × (tie k ≡ t) = in-unmap tie x.epochs t i in
+      u.unopened e.0 (contains-from x.epochs e.0 e.1) (ap (λ (v : Tie). v.own.tag) e.2 ∙ q)
 
   -- the far tag of an association that opens is one of none before
   none : (t : Tie) (g : ℕ) → AreSides (opened near t g) far → ((u : Tie) → In u near.ties → u.own.tag ≢ t.own.tag) →
@@ -77,22 +79,23 @@ sound-move x y z (moves.wants m) h =
     subst (λ (w : End). IsSound w y) (sym m.after) (record { sides = keeps-wants (side_of x) (side_of y) h.sides; carrying = h.carrying })
 sound-move x y z (moves.begins m) h =
     subst (λ (w : End). IsSound w y) (sym m.after) (record {
-      sides = keeps-try (side_of x) (side_of y) h.sides m.own m.generation (fresh x y h m.own.tag m.fresh) m.later
-          (λ n e. absurd (subst (λ (s : Phase). IsTrying s n) m.closed e)) (subst IsDown (sym m.closed) tt) m.wanted;
+      sides = keeps-try (side_of x) (side_of y) h.sides m.own m.generation (named x y h m.own m.unused) (unbound x y h m.own m.unused) m.later
+          (λ n e. absurd (subst (λ (s : Phase). IsTrying s n) m.closed e)) (λ c e. subst (λ (s : Phase). MayOpen s c) (sym m.closed) tt)
+          (subst IsDown (sym m.closed) tt) m.wanted;
       carrying = h.carrying;
     })
 sound-move x y z (moves.renews m) h =
     subst (λ (w : End). IsSound w y) (sym m.after) (record {
-      sides = keeps-try (side_of x) (side_of y) h.sides m.own m.generation (fresh x y h m.own.tag m.fresh) (omega (arith, m.later))
-          (λ n e. m.later) (trying-down x.phase m.old m.trying) (wanted-trying x.phase x.wanted m.old m.trying h.sides.near.wanted);
+      sides = keeps-try (side_of x) (side_of y) h.sides m.own m.generation (named x y h m.own m.unused) (unbound x y h m.own m.unused)
+          (omega (arith, m.later)) (λ n e. m.later) (λ c e. absurd (omega (arith, m.later, e))) (trying-down x.phase m.old m.trying) (wanted-trying x.phase x.wanted m.old m.trying h.sides.near.wanted);
       carrying = h.carrying;
     })
 sound-move x y z (moves.answers_anew m) h =
     subst (λ (w : End). IsSound w y) (sym m.after) (record {
       sides = keeps-answer (side_of x) (side_of y) h.sides (m.own ∷ x.drawn) (answer_to x.generation m.own m.init)
-          (names-fresh x.drawn m.own (fresh x y h m.own.tag m.fresh) h.sides.near.names) (λ n i. inr i)
+          (names-more x.drawn m.own (named x y h m.own m.unused) h.sides.near.names) (λ n i. inr i)
           (record { to = refl; own = refl; drawn = inl refl; far = h.sides.far.inits m.init (in-from y.inits m.init m.there); made = omega arith })
-          (inr (unbound x y h m.own m.fresh));
+          (inr (unbound x y h m.own m.unused));
       carrying = h.carrying;
     })
 sound-move x y z (moves.answers_by_try m) h =

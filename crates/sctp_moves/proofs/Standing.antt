@@ -2,13 +2,13 @@
 use Rattle.std.proofs.Common.{◌≡◌, ◌≢◌, ◌⊎◌, inl, inr, ◌<◌, ◌≤◌, ℕ, suc, arith, List, [], ◌∷◌, ◌++◌, length, map, slice_get, Some, refl, ap, sym, ◌∙◌, subst}
 use Rattle.sctp_moves.specs.Ends.{Name, Cookie, Epoch, Phase, Closed, CookieWait, CookieEchoed, Established, End}
 use Rattle.sctp_moves.specs.Moves as moves
-use Rattle.sctp_moves.specs.Moves.{IsTrying, MayOpen, EndMove, EndMoves, last_end}
+use Rattle.sctp_moves.specs.Moves.{IsTrying, MayOpen, IsUnused, EndMove, EndMoves, last_end}
 use Rattle.sctp_moves.specs.Theorems.{AreOne}
 use Rattle.sctp_moves.specs.Openings.{Standing, Neither, Joined, NearAhead, FarAhead, IsCalm, IsQuietMove, IsQuiet}
-use Rattle.sctp_moves.proofs.Members.{In, in-from, contains-from, in-map, in-unmap}
+use Rattle.sctp_moves.proofs.Members.{In, in-from, in-map, in-unmap}
 use Rattle.sctp_moves.proofs.Sides.{Tie, tying, back, tie, tie_of, side_of, IsDown, IsEchoed, IsLive, IsShut, AreSides, made, one-far}
 use Rattle.sctp_moves.proofs.Opened.{tie-there}
-use Rattle.sctp_moves.proofs.Keeping.{IsSound, sound-move}
+use Rattle.sctp_moves.proofs.Keeping.{IsSound, unbound, sound-move}
 use Rattle.sctp_moves.proofs.Concluded.{IsOpened, by_cookie, by_ack, opened-by, first-by, second-by}
 use Rattle.sctp_moves.proofs.Turns.{HasOne, HasNone, find-one, Turn, keeps, opens, turn, kept-long, opened-long, none-fewer}
 
@@ -92,15 +92,15 @@ module _ (x y z : End) (h : IsSound x y) where
   free-in : (s : Phase) → z.phase ≡ s → ((n : Name) → IsTrying s n → (u : Tie) → In u (ties y) → u.far.tag ≢ n.tag) → IsFree z y
   free-in s e f = λ n t u i. f n (subst (λ (p : Phase). IsTrying p n) e t) u i
 
-  known : (own : Name) → ((n : Name) → In n x.drawn → n.tag ≢ own.tag) → (n : Name) → n ≡ own → (u : Tie) → In u (ties y) → u.far.tag ≢ n.tag
-  known own fresh n is u i q = fresh u.far (h.sides.far.known u i) (q ∙ ap (λ (k : Name). k.tag) is)
+  known : (own : Name) → IsUnused x own → (n : Name) → n ≡ own → (u : Tie) → In u (ties y) → u.far.tag ≢ n.tag
+  known own unused n is u i q = unbound x y h own unused (back u) (h.sides.far.bound u i) (q ∙ ap (λ (k : Name). k.tag) is)
 
   pub free-kept : EndMove y x z → IsFree x y → IsFree z y
   free-kept (moves.wants m) f = free-in x.phase (ap (λ (w : End). w.phase) m.after) f
   free-kept (moves.begins m) f =
-      free-in (CookieWait m.own) (ap (λ (w : End). w.phase) m.after) (known m.own (λ n i. m.fresh n (contains-from x.drawn n i)))
+      free-in (CookieWait m.own) (ap (λ (w : End). w.phase) m.after) (known m.own m.unused)
   free-kept (moves.renews m) f =
-      free-in (CookieWait m.own) (ap (λ (w : End). w.phase) m.after) (known m.own (λ n i. m.fresh n (contains-from x.drawn n i)))
+      free-in (CookieWait m.own) (ap (λ (w : End). w.phase) m.after) (known m.own m.unused)
   free-kept (moves.answers_anew m) f = free-in x.phase (ap (λ (w : End). w.phase) m.after) f
   free-kept (moves.answers_by_try m) f = free-in x.phase (ap (λ (w : End). w.phase) m.after) f
   free-kept (moves.echoes m) f =

@@ -1,18 +1,18 @@
 -- Moves by which no association opens and no cookie is echoed keep what holds of both sides.
 use Rattle.std.proofs.Common.{◌≡◌, ◌≢◌, ◌⊎◌, inl, inr, ℕ, true, false, ◌<◌, ◌≤◌, List, ◌∷◌, refl, ap, sym, ◌∙◌, subst, arith}
 use Rattle.sctp_moves.specs.Ends.{Name, Cookie, Answer, Closed, CookieWait}
-use Rattle.sctp_moves.specs.Moves.{IsTrying}
+use Rattle.sctp_moves.specs.Moves.{IsTrying, MayOpen}
 use Rattle.sctp_moves.proofs.Members.{In, in-more}
-use Rattle.sctp_moves.proofs.Sides.{Tie, tying, tie_of, Side, IsEchoed, IsUp, IsDown, wanted-true, up-down, echoed-trying}
+use Rattle.sctp_moves.proofs.Sides.{Tie, tying, back, tie_of, Side, IsBond, IsEchoed, IsUp, IsDown, wanted-true, up-down, echoed-trying}
 use Rattle.sctp_moves.proofs.Sides.{IsLive, IsAnswer, IsLatest, IsShut, Follows, Awaited, AreSides, tag_of, made, IsMore, other-side}
 
-pub names-fresh : (drawn : List Name) (own : Name) → ((n : Name) → In n drawn → n.tag ≢ own.tag) →
+pub names-more : (drawn : List Name) (own : Name) → ((n : Name) → In n drawn → n.tag ≡ own.tag → n ≡ own) →
     ((n m : Name) → In n drawn → In m drawn → n.tag ≡ m.tag → n ≡ m) →
     (n m : Name) → In n (own ∷ drawn) → In m (own ∷ drawn) → n.tag ≡ m.tag → n ≡ m
-names-fresh drawn own fresh old n m (inl i) (inl j) e = i ∙ sym j
-names-fresh drawn own fresh old n m (inl i) (inr j) e = absurd (fresh m j (sym e ∙ ap tag_of i))
-names-fresh drawn own fresh old n m (inr i) (inl j) e = absurd (fresh n i (e ∙ ap tag_of j))
-names-fresh drawn own fresh old n m (inr i) (inr j) e = old n m i j e
+names-more drawn own named old n m (inl i) (inl j) e = i ∙ sym j
+names-more drawn own named old n m (inl i) (inr j) e = i ∙ sym (named m j (sym e ∙ ap tag_of i))
+names-more drawn own named old n m (inr i) (inl j) e = named n i (e ∙ ap tag_of j) ∙ sym j
+names-more drawn own named old n m (inr i) (inr j) e = old n m i j e
 
 same-bonds : (x y : Side) → ((n : Name) → In n x.drawn → In n y.drawn) → ((a : Answer) → In a x.answers → In a y.answers) →
     y.echoes ≡ x.echoes → y.ties ≡ x.ties → IsMore x y
@@ -137,7 +137,8 @@ module _ (x y : Side) (h : AreSides x y) where
 
   -- ---- a try begins, or restarts
 
-  module _ (own : Name) (generation : ℕ) (fresh : (n : Name) → In n x.drawn → n.tag ≢ own.tag) where
+  module _ (own : Name) (generation : ℕ) (named : (n : Name) → In n x.drawn → n.tag ≡ own.tag → n ≡ own)
+      (unbound : (t : Tie) → IsBond x t → t.own.tag ≢ own.tag) where
     abbrev begun : Side
     begun = record x { generation = generation; drawn = own ∷ x.drawn; phase = CookieWait own; inits = own ∷ x.inits }
 
@@ -146,24 +147,26 @@ module _ (x y : Side) (h : AreSides x y) where
     shut-later l = (
       tt,
       (λ c i. omega (arith, (made x y h.near h.far c i).old, l)),
-      (λ n e u i q. fresh u.far (h.far.known u i) (q ∙ ap tag_of e)),
+      (λ n e u i q. unbound (back u) (h.far.bound u i) (q ∙ ap tag_of e)),
     )
 
     shut-still : x.generation ≤ generation → IsShut x y → IsShut begun y
     shut-still l s = (
       tt,
       (λ c i. omega (arith, s.1 c i, l)),
-      (λ n e u i q. fresh u.far (h.far.known u i) (q ∙ ap tag_of e)),
+      (λ n e u i q. unbound (back u) (h.far.bound u i) (q ∙ ap tag_of e)),
     )
 
-    pub keeps-try : x.generation ≤ generation → ((n : Name) → IsTrying x.phase n → x.generation < generation) → IsDown x.phase → x.wanted ≡ true → AreSides begun y
-    keeps-try le later down wanted = record {
+    -- what may open by a cookie of this generation then might have before
+    pub keeps-try : x.generation ≤ generation → ((n : Name) → IsTrying x.phase n → x.generation < generation) →
+        ((c : Cookie) → x.generation ≡ generation → MayOpen x.phase c) → IsDown x.phase → x.wanted ≡ true → AreSides begun y
+    keeps-try le later might down wanted = record {
       near = record {
-        names = names-fresh x.drawn own fresh h.near.names;
+        names = names-more x.drawn own named h.near.names;
         wanted = wanted;
         trying = λ n e. inl e;
-        alone = λ n e t i q. fresh t.own (h.near.own t i) (q ∙ ap tag_of e);
-        silent = λ n e c i q. fresh c.far (made y x h.far h.near c i).far (q ∙ ap tag_of e);
+        alone = λ n e t i q. unbound t (inr i) (q ∙ ap tag_of e);
+        silent = λ n e c i q. unbound (tie_of c) (inl (c, i, refl)) (q ∙ ap tag_of e);
         echoed = λ n m e. absurd e;
         own = λ t i. inr (h.near.own t i);
         known = h.near.known;
@@ -180,7 +183,9 @@ module _ (x y : Side) (h : AreSides x y) where
       far = other-side x y begun h.far (same-bonds x begun (λ n i. inr i) (λ a i. i) refl refl);
       follows = follows;
       follows_back = λ n m e. absurd e;
-      awaited = λ c i g may. absurd (fresh c.own (made x y h.near h.far c i).own may);
+      awaited = λ c i g may.
+          let same : x.generation ≡ generation = omega (arith, (made x y h.near h.far c i).old, le, g) in
+          h.awaited c i (g ∙ sym same) (might c same);
       awaited_back = waits;
       ordered = h.ordered;
       ordered_back = h.ordered_back;

@@ -22,9 +22,13 @@ use Rattle.sctp_moves.specs.Numbers.{modulus, window, number_of, cumulative, ste
 use Rattle.sctp_moves.specs.Ends.{Message, Name, Cookie, Answer, Chunk, Acknowledgement, Epoch, new_epoch}
 use Rattle.sctp_moves.specs.Ends.{Phase, Closed, CookieWait, CookieEchoed, Established, End, Ends}
 
--- no name with this tag was drawn before
-abbrev pub IsFresh : End → ℕ → Type 0
-IsFresh p tag = (name : Name) → Contains p.drawn name → name.tag ≢ tag
+-- no cookie was echoed, and no association opened, by a name with this tag; if the tag was drawn before, it was in this
+-- name. So a name that was offered in INIT ACK may be offered again, and may be that of the next try, until a cookie
+-- with it opens an association
+pub record IsUnused (p : End) (own : Name) : Type 0 where
+  pub named : (name : Name) → Contains p.drawn name → name.tag ≡ own.tag → name ≡ own
+  pub unechoed : (cookie : Cookie) → Contains p.echoes cookie → cookie.far.tag ≢ own.tag
+  pub unopened : (epoch : Epoch) → Contains p.epochs epoch → epoch.own.tag ≢ own.tag
 
 -- the end tries to open an association, by this name
 abbrev pub IsTrying : Phase → Name → Type 0
@@ -73,12 +77,12 @@ module _ (other p q : End) where
   pub record Wants : Type 0 where
     pub after : q ≡ record p { wanted = true }
 
-  -- a try begins: INIT with a new tag. The generation may grow
+  -- a try begins: INIT with an unused tag. The generation may grow
   pub record Begins : Type 0 where
     pub closed : p.phase ≡ Closed
     pub wanted : p.wanted ≡ true
     pub own : Name
-    pub fresh : IsFresh p own.tag
+    pub unused : IsUnused p own
     pub generation : ℕ
     pub later : p.generation ≤ generation
     pub after : q ≡ record p {
@@ -88,12 +92,12 @@ module _ (other p q : End) where
       inits = own ∷ p.inits;
     }
 
-  -- a try restarts: INIT with another new tag
+  -- a try restarts: INIT with another unused tag
   pub record Renews : Type 0 where
     pub old : Name
     pub trying : IsTrying p.phase old
     pub own : Name
-    pub fresh : IsFresh p own.tag
+    pub unused : IsUnused p own
     pub generation : ℕ
     pub later : p.generation < generation
     pub after : q ≡ record p {
@@ -103,12 +107,12 @@ module _ (other p q : End) where
       inits = own ∷ p.inits;
     }
 
-  -- INIT is answered with a new tag, and nothing is kept
+  -- INIT is answered with an unused tag, and nothing is kept
   pub record AnswersAnew : Type 0 where
     pub init : Name
     pub there : Contains other.inits init
     pub own : Name
-    pub fresh : IsFresh p own.tag
+    pub unused : IsUnused p own
     pub after : q ≡ record p { drawn = own ∷ p.drawn; answers = answer_to p.generation own init ∷ p.answers }
 
   -- INIT is answered with the name of the end's own try

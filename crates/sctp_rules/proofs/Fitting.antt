@@ -530,8 +530,7 @@ module _ (c : Settings) (ports : HasPorts c) where
   answered-anew : (b : Option Beginning) (k : Secrets) (now : ℕ) (source : Address) (init : InitValue) (s : State) → AreFit k → init.tag < 2 ^ 32 →
       If IsBeginning b → Kept c s.association → Puts c (opening.answered_anew_with c k now source init b s)
   answered-anew None k now source init s fits t h kept = silently s kept
-  answered-anew (Some b) k now source init s fits t h kept =
-      answered-with k now source init b (record s { beginnings = s.beginnings + 1 }) fits t h kept
+  answered-anew (Some b) k now source init s fits t h kept = answered-with k now source init b s fits t h kept
 
   answered-alike : (k : Secrets) (now : ℕ) (source : Address) (init : InitValue) (s : State) → AreFit k → init.tag < 2 ^ 32 →
       Kept c s.association → Puts c (opening.answered_alike c k now source init s)
@@ -726,36 +725,33 @@ module _ (c : Settings) (ports : HasPorts c) where
       let left : State = record s { generation = s.generation + 1; association = no_association c } in
       and-then (silent left) (λ x. opening.stale c source 1 cookie x) (silently left kept-none) (λ x q. stale source 1 cookie x h q)
 
-  echo-in-try : (now : ℕ) (source : Address) (cookie : Cookie) (s : State) → HasTags cookie → Kept c s.association →
-      Puts c (opening.echo_in_try c now source cookie s).does
-  echo-in-try now source cookie s h kept =
+  echo-in-try : (now : ℕ) (source : Address) (cookie : Cookie) (s : State) → HasTags cookie → Puts c (opening.echo_in_try c now source cookie s).does
+  echo-in-try now source cookie s h =
       let a : Association = s.association in
-      let gives-up : opening.Echo = opening.stops (opening.given_up c source cookie s) in
       echo-either (opening.is_own cookie a && opening.is_far cookie a) (opening.opened_by c now source cookie s)
-      (if opening.is_own cookie a || opening.is_tied cookie a then gives-up else opening.stops (silent s))
-      (opened-by now source cookie s h)
-      (echo-either (opening.is_own cookie a || opening.is_tied cookie a) gives-up (opening.stops (silent s))
-      (given-up source cookie s h) (silently s kept))
+      (opening.stops (opening.given_up c source cookie s)) (opened-by now source cookie s h) (given-up source cookie s h)
 
-  good-echo : (phase : Phase) (now : ℕ) (source : Address) (cookie : Cookie) (s : State) → HasTags cookie → Kept c s.association →
-      Puts c (opening.good_echo_in phase c now source cookie s).does
-  good-echo Closed now source cookie s h kept =
-      echo-either s.is_wanted (opening.opened_by c now source cookie s) (opening.stops (silent s)) (opened-by now source cookie s h) (silently s kept)
-  good-echo CookieWait now source cookie s h kept =
+  good-echo : (phase : Phase) (k : Secrets) (now : ℕ) (source : Address) (cookie : Cookie) (s : State) → HasTags cookie → Kept c s.association →
+      Puts c (opening.good_echo_in phase c k now source cookie s).does
+  good-echo Closed k now source cookie s h kept =
+      echo-either (s.is_wanted && opening.is_next (k.beginning s.beginnings) cookie.own_tag)
+      (opening.opened_by c now source cookie (opening.drawn_next s)) (opening.stops (silent s))
+      (opened-by now source cookie (opening.drawn_next s) h) (silently s kept)
+  good-echo CookieWait k now source cookie s h kept =
       echo-either (opening.is_own cookie s.association) (opening.opened_by c now source cookie s) (opening.stops (silent s))
       (opened-by now source cookie s h) (silently s kept)
-  good-echo CookieEchoed now source cookie s h kept = echo-in-try now source cookie s h kept
-  good-echo Established now source cookie s h kept = echo-in Established source cookie s h kept
-  good-echo ShutdownPending now source cookie s h kept = echo-in ShutdownPending source cookie s h kept
-  good-echo ShutdownSent now source cookie s h kept = echo-in ShutdownSent source cookie s h kept
-  good-echo ShutdownReceived now source cookie s h kept = echo-in ShutdownReceived source cookie s h kept
-  good-echo ShutdownAckSent now source cookie s h kept = echo-in ShutdownAckSent source cookie s h kept
+  good-echo CookieEchoed k now source cookie s h kept = echo-in-try now source cookie s h
+  good-echo Established k now source cookie s h kept = echo-in Established source cookie s h kept
+  good-echo ShutdownPending k now source cookie s h kept = echo-in ShutdownPending source cookie s h kept
+  good-echo ShutdownSent k now source cookie s h kept = echo-in ShutdownSent source cookie s h kept
+  good-echo ShutdownReceived k now source cookie s h kept = echo-in ShutdownReceived source cookie s h kept
+  good-echo ShutdownAckSent k now source cookie s h kept = echo-in ShutdownAckSent source cookie s h kept
 
-  heard-cookie : (now : ℕ) (source : Address) (cookie : Cookie) (s : State) → HasTags cookie → Kept c s.association →
-      Puts c (opening.heard_cookie c now source cookie s).does
-  heard-cookie now source cookie s h kept =
+  heard-cookie : (k : Secrets) (now : ℕ) (source : Address) (cookie : Cookie) (s : State) → HasTags cookie → Kept c s.association →
+      Puts c (opening.heard_cookie c k now source cookie s).does
+  heard-cookie k now source cookie s h kept =
       let a : Association = s.association in
-      let good : opening.Echo = opening.good_echo_in a.phase c now source cookie s in
+      let good : opening.Echo = opening.good_echo_in a.phase c k now source cookie s in
       let old : opening.Echo = opening.stops (opening.stale c source 1 cookie s) in
       let late : opening.Echo = opening.stops (opening.stale c source (opening.staleness now cookie) cookie s) in
       let fresh : opening.Echo = if nat_eq cookie.generation s.generation then good else old in
@@ -764,14 +760,14 @@ module _ (c : Settings) (ports : HasPorts c) where
       (silently (state.with_association s (ending.with_answer_first packets.CookieAckChunk a))
       (with-answer-first packets.CookieAckChunk a (λ l. cookie-ack-chunk) kept))
       (echo-either (nat_lt cookie.life (now - cookie.made)) late fresh (stale source (opening.staleness now cookie) cookie s h kept)
-      (echo-either (nat_eq cookie.generation s.generation) good old (good-echo a.phase now source cookie s h kept) (stale source 1 cookie s h kept)))
+      (echo-either (nat_eq cookie.generation s.generation) good old (good-echo a.phase k now source cookie s h kept) (stale source 1 cookie s h kept)))
 
-  heard-echo : (cookie : Option Cookie) (now tag : ℕ) (source : Address) (s : State) → If HasTags cookie → Kept c s.association →
-      Puts c (opening.heard_echo_of cookie c now tag source s).does
-  heard-echo None now tag source s h kept = silently s kept
-  heard-echo (Some cookie) now tag source s h kept =
-      echo-either (nat_eq cookie.own_tag tag && nat_eq cookie.peer_port c.far_port) (opening.heard_cookie c now source cookie s)
-      (opening.stops (silent s)) (heard-cookie now source cookie s h kept) (silently s kept)
+  heard-echo : (cookie : Option Cookie) (k : Secrets) (now tag : ℕ) (source : Address) (s : State) → If HasTags cookie → Kept c s.association →
+      Puts c (opening.heard_echo_of cookie c k now tag source s).does
+  heard-echo None k now tag source s h kept = silently s kept
+  heard-echo (Some cookie) k now tag source s h kept =
+      echo-either (nat_eq cookie.own_tag tag && nat_eq cookie.peer_port c.far_port) (opening.heard_cookie c k now source cookie s)
+      (opening.stops (silent s)) (heard-cookie k now source cookie s h kept) (silently s kept)
 
   -- ---- ERROR comes
 
@@ -1069,7 +1065,7 @@ module _ (c : Settings) (ports : HasPorts c) where
         heard-init k now source init s fits (All-head HasNumbers (packets.InitChunk init) more h) kept
     heard-first (packets.CookieEchoChunk cookie) now source tag more s t h kept =
         after-echo now source tag more (opening.heard_cookie_echo c k now tag source cookie s) (All-tail HasNumbers (packets.CookieEchoChunk cookie) more h)
-        (heard-echo (k.cookie_in cookie) now tag source s (fits.cookies cookie) kept)
+        (heard-echo (k.cookie_in cookie) k now tag source s (fits.cookies cookie) kept)
     heard-first (packets.MalformedChunk kind) now source tag more s t h kept =
         either (nat_eq kind 1) (silent s) (arriving.heard_otherwise c k now source tag (packets.MalformedChunk kind) more s) (silently s kept)
         (otherwise now source tag (packets.MalformedChunk kind) more s t h kept)

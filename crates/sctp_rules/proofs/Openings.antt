@@ -132,9 +132,9 @@ other-generation : (m n : ℕ) → m ≢ n → nat_eq m n ≡ false
 other-generation m n h = grind (arith, nat_tests, h)
 
 pub cookies-open : cookies_open_in_their_generation
-cookies-open c now source cookie s h =
+cookies-open c k now source cookie s h =
     let a = s.association in
-    let good : opening.Echo = opening.good_echo_in a.phase c now source cookie s in
+    let good : opening.Echo = opening.good_echo_in a.phase c k now source cookie s in
     let old : opening.Echo = opening.stops (opening.stale c source 1 cookie s) in
     let late : opening.Echo = opening.stops (opening.stale c source (opening.staleness now cookie) cookie s) in
     let fresh : opening.Echo = if nat_eq cookie.generation s.generation then good else old in

@@ -641,8 +641,7 @@ module _ {A : Arrivals} {R : State → Done → Type 0} (steps : AreSteps A R) w
   answered-anew : (c : Settings) (k : Secrets) (now : ℕ) (source : Address) (init : InitValue) (b : Option Beginning) (s : State) →
       Right s → Passes R s (opening.answered_anew_with c k now source init b s)
   answered-anew c k now source init None s r = stays s r
-  answered-anew c k now source init (Some b) s r =
-      putting c source init.tag _ s (record s { beginnings = s.beginnings + 1 }) tt (unmoved s r)
+  answered-anew c k now source init (Some b) s r = answered-with c k now source init b s r
 
   answered-echoed : (c : Settings) (k : Secrets) (now : ℕ) (source : Address) (init : InitValue) (s : State) → Right s →
       Passes R s (opening.answered_echoed c k now source init s)
@@ -839,43 +838,52 @@ module _ {A : Arrivals} {R : State → Done → Type 0} (steps : AreSteps A R) w
       (λ x q. stale c source 1 cookie x q)
 
   echo-in-try : (c : Settings) (now tag : ℕ) (source : Address) (cookie : Cookie) (s : State) → cookie.own_tag ≡ tag → A.tag cookie.own_tag →
-      s.association.is_up ≡ false → s.is_wanted ≡ true → Right s → Echoes tag s (opening.echo_in_try c now source cookie s)
-  echo-in-try c now tag source cookie s same t d w r =
+      s.association.is_up ≡ false → s.is_wanted ≡ true → Echoes tag s (opening.echo_in_try c now source cookie s)
+  echo-in-try c now tag source cookie s same t d w =
       let a : Association = s.association in
       let gives-up : opening.Echo = opening.stops (opening.given_up c source cookie s) in
-      echo-either (opening.is_own cookie a && opening.is_far cookie a) tag s (opening.opened_by c now source cookie s)
-      (if opening.is_own cookie a || opening.is_tied cookie a then gives-up else nothing s)
+      echo-either (opening.is_own cookie a && opening.is_far cookie a) tag s (opening.opened_by c now source cookie s) gives-up
       (opened-by c now tag source cookie s same t d w)
-      (echo-either (opening.is_own cookie a || opening.is_tied cookie a) tag s gives-up (nothing s)
-      (echo-stops tag s (opening.given_up c source cookie s) (given-up c source cookie s d w)) (echo-stops tag s (silent s) (stays s r)))
+      (echo-stops tag s (opening.given_up c source cookie s) (given-up c source cookie s d w))
 
-  good-echo : (phase : Phase) (c : Settings) (now tag : ℕ) (source : Address) (cookie : Cookie) (s : State) →
+  echo-without-try : (c : Settings) (k : Secrets) (now tag : ℕ) (source : Address) (cookie : Cookie) (s : State) → cookie.own_tag ≡ tag →
+      A.tag cookie.own_tag → s.association.is_up ≡ false → Right s → Echoes tag s (opening.echo_without_try c k now source cookie s)
+  echo-without-try c k now tag source cookie s same t d r =
+      let drawn : State = opening.drawn_next s in
+      let opens : opening.Echo = opening.opened_by c now source cookie drawn in
+      let is-next : Bool = opening.is_next (k.beginning s.beginnings) cookie.own_tag in
+      echo-either-so (s.is_wanted && is-next) tag s opens (nothing s)
+      (λ e.
+      let g : Echoes tag drawn opens = opened-by c now tag source cookie drawn same t d (both-true s.is_wanted is-next e) in
+      record { passes = moved s drawn opens.does (unmoved s r) g.passes; tag_is = g.tag_is })
+      (echo-stops tag s (silent s) (stays s r))
+
+  good-echo : (phase : Phase) (c : Settings) (k : Secrets) (now tag : ℕ) (source : Address) (cookie : Cookie) (s : State) →
       s.association.phase ≡ phase → cookie.own_tag ≡ tag → A.tag cookie.own_tag → Right s →
-      Echoes tag s (opening.good_echo_in phase c now source cookie s)
-  good-echo Closed c now tag source cookie s e same t r =
-      echo-either-so s.is_wanted tag s (opening.opened_by c now source cookie s) (nothing s)
-      (λ w. opened-by c now tag source cookie s same t (r.right.down (ap opening.is_there e)) w) (echo-stops tag s (silent s) (stays s r))
-  good-echo CookieWait c now tag source cookie s e same t r =
+      Echoes tag s (opening.good_echo_in phase c k now source cookie s)
+  good-echo Closed c k now tag source cookie s e same t r =
+      echo-without-try c k now tag source cookie s same t (r.right.down (ap opening.is_there e)) r
+  good-echo CookieWait c k now tag source cookie s e same t r =
       echo-either (opening.is_own cookie s.association) tag s (opening.opened_by c now source cookie s) (nothing s)
       (opened-by c now tag source cookie s same t (r.right.down (ap opening.is_there e)) (r.right.waiting (ap opening.is_waiting e))) (echo-stops tag s (silent s) (stays s r))
-  good-echo CookieEchoed c now tag source cookie s e same t r =
-      echo-in-try c now tag source cookie s same t (r.right.down (ap opening.is_there e)) (r.right.echoed (ap opening.is_echoed e)) r
-  good-echo Established c now tag source cookie s e same t r = echo-in Established c tag source cookie s r
-  good-echo ShutdownPending c now tag source cookie s e same t r = echo-in ShutdownPending c tag source cookie s r
-  good-echo ShutdownSent c now tag source cookie s e same t r = echo-in ShutdownSent c tag source cookie s r
-  good-echo ShutdownReceived c now tag source cookie s e same t r = echo-in ShutdownReceived c tag source cookie s r
-  good-echo ShutdownAckSent c now tag source cookie s e same t r = echo-in ShutdownAckSent c tag source cookie s r
+  good-echo CookieEchoed c k now tag source cookie s e same t r =
+      echo-in-try c now tag source cookie s same t (r.right.down (ap opening.is_there e)) (r.right.echoed (ap opening.is_echoed e))
+  good-echo Established c k now tag source cookie s e same t r = echo-in Established c tag source cookie s r
+  good-echo ShutdownPending c k now tag source cookie s e same t r = echo-in ShutdownPending c tag source cookie s r
+  good-echo ShutdownSent c k now tag source cookie s e same t r = echo-in ShutdownSent c tag source cookie s r
+  good-echo ShutdownReceived c k now tag source cookie s e same t r = echo-in ShutdownReceived c tag source cookie s r
+  good-echo ShutdownAckSent c k now tag source cookie s e same t r = echo-in ShutdownAckSent c tag source cookie s r
 
   own-tag : (there own far : Bool) → (there && own && far) ≡ true → own ≡ true
   own-tag true true far e = refl
   own-tag true false far e = absurd (cc)
   own-tag false own far e = absurd (cc)
 
-  heard-cookie : (c : Settings) (now tag : ℕ) (source : Address) (cookie : Cookie) (s : State) → cookie.own_tag ≡ tag → A.tag cookie.own_tag → Right s →
-      Echoes tag s (opening.heard_cookie c now source cookie s)
-  heard-cookie c now tag source cookie s same t r =
+  heard-cookie : (c : Settings) (k : Secrets) (now tag : ℕ) (source : Address) (cookie : Cookie) (s : State) → cookie.own_tag ≡ tag → A.tag cookie.own_tag → Right s →
+      Echoes tag s (opening.heard_cookie c k now source cookie s)
+  heard-cookie c k now tag source cookie s same t r =
       let a : Association = s.association in
-      let good : opening.Echo = opening.good_echo_in a.phase c now source cookie s in
+      let good : opening.Echo = opening.good_echo_in a.phase c k now source cookie s in
       let stale-now : Done = opening.stale c source 1 cookie s in
       let stale-late : Done = opening.stale c source (opening.staleness now cookie) cookie s in
       let old : opening.Echo = opening.stops stale-now in
@@ -888,18 +896,18 @@ module _ {A : Arrivals} {R : State → Done → Type 0} (steps : AreSteps A R) w
       (echo-either (nat_lt cookie.life (now - cookie.made)) tag s late fresh
       (echo-stops tag s stale-late (stale c source (opening.staleness now cookie) cookie s r))
       (echo-either (nat_eq cookie.generation s.generation) tag s good old
-      (good-echo a.phase c now tag source cookie s refl same t r) (echo-stops tag s stale-now (stale c source 1 cookie s r))))
+      (good-echo a.phase c k now tag source cookie s refl same t r) (echo-stops tag s stale-now (stale c source 1 cookie s r))))
 
-  heard-echo : (cookie : Option Cookie) (c : Settings) (now tag : ℕ) (source : Address) (s : State) → A.tag tag → Right s →
-      Echoes tag s (opening.heard_echo_of cookie c now tag source s)
-  heard-echo None c now tag source s t r = echo-stops tag s (silent s) (stays s r)
-  heard-echo (Some cookie) c now tag source s t r =
+  heard-echo : (cookie : Option Cookie) (c : Settings) (k : Secrets) (now tag : ℕ) (source : Address) (s : State) → A.tag tag → Right s →
+      Echoes tag s (opening.heard_echo_of cookie c k now tag source s)
+  heard-echo None c k now tag source s t r = echo-stops tag s (silent s) (stays s r)
+  heard-echo (Some cookie) c k now tag source s t r =
       echo-either-so (nat_eq cookie.own_tag tag && nat_eq cookie.peer_port c.far_port) tag s
-      (opening.heard_cookie c now source cookie s) (nothing s)
+      (opening.heard_cookie c k now source cookie s) (nothing s)
       (λ e.
       let same : cookie.own_tag ≡ tag =
       same-number cookie.own_tag tag (both-true (nat_eq cookie.own_tag tag) (nat_eq cookie.peer_port c.far_port) e) in
-      heard-cookie c now tag source cookie s same (subst A.tag (sym same) t) r)
+      heard-cookie c k now tag source cookie s same (subst A.tag (sym same) t) r)
       (echo-stops tag s (silent s) (stays s r))
 
   begun-after-stale : (c : Settings) (k : Secrets) (now : ℕ) (t : Option Try) (s : State) → s.association.is_up ≡ false →
@@ -1300,7 +1308,7 @@ module _ {A : Arrivals} {R : State → Done → Type 0} (steps : AreSteps A R) w
   heard-first c k now source tag (packets.InitChunk init) more s h t r = heard-init c k now source init s r
   heard-first c k now source tag (packets.CookieEchoChunk cookie) more s h t r =
       after-echo c k now source tag more s (opening.heard_cookie_echo c k now tag source cookie s) h.1 t
-      (heard-echo (k.cookie_in cookie) c now tag source s t r)
+      (heard-echo (k.cookie_in cookie) c k now tag source s t r)
   heard-first c k now source tag (packets.MalformedChunk kind) more s h t r =
       either (nat_eq kind 1) s (silent s) (arriving.heard_otherwise c k now source tag (packets.MalformedChunk kind) more s)
       (stays s r) (otherwise c k now source tag (packets.MalformedChunk kind) more s h t r)

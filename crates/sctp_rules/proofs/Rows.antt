@@ -117,6 +117,42 @@ pub cookie_of_a_former_try_is_stale : rows.cookie_of_a_former_try_is_stale
 unfolding after going drained run_from blocks_from lost_from named_below passed_below given next_place gone_again gone_first confirmation confirmed settled acknowledged after_t3 stopped
 cookie_of_a_former_try_is_stale = record { phase_is = refl; sent_is = refl; told_is = refl }
 
+pub stranger_is_offered_a_tag : rows.stranger_is_offered_a_tag
+unfolding after going drained run_from blocks_from lost_from named_below passed_below given next_place gone_again gone_first confirmation confirmed settled acknowledged after_t3 stopped
+stranger_is_offered_a_tag = refl
+
+pub peer_is_offered_the_same : rows.peer_is_offered_the_same
+unfolding after going drained run_from blocks_from lost_from named_below passed_below given next_place gone_again gone_first confirmation confirmed settled acknowledged after_t3 stopped
+peer_is_offered_the_same = refl
+
+pub no_tag_is_drawn : rows.no_tag_is_drawn
+unfolding after going drained run_from blocks_from lost_from named_below passed_below given next_place gone_again gone_first confirmation confirmed settled acknowledged after_t3 stopped
+no_tag_is_drawn = refl
+
+pub tag_is_drawn_as_the_cookie_opens : rows.tag_is_drawn_as_the_cookie_opens
+unfolding after going drained run_from blocks_from lost_from named_below passed_below given next_place gone_again gone_first confirmation confirmed settled acknowledged after_t3 stopped
+tag_is_drawn_as_the_cookie_opens = refl
+
+pub next_tag_is_offered : rows.next_tag_is_offered
+unfolding after going drained run_from blocks_from lost_from named_below passed_below given next_place gone_again gone_first confirmation confirmed settled acknowledged after_t3 stopped
+next_tag_is_offered = refl
+
+pub cookie_of_the_offer_opens : rows.cookie_of_the_offer_opens
+unfolding after going drained run_from blocks_from lost_from named_below passed_below given next_place gone_again gone_first confirmation confirmed settled acknowledged after_t3 stopped
+cookie_of_the_offer_opens = record { phase_is = refl; sent_is = refl; told_is = refl }
+
+pub cookie_of_another_offer_is_dropped : rows.cookie_of_another_offer_is_dropped
+unfolding after going drained run_from blocks_from lost_from named_below passed_below given next_place gone_again gone_first confirmation confirmed settled acknowledged after_t3 stopped
+cookie_of_another_offer_is_dropped = record { phase_is = refl; sent_is = refl; told_is = refl }
+
+pub try_takes_the_offer : rows.try_takes_the_offer
+unfolding after going drained run_from blocks_from lost_from named_below passed_below given next_place gone_again gone_first confirmation confirmed settled acknowledged after_t3 stopped
+try_takes_the_offer = refl
+
+pub cookie_made_before_opens_the_try : rows.cookie_made_before_opens_the_try
+unfolding after going drained run_from blocks_from lost_from named_below passed_below given next_place gone_again gone_first confirmation confirmed settled acknowledged after_t3 stopped
+cookie_made_before_opens_the_try = record { phase_is = refl; sent_is = refl; told_is = refl }
+
 pub cookie_is_acknowledged_again : rows.cookie_is_acknowledged_again
 unfolding after going drained run_from blocks_from lost_from named_below passed_below given next_place gone_again gone_first confirmation confirmed settled acknowledged after_t3 stopped
 cookie_is_acknowledged_again = record { phase_is = refl; sent_is = refl; told_is = refl }

@@ -164,11 +164,11 @@ answered_with c k now source init b s =
     put c source init.tag
     (InitAckChunk (init_of b (answering (k.signed (cookie_for c now s b init)) init.parameters)) ∷ []) s
 
--- the same with a new tag and first TSN; nothing else is kept. If no tag is left there is no answer
+-- the same with the next tag and first TSN. Nothing is kept: both stay the next until a cookie with them opens, or a try
+-- takes them. So however many INITs come, no tag is used up. If none is left there is no answer
 abbrev pub answered_anew_with : Settings → Secrets → (now : ℕ) → Address → InitValue → Option Beginning → State → Done
 answered_anew_with c k now source init None s = silent s
-answered_anew_with c k now source init (Some b) s =
-    answered_with c k now source init b (record s { beginnings = s.beginnings + 1 })
+answered_anew_with c k now source init (Some b) s = answered_with c k now source init b s
 
 abbrev pub answered_anew : Settings → Secrets → (now : ℕ) → Address → InitValue → State → Done
 answered_anew c k now source init s = answered_anew_with c k now source init (k.beginning s.beginnings) s
@@ -366,25 +366,36 @@ given_up c source cookie s =
     followed_by (silent (record s { generation = s.generation + 1; association = no_association c }))
     (stale c source 1 cookie)
 
--- in COOKIE-ECHOED: a cookie with the peer's tag opens. Of any other peer tag are those that this end has made in this
--- try for another INIT. Who echoes one has heard this end, so it is no INIT in the peer's name
+-- without a try, a cookie has the next tag; as it opens, that is drawn
+abbrev pub is_next : Option Beginning → (tag : ℕ) → Bool
+is_next None tag = false
+is_next (Some b) tag = nat_eq tag b.tag
+
+abbrev pub drawn_next : State → State
+drawn_next s = record s { beginnings = s.beginnings + 1 }
+
+abbrev pub echo_without_try : Settings → Secrets → (now : ℕ) → Address → Cookie → State → Echo
+echo_without_try c k now source cookie s =
+    if s.is_wanted && is_next (k.beginning s.beginnings) cookie.own_tag
+    then opened_by c now source cookie (drawn_next s)
+    else stops (silent s)
+
+-- in COOKIE-ECHOED: a cookie with the peer's tag opens. Any other is one that this end made for another INIT. Who echoes
+-- it has heard this end, so that was no INIT in the peer's name
 abbrev pub echo_in_try : Settings → (now : ℕ) → Address → Cookie → State → Echo
 echo_in_try c now source cookie s =
     if is_own cookie s.association && is_far cookie s.association
     then opened_by c now source cookie s
-    else (if is_own cookie s.association || is_tied cookie s.association
-    then stops (given_up c source cookie s)
-    else stops (silent s))
+    else stops (given_up c source cookie s)
 
 -- a good cookie, by the state (§5.2.4). In COOKIE-WAIT its own tag must be that of the try; any other is of a try that
 -- the peer gave up
-abbrev pub good_echo_in : Phase → Settings → (now : ℕ) → Address → Cookie → State → Echo
-good_echo_in Closed c now source cookie s =
-    if s.is_wanted then opened_by c now source cookie s else stops (silent s)
-good_echo_in CookieWait c now source cookie s =
+abbrev pub good_echo_in : Phase → Settings → Secrets → (now : ℕ) → Address → Cookie → State → Echo
+good_echo_in Closed c k now source cookie s = echo_without_try c k now source cookie s
+good_echo_in CookieWait c k now source cookie s =
     if is_own cookie s.association then opened_by c now source cookie s else stops (silent s)
-good_echo_in CookieEchoed c now source cookie s = echo_in_try c now source cookie s
-good_echo_in phase c now source cookie s = echo_in_association phase c source cookie s
+good_echo_in CookieEchoed c k now source cookie s = echo_in_try c now source cookie s
+good_echo_in phase c k now source cookie s = echo_in_association phase c source cookie s
 
 abbrev pub is_there : Phase → Bool
 is_there phase = not (is_closed phase || is_waiting phase || is_echoed phase)
@@ -394,26 +405,26 @@ abbrev pub staleness : (now : ℕ) → Cookie → ℕ
 staleness now cookie = min (1000 * (now - cookie.made - cookie.life)) (2 ^ 32 - 1)
 
 -- a cookie is good within its life and its generation: it opens one association at most
-abbrev pub heard_cookie : Settings → (now : ℕ) → Address → Cookie → State → Echo
-heard_cookie c now source cookie s =
+abbrev pub heard_cookie : Settings → Secrets → (now : ℕ) → Address → Cookie → State → Echo
+heard_cookie c k now source cookie s =
     if is_there s.association.phase && is_own cookie s.association && is_far cookie s.association
     then acknowledged_again s
     else (if nat_lt cookie.life (now - cookie.made)
     then stops (stale c source (staleness now cookie) cookie s)
     else (if nat_eq cookie.generation s.generation
-    then good_echo_in s.association.phase c now source cookie s
+    then good_echo_in s.association.phase c k now source cookie s
     else stops (stale c source 1 cookie s)))
 
 -- its signature must be right, and its own tag and port must be the packet's
-abbrev pub heard_echo_of : Option Cookie → Settings → (now tag : ℕ) → Address → State → Echo
-heard_echo_of None c now tag source s = stops (silent s)
-heard_echo_of (Some cookie) c now tag source s =
+abbrev pub heard_echo_of : Option Cookie → Settings → Secrets → (now tag : ℕ) → Address → State → Echo
+heard_echo_of None c k now tag source s = stops (silent s)
+heard_echo_of (Some cookie) c k now tag source s =
     if nat_eq cookie.own_tag tag && nat_eq cookie.peer_port c.far_port
-    then heard_cookie c now source cookie s
+    then heard_cookie c k now source cookie s
     else stops (silent s)
 
 abbrev pub heard_cookie_echo : Settings → Secrets → (now tag : ℕ) → Address → List ℕ → State → Echo
-heard_cookie_echo c k now tag source cookie s = heard_echo_of (k.cookie_in cookie) c now tag source s
+heard_cookie_echo c k now tag source cookie s = heard_echo_of (k.cookie_in cookie) c k now tag source s
 
 -- ---- ERROR comes (§5.2.6, §8.4)
 

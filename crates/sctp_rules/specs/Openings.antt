@@ -28,8 +28,9 @@ generations_grow =
 -- and a cookie opens only in its own generation
 abbrev pub cookies_open_in_their_generation : Type 0
 cookies_open_in_their_generation =
-    (c : Settings) (now : ℕ) (source : Address) (cookie : Cookie) (s : State) → cookie.generation ≢ s.generation →
-    openings (heard_cookie c now source cookie s).does.told ≡ 0
+    (c : Settings) (k : Secrets) (now : ℕ) (source : Address) (cookie : Cookie) (s : State) →
+    cookie.generation ≢ s.generation →
+    openings (heard_cookie c k now source cookie s).does.told ≡ 0
 
 -- INIT and COOKIE ECHO, which have tags of their own
 abbrev pub has_own_rule : ChunkValue → Bool

@@ -5,7 +5,7 @@ use Rattle.sctp_sending.specs.Outgoing.{Message}
 use Rattle.sctp_cookie.specs.declared.cookie.Cookie.{Cookie}
 use Rattle.sctp_codec.specs.Packets.{ChunkValue, PacketValue, kind_of, SackChunk, HeartbeatChunk, CookieAckChunk}
 use Rattle.sctp_codec.specs.Packets.{AbortChunk, ShutdownAckChunk, InitChunk, InitAckChunk, HeartbeatAckChunk}
-use Rattle.sctp_codec.specs.Packets.{InitValue}
+use Rattle.sctp_codec.specs.Packets.{InitValue, CookieEchoChunk}
 use Rattle.sctp_codec.specs.Packets.{UnknownChunk, DataChunk, ErrorChunk, ShutdownChunk, ShutdownCompleteChunk}
 use Rattle.sctp_codec.specs.Parameters.{information_of, state_cookie}
 use Rattle.sctp_rules.specs.declared.phase.Phase.TheVariants.{Closed, CookieWait, CookieEchoed, Established}
@@ -313,6 +313,72 @@ abbrev pub cookie_of_a_former_try_is_stale : Type 0
 cookie_of_a_former_try_is_stale =
     let tries_later = near (Opens 6 true) (near Aborts answers_new_try.left).left in
     Does (near (comes 7 (packet new_try_echoes)) tries_later.left) CookieWait ((9 ∷ []) ∷ []) []
+
+-- ---- no INIT uses up a tag: the next one is offered until a cookie opens with it, or a try takes it
+
+abbrev pub answers_a_stranger : Done
+answers_a_stranger = far (comes 1 init_of_a_stranger) waits.left
+
+abbrev pub answers_after_a_stranger : Done
+answers_after_a_stranger = far (comes 2 (packet tries)) answers_a_stranger.left
+
+abbrev pub stranger_is_offered_a_tag : Type 0
+stranger_is_offered_a_tag = offer answers_a_stranger ≡ 20
+
+abbrev pub peer_is_offered_the_same : Type 0
+peer_is_offered_the_same = offer answers_after_a_stranger ≡ 20
+
+abbrev pub no_tag_is_drawn : Type 0
+no_tag_is_drawn = answers_after_a_stranger.left.beginnings ≡ 0
+
+abbrev pub tag_is_drawn_as_the_cookie_opens : Type 0
+tag_is_drawn_as_the_cookie_opens = opens_first.left.beginnings ≡ 1
+
+-- which is what the next INIT is told
+abbrev pub next_tag_is_offered : Type 0
+next_tag_is_offered = offer (far (comes 4 init_of_a_stranger) opens_first.left) ≡ 21
+
+-- a cookie with another tag than the next one opens nothing
+abbrev pub cookie_of_another_offer : Cookie
+cookie_of_another_offer = record {
+  made = 1;
+  generation = 0;
+  own_tag = 21;
+  peer_tag = 10;
+  own_first_tsn = 100;
+  peer_first_tsn = 100;
+  peer_window = 65536;
+  peer_outgoing_streams = 2;
+  peer_incoming_streams = 2;
+  tie_own_tag = 0;
+  tie_peer_tag = 0;
+  life = 60000;
+  peer_port = 3565;
+}
+
+abbrev pub echo_with : (tag : ℕ) → PacketValue
+echo_with tag = of_chunk tag (CookieEchoChunk (fields (record cookie_of_another_offer { own_tag = tag })))
+
+abbrev pub cookie_of_the_offer_opens : Type 0
+cookie_of_the_offer_opens = Does (far (comes 3 (echo_with 20)) waits.left) Established [] (Up ∷ [])
+
+abbrev pub cookie_of_another_offer_is_dropped : Type 0
+cookie_of_another_offer_is_dropped = Does (far (comes 3 (echo_with 21)) waits.left) Closed [] []
+
+-- an end that waits, and then tries, takes what it has offered; and a cookie of that offer opens the try
+abbrev pub waits_before_it_tries : Done
+waits_before_it_tries = near (comes 5 (packet other_tries)) (near (Opens 0 false) new).left
+
+abbrev pub tries_by_the_offer : Done
+tries_by_the_offer = near (Opens 6 true) waits_before_it_tries.left
+
+abbrev pub try_takes_the_offer : Type 0
+try_takes_the_offer = tries_by_the_offer.left.association.own_tag ≡ offer waits_before_it_tries
+
+abbrev pub cookie_made_before_opens_the_try : Type 0
+cookie_made_before_opens_the_try =
+    let echo = other (comes 6 (packet waits_before_it_tries)) other_tries.left in
+    Does (near (comes 7 (packet echo)) tries_by_the_offer.left) Established [] (Up ∷ [])
 
 -- the COOKIE ACK was lost
 abbrev pub cookie_is_acknowledged_again : Type 0

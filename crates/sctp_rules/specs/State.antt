@@ -58,7 +58,7 @@ pub record State : Type 0 where
   pub is_wanted : Bool
   -- how often an association opened or ended, and a try of one restarted or ended
   pub generation : ℕ
-  -- how many beginnings and heartbeat numbers were drawn
+  -- how many beginnings were drawn, for tries and associations, and how many heartbeat numbers
   pub beginnings : ℕ
   pub nonces : ℕ
   pub association : Association

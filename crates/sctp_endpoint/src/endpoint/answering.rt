@@ -30,17 +30,17 @@ use sctp_rules::Phase;
 use sctp_rules::limits::{HOST_NAME_OCTETS, STREAMS};
 
 impl Endpoint {
-    /// INIT came. One without a tag is dropped.
+    /// INIT came. One without a tag is dropped. Whoever sent it, nothing changes here.
     pub(super) fn hear_init<W: Watch>(
-        &mut self,
+        &self,
         source: &Address,
         init: &Init<'_>,
         now: u64,
         watch: &mut W,
     )
-        ensures { Does W.has watch.old watch.new self.old self.new
-            (heard_init self.old.settings (secrets_of self.old) now (address_of source.now) (init_of init.now)
-            self.old.state) }
+        ensures { Does W.has watch.old watch.new self.now self.now
+            (heard_init self.now.settings (secrets_of self.now) now (address_of source.now) (init_of init.now)
+            self.now.state) }
     {
         if init.offer.tag == 0 {
             return;
@@ -52,10 +52,10 @@ impl Endpoint {
     }
 
     /// An INIT without a host name: one with too few streams is refused.
-    fn judge_init<W: Watch>(&mut self, source: &Address, init: &Init<'_>, now: u64, watch: &mut W)
-        ensures { Does W.has watch.old watch.new self.old self.new
-            (judged_init None self.old.settings (secrets_of self.old) now (address_of source.now) (init_of init.now)
-            self.old.state) }
+    fn judge_init<W: Watch>(&self, source: &Address, init: &Init<'_>, now: u64, watch: &mut W)
+        ensures { Does W.has watch.old watch.new self.now self.now
+            (judged_init None self.now.settings (secrets_of self.now) now (address_of source.now) (init_of init.now)
+            self.now.state) }
     {
         if has_few_streams(init) {
             self.put(
@@ -87,10 +87,10 @@ impl Endpoint {
     }
 
     /// INIT is answered, by the state.
-    fn answer_init<W: Watch>(&mut self, source: &Address, init: &Init<'_>, now: u64, watch: &mut W)
-        ensures { Does W.has watch.old watch.new self.old self.new
-            (init_in self.old.state.association.phase self.old.settings (secrets_of self.old) now
-            (address_of source.now) (init_of init.now) self.old.state) }
+    fn answer_init<W: Watch>(&self, source: &Address, init: &Init<'_>, now: u64, watch: &mut W)
+        ensures { Does W.has watch.old watch.new self.now self.now
+            (init_in self.now.state.association.phase self.now.settings (secrets_of self.now) now
+            (address_of source.now) (init_of init.now) self.now.state) }
     {
         match self.phase {
             Phase::Closed => {
@@ -101,8 +101,7 @@ impl Endpoint {
             Phase::CookieWait => self.answer_alike(source, init, now, watch),
             Phase::CookieEchoed => self.answer_echoed(source, init, now, watch),
             Phase::ShutdownAckSent => {
-                let address = self.address;
-                self.put(&address, self.far_tag, &Reply::ShutdownAck, watch);
+                self.put(&self.address, self.far_tag, &Reply::ShutdownAck, watch);
             }
             Phase::Established
             | Phase::ShutdownPending
@@ -111,13 +110,14 @@ impl Endpoint {
         }
     }
 
-    /// INIT ACK with a new tag, which is also the first TSN; if no tag is left there is no answer.
-    fn answer_anew<W: Watch>(&mut self, source: &Address, init: &Init<'_>, now: u64, watch: &mut W)
-        ensures { Does W.has watch.old watch.new self.old self.new
-            (answered_anew self.old.settings (secrets_of self.old) now (address_of source.now) (init_of init.now)
-            self.old.state) }
+    /// INIT ACK with the next tag, which is also the first TSN, and isn't drawn by this; if no tag is left there is no
+    /// answer.
+    fn answer_anew<W: Watch>(&self, source: &Address, init: &Init<'_>, now: u64, watch: &mut W)
+        ensures { Does W.has watch.old watch.new self.now self.now
+            (answered_anew self.now.settings (secrets_of self.now) now (address_of source.now) (init_of init.now)
+            self.now.state) }
     {
-        if let Some(tag) = self.draw() {
+        if let Some(tag) = self.next_tag() {
             self.answer_with(source, init, tag, tag, now, watch);
         }
     }
@@ -131,18 +131,11 @@ impl Endpoint {
         self.answer_with(source, init, self.own_tag, self.own_first, now, watch);
     }
 
-    /// If the cookie of the peer was echoed: an INIT of that peer is answered by the try, and any other with a new tag.
-    /// Neither ends the try.
-    fn answer_echoed<W: Watch>(
-        &mut self,
-        source: &Address,
-        init: &Init<'_>,
-        now: u64,
-        watch: &mut W,
-    )
-        ensures { Does W.has watch.old watch.new self.old self.new
-            (answered_echoed self.old.settings (secrets_of self.old) now (address_of source.now) (init_of init.now)
-            self.old.state) }
+    /// If the cookie of the peer was echoed: an INIT of that peer is answered by the try, and any other with the next tag.
+    fn answer_echoed<W: Watch>(&self, source: &Address, init: &Init<'_>, now: u64, watch: &mut W)
+        ensures { Does W.has watch.old watch.new self.now self.now
+            (answered_echoed self.now.settings (secrets_of self.now) now (address_of source.now) (init_of init.now)
+            self.now.state) }
     {
         if init.offer.tag == self.far_tag {
             self.answer_alike(source, init, now, watch);

@@ -6,6 +6,7 @@ ghost use Rattle.sctp_rules.specs.Ending.{ended};
 ghost use Rattle.sctp_rules.specs.declared.loss.Loss.TheVariants.{Restart};
 ghost use Rattle.sctp_rules.specs.Opening.{
   opened_by,
+  echo_without_try,
   stops,
   acknowledged_again,
   stale,
@@ -81,9 +82,9 @@ impl Endpoint {
         requires generation { self.old.state.generation < 2 ^ 64 - 1 }
         requires now { now ≤ 2 ^ 63 }
         ensures does { Does W.has watch.old watch.new self.old self.new
-            (heard_cookie self.old.settings now (address_of source.now) cookie.now self.old.state).does }
+            (heard_cookie self.old.settings (secrets_of self.old) now (address_of source.now) cookie.now self.old.state).does }
         ensures goes_on { result
-            ≡ (heard_cookie self.old.settings now (address_of source.now) cookie.now self.old.state).goes_on }
+            ≡ (heard_cookie self.old.settings (secrets_of self.old) now (address_of source.now) cookie.now self.old.state).goes_on }
     {
         if self.is_of_association(cookie) {
             self.acknowledge_first();
@@ -104,9 +105,9 @@ impl Endpoint {
         requires generation { self.old.state.generation < 2 ^ 64 - 1 }
         requires now { now ≤ 2 ^ 63 }
         ensures does { Does W.has watch.old watch.new self.old self.new
-            (heard_another self.old.settings now (address_of source.now) cookie.now self.old.state).does }
+            (heard_another self.old.settings (secrets_of self.old) now (address_of source.now) cookie.now self.old.state).does }
         ensures goes_on { result
-            ≡ (heard_another self.old.settings now (address_of source.now) cookie.now self.old.state).goes_on }
+            ≡ (heard_another self.old.settings (secrets_of self.old) now (address_of source.now) cookie.now self.old.state).goes_on }
     {
         if u64::from(cookie.life) < now.saturating_sub(cookie.made) {
             self.tell_stale(source, staleness(now, cookie), cookie, watch);
@@ -127,9 +128,9 @@ impl Endpoint {
         requires generation { self.old.state.generation < 2 ^ 64 - 1 }
         requires now { now ≤ 2 ^ 63 }
         ensures does { Does W.has watch.old watch.new self.old self.new
-            (heard_in_time self.old.settings now (address_of source.now) cookie.now self.old.state).does }
+            (heard_in_time self.old.settings (secrets_of self.old) now (address_of source.now) cookie.now self.old.state).does }
         ensures goes_on { result
-            ≡ (heard_in_time self.old.settings now (address_of source.now) cookie.now self.old.state).goes_on }
+            ≡ (heard_in_time self.old.settings (secrets_of self.old) now (address_of source.now) cookie.now self.old.state).goes_on }
     {
         if cookie.generation == self.generation {
             self.hear_good_cookie(source, cookie, now, watch)
@@ -150,14 +151,14 @@ impl Endpoint {
         requires generation { self.old.state.generation < 2 ^ 64 - 1 }
         requires now { now ≤ 2 ^ 63 }
         ensures does { Does W.has watch.old watch.new self.old self.new
-            (good_echo_in self.old.state.association.phase self.old.settings now (address_of source.now) cookie.now
-            self.old.state).does }
+            (good_echo_in self.old.state.association.phase self.old.settings (secrets_of self.old) now
+            (address_of source.now) cookie.now self.old.state).does }
         ensures goes_on { result
-            ≡ (good_echo_in self.old.state.association.phase self.old.settings now (address_of source.now) cookie.now
-            self.old.state).goes_on }
+            ≡ (good_echo_in self.old.state.association.phase self.old.settings (secrets_of self.old) now
+            (address_of source.now) cookie.now self.old.state).goes_on }
     {
         match self.phase {
-            Phase::Closed => self.open_if(self.is_wanted, source, cookie, now, watch),
+            Phase::Closed => self.open_without_try(source, cookie, now, watch),
             Phase::CookieWait => self.open_if(self.is_own(cookie), source, cookie, now, watch),
             Phase::CookieEchoed => self.hear_in_try(source, cookie, now, watch),
             Phase::Established
@@ -168,6 +169,33 @@ impl Endpoint {
                 self.hear_other_cookie(source, cookie, watch);
                 false
             }
+        }
+    }
+
+    /// Without a try the association opens if the user wants one, and the cookie has the next tag, which is drawn then;
+    /// returns whether it did.
+    fn open_without_try<W: Watch>(
+        &mut self,
+        source: &Address,
+        cookie: &Cookie,
+        now: u64,
+        watch: &mut W,
+    ) -> bool
+        requires generation { self.old.state.generation < 2 ^ 64 - 1 }
+        requires now { now ≤ 2 ^ 63 }
+        ensures does { Does W.has watch.old watch.new self.old self.new
+            (echo_without_try self.old.settings (secrets_of self.old) now (address_of source.now) cookie.now
+            self.old.state).does }
+        ensures goes_on { result
+            ≡ (echo_without_try self.old.settings (secrets_of self.old) now (address_of source.now) cookie.now
+            self.old.state).goes_on }
+    {
+        if self.is_wanted && self.is_next(cookie.own_tag) {
+            self.draw();
+            self.open_by(source, cookie, now, watch);
+            true
+        } else {
+            false
         }
     }
 

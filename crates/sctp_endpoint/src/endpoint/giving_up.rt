@@ -10,8 +10,8 @@ use sctp_bundling::{Address, Watch};
 use sctp_cookie::Cookie;
 
 impl Endpoint {
-    /// A cookie with the peer's tag opens, and returns that the chunks after it belong to the association. Any other that
-    /// this end made in its try ends the try.
+    /// A cookie with the peer's tag opens; any other ends the try. Returns whether the chunks after it belong to the
+    /// association.
     pub(super) fn hear_in_try<W: Watch>(
         &mut self,
         source: &Address,
@@ -28,16 +28,15 @@ impl Endpoint {
     {
         if self.is_own(cookie) && self.is_far(cookie) {
             self.open_by(source, cookie, now, watch);
-            return true;
+            true
+        } else {
+            self.give_up_try(source, cookie, watch);
+            false
         }
-        if self.is_own(cookie) || self.is_tied(cookie) {
-            self.give_up(source, cookie, watch);
-        }
-        false
     }
 
     /// The try ends, since the peer has begun anew. This end waits for the INIT that the peer is asked for.
-    fn give_up<W: Watch>(&mut self, source: &Address, cookie: &Cookie, watch: &mut W)
+    fn give_up_try<W: Watch>(&mut self, source: &Address, cookie: &Cookie, watch: &mut W)
         requires { self.old.state.generation < 2 ^ 64 - 1 }
         ensures { Does W.has watch.old watch.new self.old self.new
             (given_up self.old.settings (address_of source.now) cookie.now self.old.state) }

@@ -3,7 +3,7 @@
 ghost use Rattle.std.specs.Prelude.{◌≡◌, ◌<◌, ◌≤◌, ◌^◌, ◌+◌, ◌-◌, [], ◌∷◌, is_some, if◌then◌else◌};
 ghost use Rattle.sctp_cookie.specs.Tags.{next_tag};
 ghost use Rattle.sctp_rules.specs.State.{put};
-ghost use Rattle.sctp_rules.specs.Opening.{opening, may_open, begun, begun_anew, trying_with, tag_of_try};
+ghost use Rattle.sctp_rules.specs.Opening.{opening, may_open, begun, begun_anew, trying_with, tag_of_try, is_next};
 ghost use Rattle.sctp_bundling.specs.Settings.{address_of};
 ghost use Rattle.sctp_bundling.specs.Watching.{Gives};
 ghost use Rattle.sctp_endpoint.specs.Endpoints.{Does, secrets_of};
@@ -99,6 +99,23 @@ impl Endpoint {
         } }
     {
         self.beginnings.draw()
+    }
+
+    /// The next tag, if one is left; it isn't drawn by this.
+    pub(super) fn next_tag(&self) -> Option<u32>
+        ensures { result ≡ next_tag (drawing_after self.now.tag_key self.now.state.beginnings) }
+    {
+        self.beginnings.peek()
+    }
+
+    /// Whether a tag is the next one.
+    pub(super) fn is_next(&self, tag: u32) -> bool
+        ensures { result ≡ is_next ((secrets_of self.now).beginning self.now.state.beginnings) tag }
+    {
+        match self.next_tag() {
+            Some(next) => tag == next,
+            None => false,
+        }
     }
 
     /// A try begins with a tag that was drawn for it, which is also its first TSN.
