@@ -1,12 +1,13 @@
 -- ERROR with the parameters that are to be reported.
-use Rattle.std.proofs.Common.{◌≡◌, ℕ, ◌+◌, ◌<◌, ◌≤◌, List, [], ◌∷◌, ◌++◌, length, refl, length-append, arith}
+use Rattle.std.proofs.Common.{◌≡◌, ℕ, ◌+◌, ◌<◌, ◌≤◌, List, [], ◌∷◌, ◌++◌, length, refl, ap, length-append, arith}
 use Rattle.std.specs.Prelude.{replicate}
 use Rattle.std.proofs.lemmas.List.Elements.{All-cons, All-nil}
+use Rattle.std.proofs.lemmas.Bool.{le-leb}
 use Rattle.sctp_codec.specs.Items.{ItemValue, IsItem, padding_behind, item_octets, padded_item, joined_items}
 use Rattle.sctp_codec.specs.Packets.{ChunkValue, ErrorChunk, CookieEchoChunk}
 use Rattle.sctp_codec.specs.Parameters.{unrecognized_parameters}
 use Rattle.sctp_codec.specs.Writing.{IsChunk, chunk_item}
-use Rattle.sctp_rules.specs.Opening.{echo_of}
+use Rattle.sctp_rules.specs.Opening.{echo_of, reports_of}
 use Rattle.sctp_bundling.specs.Replies.{size_of, complaint_of}
 
 abbrev complaint : List ItemValue → ChunkValue
@@ -42,9 +43,13 @@ none-complained (item ∷ next ∷ items) h =
     let more = length-append (padded_item item) (joined_items (next ∷ items)) in
     absurd (omega (arith, h, more, complaint-long (item ∷ next ∷ items)))
 
-pub echo-is : (cookie : List ℕ) (items : List ItemValue) → (CookieEchoChunk cookie ∷ []) ++ complaint_of items ≡ echo_of cookie items
-echo-is cookie [] = refl
-echo-is cookie (item ∷ items) = refl
+reports-are : (items : List ItemValue) → complaint_of items ≡ reports_of items
+reports-are [] = refl
+reports-are (item ∷ items) = refl
+
+pub echo-is : (cookie : List ℕ) (items : List ItemValue) → length cookie ≤ 660 →
+    (CookieEchoChunk cookie ∷ []) ++ complaint_of items ≡ echo_of cookie items
+echo-is cookie items short = rw (le-leb (length cookie) 660 short) (ap (λ (chunks : List ChunkValue). CookieEchoChunk cookie ∷ chunks) (reports-are items))
 
 -- places and sizes, as numbers
 pub fits-behind : (end count result size : ℕ) → end + 520 ≤ 1188 → count ≡ size → result ≡ 0 + size → result ≤ 0 + 520 → end + count ≤ 1188

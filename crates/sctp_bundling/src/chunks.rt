@@ -12,6 +12,7 @@ ghost use Rattle.sctp_bundling.specs.ChunkRows.{row_of};
 use crate::packets::{blank, write_at};
 use crate::reply::Reply;
 use sctp_codec::{Items, PacketBuffer, write_cookie_ack, write_unrecognized_parameters};
+use sctp_rules::limits::SHORT_COOKIE_OCTETS;
 use std::marker::Model;
 
 /// Octets of an ERROR whose cause has no parameters.
@@ -104,14 +105,16 @@ impl Chunks {
         }
     }
 
-    /// The echo of a cookie, and after it what INIT ACK had that isn't known.
+    /// The echo of a cookie, and after it, if the cookie leaves room for that, what INIT ACK had that isn't known.
     pub fn echoing(cookie: &[u8], parameters: Items<'_>) -> Chunks
-        requires { length cookie.now ≤ 660 }
+        requires { length cookie.now ≤ 1184 }
         ensures { result ≡ echo_of cookie.now (complained_of (items_of parameters.entry)) }
     {
         let mut chunks = Chunks::new();
         chunks.add(&Reply::CookieEcho(cookie));
-        chunks.complain(parameters);
+        if cookie.len() <= SHORT_COOKIE_OCTETS {
+            chunks.complain(parameters);
+        }
         chunks
     }
 }

@@ -3,3 +3,4 @@ pub mod Tags
 pub mod Inside
 pub mod Hmac
 pub mod Cookies
+pub mod Nonces

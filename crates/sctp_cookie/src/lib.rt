@@ -5,9 +5,11 @@ pub mod cookie;
 pub mod hmac;
 pub mod laws;
 mod layout;
+pub mod nonces;
 mod permutation;
 mod signing;
 pub mod tags;
 
 pub use cookie::{COOKIE_OCTETS, Cookie};
+pub use nonces::nonce;
 pub use tags::Tags;

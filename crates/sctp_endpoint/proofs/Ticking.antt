@@ -4,6 +4,7 @@ use Rattle.std.specs.Prelude.{nat_lt, nat_le, sum_by, if◌then◌else◌}
 use Rattle.std.proofs.lemmas.Bool.{le-leb}
 use Rattle.sctp_codec.specs.Packets.{ChunkValue, HeartbeatChunk}
 use Rattle.sctp_codec.specs.Parameters.{EndedByUser, information_of}
+use Rattle.sctp_cookie.specs.Nonces.{nonce_of}
 use Rattle.sctp_rules.specs.declared.loss.Loss.TheVariants.{NoAnswer}
 use Rattle.sctp_rules.specs.Settings.{Settings}
 use Rattle.sctp_rules.specs.State.{Try, Told, State, Done, silent, behind, with_association}
@@ -80,25 +81,28 @@ ticked-does has now w0 w1 w2 w3 w4 w5 e f1 f2 f3 f4 f5 a b c d h =
     then-does has w0 w4 w5 e f4 f5 d4 (λ x. tick_beat x.settings (secrets_of x) now x.state) four h
 
 -- a heartbeat for which there is room
-pub heartbeat-added : (e : Endpoint) (now wait : ℕ) (control : List ChunkValue) (information : List ℕ) → sum_by size_of e.state.association.control + 16 ≤ 1024
-    → wait ≡ e.state.association.sender.round_trips.timeout → information ≡ information_of e.state.nonces → control ≡ e.state.association.control ++ HeartbeatChunk information ∷ []
+pub heartbeat-added : (e : Endpoint) (now wait : ℕ) (control : List ChunkValue) (information : List ℕ) (number : ℕ) → number ≡ nonce_of e.cookie_key e.state.nonces
+    → sum_by size_of e.state.association.control + 16 ≤ 1024
+    → wait ≡ e.state.association.sender.round_trips.timeout → information ≡ information_of number → control ≡ e.state.association.control ++ HeartbeatChunk information ∷ []
     → record e {
       state = record e.state {
         nonces = e.state.nonces + 1;
         association = record e.state.association {
-          beat = Some (record { nonce = e.state.nonces; sent = now });
+          beat = Some (record { nonce = number; sent = now });
           beat_due = Some (now + wait);
           control = control;
         };
       };
     } ≡ record e { state = beating (secrets_of e) now e.state }
-heartbeat-added e now wait control information room due same added =
+heartbeat-added e now wait control information number is room due same added =
     let a = e.state.association in
-    let whole : (wait : ℕ) → List ChunkValue → Endpoint = λ n xs. record e {
+    let whole : (number wait : ℕ) → List ChunkValue → Endpoint = λ m n xs. record e {
       state = record e.state {
         nonces = e.state.nonces + 1;
-        association = record a { beat = Some (record { nonce = e.state.nonces; sent = now }); beat_due = Some (now + n); control = xs };
+        association = record a { beat = Some (record { nonce = m; sent = now }); beat_due = Some (now + n); control = xs };
       };
     } in
     rw (le-leb (sum_by size_of a.control + 16) 1024 room)
-    (ap (λ (n : ℕ). whole n control) due ∙ ap (whole a.sender.round_trips.timeout) (added ∙ ap (λ (i : List ℕ). a.control ++ HeartbeatChunk i ∷ []) same))
+    (ap (λ (n : ℕ). whole number n control) due
+    ∙ ap (whole number a.sender.round_trips.timeout) (added ∙ ap (λ (i : List ℕ). a.control ++ HeartbeatChunk i ∷ []) same)
+    ∙ ap (λ (m : ℕ). whole m a.sender.round_trips.timeout (a.control ++ HeartbeatChunk (information_of m) ∷ [])) is)

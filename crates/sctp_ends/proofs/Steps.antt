@@ -3,7 +3,7 @@ use Rattle.std.proofs.Common.{◌≡◌, ◌≢◌, ◌⊎◌, inl, inr, ℕ, �
 use Rattle.std.proofs.lemmas.Grind.{common_steps}
 use Rattle.std.proofs.lemmas.List.{length-replicate, get_or-replicate}
 use Rattle.std.proofs.lemmas.List.Elements.{All-nil}
-use Rattle.std.specs.Prelude.{slice_get}
+use Rattle.std.specs.Prelude.{slice_get, nat_le}
 use Rattle.std.specs.Prelude.{if◌then◌else◌}
 use Rattle.std.specs.List.{Contains}
 use Rattle.sctp_codec.specs.Items.{ItemValue}
@@ -486,8 +486,11 @@ module _ (own far : Secrets) (mark : ℕ) (other : End) where
 
   echo-said : (age : Age) (f : End) (tag : ℕ) (octets : List ℕ) (items : List ItemValue) → IsEcho far f octets →
       IsSaid own far age f tag (opening.echo_of octets items)
-  echo-said age f tag octets [] i = (i, tt)
-  echo-said age f tag octets (item ∷ items) i = (i, (tt, tt))
+  echo-said age f tag octets items i = (i, reports-said (nat_le (length octets) 660) items) where
+    reports-said : (b : Bool) (items : List ItemValue) → Each (Bundles age f tag) (if b then opening.reports_of items else [])
+    reports-said false items = tt
+    reports-said true [] = tt
+    reports-said true (item ∷ items) = (tt, tt)
 
   some-same : {X : Type 0} (x y : X) → Some x ≡ Some y → x ≡ y
   some-same x y e = cc

@@ -4,6 +4,7 @@ use Rattle.std.specs.Prelude.{if◌then◌else◌}
 use Rattle.std.specs.Str.{bytes_eq}
 use Rattle.sctp_cookie.specs.declared.cookie.Cookie.{Cookie}
 use Rattle.sctp_cookie.specs.Cookies.{signed, cookie_in}
+use Rattle.sctp_cookie.specs.Nonces.{nonce_of}
 use Rattle.sctp_cookie.specs.Tags.{Drawing, first_drawing, next_tag, after_draw}
 use Rattle.sctp_rules.specs.Settings.{Beginning, Secrets}
 use Rattle.sctp_rules.specs.WrittenPackets.{AreFit}
@@ -49,7 +50,7 @@ opened_under key (octet ∷ octets) =
 abbrev pub keyed : (tag_key cookie_key : List ℕ) → Secrets
 keyed tag_key cookie_key = record {
   beginning = λ n. beginning_of (next_tag (drawing_after tag_key n));
-  nonce = λ n. n;
+  nonce = nonce_of cookie_key;
   signed = signed_under cookie_key;
   cookie_in = opened_under cookie_key;
 }

@@ -333,9 +333,9 @@ second-true : (x y : Bool) → (x && y) ≡ true → y ≡ true
 second-true true y e = e
 second-true false y e = absurd (cc)
 
-cookie-fits : (usable : Bool) (cookie : List ℕ) → (usable && opening.fits_echo cookie) ≡ true → length cookie ≤ 660
+cookie-fits : (usable : Bool) (cookie : List ℕ) → (usable && opening.fits_echo cookie) ≡ true → length cookie ≤ 1184
 cookie-fits usable cookie e =
-    let f : nat_le (length cookie) 660 ≡ true = second-true usable (opening.fits_echo cookie) e in
+    let f : nat_le (length cookie) 1184 ≡ true = second-true usable (opening.fits_echo cookie) e in
     grind (arith, nat_tests, f)
 
 stream-fits : (s : Sending) (m : Message) → confirming.can_take s m ≡ true → m.stream < 2 ^ 16
@@ -585,25 +585,30 @@ module _ (c : Settings) (ports : HasPorts c) where
       (putting s.association.address init.tag (ending.abort_for InvalidParameter) s t (abort-chunk InvalidParameter (omega arith)) kept)
       (ended losses.BadInitAck s kept))
 
-  cookie-chunk : (cookie : List ℕ) → length cookie ≤ 660 → IsBundled (packets.CookieEchoChunk cookie)
+  cookie-chunk : (cookie : List ℕ) → length cookie ≤ 1184 → IsBundled (packets.CookieEchoChunk cookie)
   cookie-chunk cookie l = record { can = record { fields = tt; fits = omega (arith, l) }; no_init = refl; no_init_ack = refl }
 
   some-echo : (cookie : List ℕ) (items : List ItemValue) → opening.echo_of cookie items ≢ []
-  some-echo cookie [] = λ e. absurd (cc)
-  some-echo cookie (item ∷ items) = λ e. absurd (cc)
+  some-echo cookie items = λ e. absurd (cc)
 
-  echo-chunks : (cookie : List ℕ) (items : List ItemValue) → length cookie ≤ 660 →
+  report-chunks : (b : Bool) (items : List ItemValue) → IsBundled (packets.ErrorChunk (unrecognized_parameters items ∷ [])) →
+      All IsBundled (if b then opening.reports_of items else [])
+  report-chunks false items h = All-nil IsBundled
+  report-chunks true [] h = All-nil IsBundled
+  report-chunks true (item ∷ items) h = only IsBundled (packets.ErrorChunk (unrecognized_parameters (item ∷ items) ∷ [])) h
+
+  echo-chunks : (cookie : List ℕ) (items : List ItemValue) → length cookie ≤ 1184 →
       IsBundled (packets.ErrorChunk (unrecognized_parameters items ∷ [])) → All IsBundled (opening.echo_of cookie items)
-  echo-chunks cookie [] l h = only IsBundled (packets.CookieEchoChunk cookie) (cookie-chunk cookie l)
-  echo-chunks cookie (item ∷ items) l h =
-      All-cons IsBundled (packets.CookieEchoChunk cookie) (packets.ErrorChunk (unrecognized_parameters (item ∷ items) ∷ []) ∷ []) (cookie-chunk cookie l)
-      (only IsBundled (packets.ErrorChunk (unrecognized_parameters (item ∷ items) ∷ [])) h)
+  echo-chunks cookie items l h =
+      let short : Bool = nat_le (length cookie) 660 in
+      All-cons IsBundled (packets.CookieEchoChunk cookie) (if short then opening.reports_of items else []) (cookie-chunk cookie l)
+      (report-chunks short items h)
 
   tag-fits : (b : Bool) (tag : ℕ) → tag < 2 ^ 32 → (if b then 0 else tag) < 2 ^ 32
   tag-fits true tag t = omega arith
   tag-fits false tag t = t
 
-  echoed : (now failures : ℕ) (init : InitValue) (cookie : List ℕ) (s : State) → init.tag < 2 ^ 32 → length cookie ≤ 660 → Kept c s.association →
+  echoed : (now failures : ℕ) (init : InitValue) (cookie : List ℕ) (s : State) → init.tag < 2 ^ 32 → length cookie ≤ 1184 → Kept c s.association →
       Puts c (opening.echoed c now failures init cookie s)
   echoed now failures init cookie s t l kept =
       let items : List ItemValue = complained_of init.parameters in

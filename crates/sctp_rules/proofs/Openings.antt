@@ -1,5 +1,5 @@
 -- How often associations open, by the pass over all rules; and packets with another tag.
-use Rattle.std.proofs.Common.{◌≡◌, ◌≢◌, ◌≤◌, ℕ, ◌+◌, ◌-◌, Bool, true, false, List, [], ◌∷◌, ◌++◌, refl, ap, ◌∙◌}
+use Rattle.std.proofs.Common.{◌≡◌, ◌≢◌, ◌≤◌, ℕ, ◌+◌, ◌-◌, Bool, true, false, List, [], ◌∷◌, ◌++◌, Option, Some, None, refl, ap, ◌∙◌, subst}
 use Rattle.std.proofs.Common.{arith, nat_eq, nat_lt, sym}
 use Rattle.std.specs.Prelude.{◌&&◌, ◌||◌, not, if◌then◌else◌}
 use Rattle.std.proofs.lemmas.Bool.Decides.{nat_tests}
@@ -10,11 +10,14 @@ use Rattle.sctp_receiving.specs.declared.violation.Violation.{Violation}
 use Rattle.sctp_receiving.specs.declared.violation.Violation.TheVariants as violations
 use Rattle.sctp_codec.specs.Packets.{ChunkValue, DataValue, PacketValue, InitValue, InitAckChunk}
 use Rattle.sctp_codec.specs.Packets as packets
+use Rattle.sctp_codec.specs.Parameters.{InvalidParameter, host_name_in}
 use Rattle.sctp_rules.specs.declared.phase.Phase.{Phase}
-use Rattle.sctp_rules.specs.declared.phase.Phase.TheVariants.{CookieWait}
+use Rattle.sctp_rules.specs.declared.phase.Phase.TheVariants.{Closed, CookieWait, CookieEchoed, Established}
+use Rattle.sctp_rules.specs.declared.phase.Phase.TheVariants.{ShutdownPending, ShutdownSent, ShutdownReceived}
+use Rattle.sctp_rules.specs.declared.phase.Phase.TheVariants.{ShutdownAckSent}
 use Rattle.sctp_rules.specs.declared.loss.Loss.{Loss}
 use Rattle.sctp_rules.specs.declared.loss.Loss.TheVariants as losses
-use Rattle.sctp_rules.specs.Settings.{Settings, Secrets, Address}
+use Rattle.sctp_rules.specs.Settings.{Settings, Secrets, Beginning, Address}
 use Rattle.sctp_rules.specs.State as state
 use Rattle.sctp_rules.specs.State.{State, Told, Up, Heard, Down, Failed, Done, silent, followed_by, first_state}
 use Rattle.sctp_rules.specs.Ending as ending
@@ -23,7 +26,7 @@ use Rattle.sctp_rules.specs.Data as data_rules
 use Rattle.sctp_rules.specs.Packets as arriving
 use Rattle.sctp_rules.specs.Endpoint.{Happening, after, after_all}
 use Rattle.sctp_rules.specs.Openings.{openings, generations_grow, cookies_open_in_their_generation, other_tags_are_dropped}
-use Rattle.sctp_rules.specs.Openings.{has_own_rule, answers_come_from_anywhere}
+use Rattle.sctp_rules.specs.Openings.{has_own_rule, answers_come_from_anywhere, IsStill, inits_change_nothing}
 use Rattle.sctp_rules.proofs.Passing.{AreSteps, Passes, Right, happens, none-right, answer-alike}
 use Rattle.sctp_rules.proofs.Telling.{anything, any-happening}
 
@@ -240,3 +243,53 @@ from-anywhere c k now source other p init s e chunks =
     λ from. ap (λ (l : List ChunkValue). arriving.heard_all c k now from p.tag l s) chunks ∙ without-source c k now p.tag init s e from in
     ap (λ (d : Done). if nat_eq p.destination c.own_port && nat_eq p.source c.far_port then d else silent s)
     (here source ∙ sym (here other))
+
+-- ---- INIT
+
+quiet-still : (s : State) → IsStill s (silent s)
+quiet-still s = record { told = refl; left = refl }
+
+either-still : (b : Bool) (s : State) (d e : Done) → IsStill s d → IsStill s e → IsStill s (if b then d else e)
+either-still true s d e h g = h
+either-still false s d e h g = g
+
+anew-still : (b : Option Beginning) (c : Settings) (k : Secrets) (now : ℕ) (source : Address) (init : InitValue) (s : State) →
+    IsStill s (opening.answered_anew_with c k now source init b s)
+anew-still None c k now source init s = quiet-still s
+anew-still (Some b) c k now source init s = record { told = refl; left = refl }
+
+init-still : (phase : Phase) (c : Settings) (k : Secrets) (now : ℕ) (source : Address) (init : InitValue) (s : State) →
+    IsStill s (opening.init_in phase c k now source init s)
+init-still Closed c k now source init s =
+    either-still s.is_wanted s (opening.answered_anew c k now source init s) (silent s)
+    (anew-still (k.beginning s.beginnings) c k now source init s) (quiet-still s)
+init-still CookieWait c k now source init s = record { told = refl; left = refl }
+init-still CookieEchoed c k now source init s =
+    either-still (nat_eq init.tag s.association.far_tag) s (opening.answered_alike c k now source init s)
+    (opening.answered_anew c k now source init s) (record { told = refl; left = refl })
+    (anew-still (k.beginning s.beginnings) c k now source init s)
+init-still Established c k now source init s = anew-still (k.beginning s.beginnings) c k now source init s
+init-still ShutdownPending c k now source init s = anew-still (k.beginning s.beginnings) c k now source init s
+init-still ShutdownSent c k now source init s = anew-still (k.beginning s.beginnings) c k now source init s
+init-still ShutdownReceived c k now source init s = anew-still (k.beginning s.beginnings) c k now source init s
+init-still ShutdownAckSent c k now source init s = record { told = refl; left = refl }
+
+judged-still : (name : Option (List ℕ)) (c : Settings) (k : Secrets) (now : ℕ) (source : Address) (init : InitValue) (s : State) →
+    IsStill s (opening.judged_init name c k now source init s)
+judged-still (Some name) c k now source init s = record { told = refl; left = refl }
+judged-still None c k now source init s =
+    either-still (opening.has_few_streams init) s (state.put c source init.tag (ending.abort_for InvalidParameter ∷ []) s)
+    (opening.init_in s.association.phase c k now source init s) (record { told = refl; left = refl })
+    (init-still s.association.phase c k now source init s)
+
+heard-still : (c : Settings) (k : Secrets) (now : ℕ) (source : Address) (init : InitValue) (s : State) →
+    IsStill s (opening.heard_init c k now source init s)
+heard-still c k now source init s =
+    either-still (nat_eq init.tag 0) s (silent s) (opening.judged_init (host_name_in init.parameters) c k now source init s)
+    (quiet-still s) (judged-still (host_name_in init.parameters) c k now source init s)
+
+pub inits-still : inits_change_nothing
+inits-still c k now source p init more s chunks =
+    either-still (nat_eq p.destination c.own_port && nat_eq p.source c.far_port) s (arriving.heard_all c k now source p.tag p.chunks s) (silent s)
+    (subst (λ (l : List ChunkValue). IsStill s (arriving.heard_all c k now source p.tag l s)) (sym chunks) (heard-still c k now source init s))
+    (quiet-still s)

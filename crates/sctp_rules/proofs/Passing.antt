@@ -478,11 +478,15 @@ last-bare c a (chunk ∷ chunks) h = if-there (ending.has_peer a.phase) where
   if-there true = one-sent (state.datagram_to c a.address a.far_tag (chunk ∷ chunks)) h
   if-there false = none-sent
 
+reports-bare : (b : Bool) (items : List ItemValue) → All IsBare (if b then opening.reports_of items else [])
+reports-bare false items = none-bare
+reports-bare true [] = none-bare
+reports-bare true (item ∷ items) = one-bare (packets.ErrorChunk (unrecognized_parameters (item ∷ items) ∷ [])) tt
+
 echo-bare : (cookie : List ℕ) (items : List ItemValue) → All IsBare (opening.echo_of cookie items)
-echo-bare cookie [] = one-bare (packets.CookieEchoChunk cookie) tt
-echo-bare cookie (item ∷ items) =
-    let error : ChunkValue = packets.ErrorChunk (unrecognized_parameters (item ∷ items) ∷ []) in
-    All-cons IsBare (packets.CookieEchoChunk cookie) (error ∷ []) tt (one-bare error tt)
+echo-bare cookie items =
+    let short : Bool = nat_le (length cookie) 660 in
+    All-cons IsBare (packets.CookieEchoChunk cookie) (if short then opening.reports_of items else []) tt (reports-bare short items)
 
 answer-bare : (first : ChunkValue) → IsBare (arriving.answer_to first)
 answer-bare packets.ShutdownAckChunk = tt

@@ -269,6 +269,22 @@ pub former_try_opens_nothing : rows.former_try_opens_nothing
 unfolding after going drained run_from blocks_from lost_from named_below passed_below given next_place gone_again gone_first confirmation confirmed settled acknowledged after_t3 stopped
 former_try_opens_nothing = record { phase_is = refl; sent_is = refl; told_is = refl }
 
+pub longest_cookie_is_echoed : rows.longest_cookie_is_echoed
+unfolding after going drained run_from blocks_from lost_from named_below passed_below given next_place gone_again gone_first confirmation confirmed settled acknowledged after_t3 stopped
+longest_cookie_is_echoed = record { phase_is = refl; sent_is = refl; told_is = refl }
+
+pub longer_cookie_ends_the_try : rows.longer_cookie_ends_the_try
+unfolding after going drained run_from blocks_from lost_from named_below passed_below given next_place gone_again gone_first confirmation confirmed settled acknowledged after_t3 stopped
+longer_cookie_ends_the_try = record { phase_is = refl; sent_is = refl; told_is = refl }
+
+pub unknown_parameter_is_reported : rows.unknown_parameter_is_reported
+unfolding after going drained run_from blocks_from lost_from named_below passed_below given next_place gone_again gone_first confirmation confirmed settled acknowledged after_t3 stopped
+unknown_parameter_is_reported = record { phase_is = refl; sent_is = refl; told_is = refl }
+
+pub long_cookie_leaves_no_room : rows.long_cookie_leaves_no_room
+unfolding after going drained run_from blocks_from lost_from named_below passed_below given next_place gone_again gone_first confirmation confirmed settled acknowledged after_t3 stopped
+long_cookie_leaves_no_room = record { phase_is = refl; sent_is = refl; told_is = refl }
+
 pub unusable_init_ack_ends_the_try : rows.unusable_init_ack_ends_the_try
 unfolding after going drained run_from blocks_from lost_from named_below passed_below given next_place gone_again gone_first confirmation confirmed settled acknowledged after_t3 stopped
 unusable_init_ack_ends_the_try = record { phase_is = refl; sent_is = refl; told_is = refl }

@@ -9,7 +9,8 @@ use Rattle.sctp_codec.specs.Parameters.{CauseValue, StaleCookie, UnresolvableAdd
 use Rattle.sctp_codec.specs.Parameters.{CookieInShutdown}
 use Rattle.sctp_codec.specs.Parameters.{cause_item, unrecognized_parameters, cookie_in, host_name_in, has_stale_cookie}
 use Rattle.sctp_codec.specs.Parameters.{answering, complained_of}
-use Rattle.sctp_rules.specs.declared.limits.TheConstants.{STREAMS, COOKIE_OCTETS, HOST_NAME_OCTETS}
+use Rattle.sctp_rules.specs.declared.limits.TheConstants.{STREAMS, COOKIE_OCTETS, SHORT_COOKIE_OCTETS}
+use Rattle.sctp_rules.specs.declared.limits.TheConstants.{HOST_NAME_OCTETS}
 use Rattle.sctp_receiving.specs.declared.limits.TheConstants.{WINDOW}
 use Rattle.sctp_rules.specs.declared.phase.Phase.{Phase}
 use Rattle.sctp_rules.specs.declared.phase.Phase.TheVariants.{Closed, CookieWait, CookieEchoed, Established}
@@ -221,11 +222,15 @@ heard_init c k now source init s =
 
 -- ---- INIT ACK comes (§5.1 C)
 
--- COOKIE ECHO, with an ERROR after it if INIT ACK had what isn't known
+-- ERROR, if INIT ACK had what isn't known
+abbrev pub reports_of : List ItemValue → List ChunkValue
+reports_of [] = []
+reports_of (item ∷ items) = ErrorChunk (unrecognized_parameters (item ∷ items) ∷ []) ∷ []
+
+-- COOKIE ECHO, with that after it; after a long cookie there may be no room for it, and nothing is reported
 abbrev pub echo_of : List ℕ → List ItemValue → List ChunkValue
-echo_of cookie [] = CookieEchoChunk cookie ∷ []
-echo_of cookie (item ∷ items) =
-    CookieEchoChunk cookie ∷ ErrorChunk (unrecognized_parameters (item ∷ items) ∷ []) ∷ []
+echo_of cookie items =
+    CookieEchoChunk cookie ∷ (if nat_le (length cookie) SHORT_COOKIE_OCTETS then reports_of items else [])
 
 -- COOKIE-ECHOED; T1-cookie counts on
 abbrev pub echoed : Settings → (now failures : ℕ) → InitValue → List ℕ → State → Done
@@ -250,7 +255,7 @@ refused c init s =
 abbrev pub is_usable : InitValue → Bool
 is_usable init = not (nat_eq init.tag 0) && not (has_few_streams init) && is_none (host_name_in init.parameters)
 
--- there is a packet for the cookie, and an ERROR after it
+-- there is a packet for the cookie
 abbrev pub fits_echo : List ℕ → Bool
 fits_echo cookie = nat_le (length cookie) COOKIE_OCTETS
 

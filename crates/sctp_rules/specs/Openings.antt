@@ -4,7 +4,7 @@ use Rattle.sctp_cookie.specs.declared.cookie.Cookie.{Cookie}
 use Rattle.sctp_codec.specs.Packets.{ChunkValue, PacketValue, InitValue, InitChunk, InitAckChunk, CookieEchoChunk}
 use Rattle.sctp_rules.specs.declared.phase.Phase.TheVariants.{CookieWait}
 use Rattle.sctp_rules.specs.Settings.{Settings, Secrets, Address}
-use Rattle.sctp_rules.specs.State.{State, Told, Up, Heard, Down, Failed, silent, first_state}
+use Rattle.sctp_rules.specs.State.{State, Done, Told, Up, Heard, Down, Failed, silent, first_state}
 use Rattle.sctp_rules.specs.Opening.{is_there, heard_cookie}
 use Rattle.sctp_rules.specs.Packets.{heard, has_peer_tag}
 use Rattle.sctp_rules.specs.Endpoint.{Happening, after_all}
@@ -31,6 +31,18 @@ cookies_open_in_their_generation =
     (c : Settings) (k : Secrets) (now : ℕ) (source : Address) (cookie : Cookie) (s : State) →
     cookie.generation ≢ s.generation →
     openings (heard_cookie c k now source cookie s).does.told ≡ 0
+
+-- nothing changes, and the user is told nothing
+pub record IsStill (s : State) (d : Done) : Type 0 where
+  pub told : d.told ≡ []
+  pub left : d.left ≡ s
+
+-- an INIT is answered at most: whoever sent it, and whatever it says. So nobody who doesn't hear the answers opens an
+-- association, ends one or the try of one, or uses up a tag
+abbrev pub inits_change_nothing : Type 0
+inits_change_nothing =
+    (c : Settings) (k : Secrets) (now : ℕ) (source : Address) (p : PacketValue) (init : InitValue)
+    (more : List ChunkValue) (s : State) → p.chunks ≡ InitChunk init ∷ more → IsStill s (heard c k now source p s)
 
 -- INIT and COOKIE ECHO, which have tags of their own
 abbrev pub has_own_rule : ChunkValue → Bool

@@ -1,5 +1,5 @@
 -- Rows of the state table, at two endpoints that face each other.
-use Rattle.std.specs.Prelude.{◌≡◌, ℕ, true, false, ◌+◌, List, [], ◌∷◌, ◌++◌, Option, Some, None, map, length}
+use Rattle.std.specs.Prelude.{◌≡◌, ℕ, true, false, ◌+◌, List, [], ◌∷◌, ◌++◌, Option, Some, None, map, length, replicate}
 use Rattle.sctp_receiving.specs.Pieces as pieces
 use Rattle.sctp_sending.specs.Outgoing.{Message}
 use Rattle.sctp_cookie.specs.declared.cookie.Cookie.{Cookie}
@@ -668,6 +668,26 @@ init_ack_comes init = near (comes 1 (of_chunk 10 (InitAckChunk init))) tries.lef
 
 abbrev pub usable_init_ack_is_echoed : Type 0
 usable_init_ack_is_echoed = Does (init_ack_comes (init_with_cookie (1 ∷ []))) CookieEchoed ((10 ∷ []) ∷ []) []
+
+-- a cookie of 1,184 octets fills a packet; a longer one can't be echoed
+abbrev pub longest_cookie_is_echoed : Type 0
+longest_cookie_is_echoed = Does (init_ack_comes (init_with_cookie (replicate 1184 1))) CookieEchoed ((10 ∷ []) ∷ []) []
+
+abbrev pub longer_cookie_ends_the_try : Type 0
+longer_cookie_ends_the_try =
+    Does (init_ack_comes (init_with_cookie (replicate 1185 1))) Closed ((6 ∷ []) ∷ []) (Failed BadInitAck ∷ [])
+
+-- a parameter that is to be reported is, if there is room for 512 octets of such
+abbrev pub with_unknown_parameter : InitValue → InitValue
+with_unknown_parameter init = record init { parameters = init.parameters ++ record { kind = 49152; value = [] } ∷ [] }
+
+abbrev pub unknown_parameter_is_reported : Type 0
+unknown_parameter_is_reported =
+    Does (init_ack_comes (with_unknown_parameter (init_with_cookie (replicate 660 1)))) CookieEchoed ((10 ∷ 9 ∷ []) ∷ []) []
+
+abbrev pub long_cookie_leaves_no_room : Type 0
+long_cookie_leaves_no_room =
+    Does (init_ack_comes (with_unknown_parameter (init_with_cookie (replicate 661 1)))) CookieEchoed ((10 ∷ []) ∷ []) []
 
 abbrev pub too_few_streams : InitValue
 too_few_streams = record (init_with_cookie (1 ∷ [])) { incoming = 1 }

@@ -4,7 +4,7 @@ use Rattle.sctp_cookie.specs.declared.cookie.Cookie.{Cookie}
 use Rattle.sctp_codec.specs.Packets.{ChunkValue, DataChunk, InitChunk, InitAckChunk, PacketValue}
 use Rattle.sctp_codec.specs.Reading.{read_packet}
 use Rattle.sctp_codec.specs.Writing.{IsPacket, packet_octets}
-use Rattle.sctp_rules.specs.declared.limits.TheConstants.{COOKIE_OCTETS}
+use Rattle.sctp_rules.specs.declared.limits.TheConstants.{SHORT_COOKIE_OCTETS}
 use Rattle.sctp_rules.specs.Settings.{Settings, Beginning, Secrets}
 use Rattle.sctp_rules.specs.State.{Datagram, first_state}
 use Rattle.sctp_rules.specs.Endpoint.{Happening, Came, Sends, after_all}
@@ -35,7 +35,7 @@ If P (Some x) = P x
 pub record AreFit (k : Secrets) : Type 0 where
   pub beginnings : (n : ℕ) → If IsBeginning (k.beginning n)
   pub cookies : (octets : List ℕ) → If HasTags (k.cookie_in octets)
-  pub signed : (c : Cookie) → length (k.signed c) ≤ COOKIE_OCTETS
+  pub signed : (c : Cookie) → length (k.signed c) ≤ SHORT_COOKIE_OCTETS
 
 -- the numbers of a chunk that comes have as many bits as on the wire
 abbrev pub HasNumbers : ChunkValue → Type 0

@@ -3,7 +3,7 @@
 ghost use Rattle.sctp_rules.specs.GivenMessages.{given_messages_go_out};
 ghost use Rattle.sctp_rules.specs.Lively.{halves_are_lively, idle_halves_put_out, messages_go_out_as_data};
 ghost use Rattle.sctp_rules.specs.Openings.{generations_grow, cookies_open_in_their_generation, other_tags_are_dropped};
-ghost use Rattle.sctp_rules.specs.Openings.{answers_come_from_anywhere};
+ghost use Rattle.sctp_rules.specs.Openings.{answers_come_from_anywhere, inits_change_nothing};
 ghost use Rattle.sctp_rules.specs.ReceivedMessages.{messages_are_received};
 ghost use Rattle.sctp_rules.specs.SentMessages.{given_messages_are_sent, given_messages_are_kept};
 ghost use Rattle.sctp_rules.specs.Telling.{told_in_turn};
@@ -45,6 +45,12 @@ pub fn what_goes_out_was_given()
 pub fn a_cookie_opens_once()
     ensures generations { generations_grow }
     ensures cookies { cookies_open_in_their_generation }
+{}
+
+/// An INIT changes nothing, whoever sent it, and whatever it says: it is answered at most. So nobody who doesn't hear the
+/// answers opens an association, ends one or the try of one, or uses up a tag.
+pub fn an_init_changes_nothing()
+    ensures { inits_change_nothing }
 {}
 
 /// While there is an association, a packet with another tag changes nothing, if it is no INIT, no COOKIE ECHO and no

@@ -10,6 +10,7 @@ use crate::endpoint::timing::is_due;
 use crate::peer::Beat;
 use sctp_bundling::{Reply, Watch};
 use sctp_codec::heartbeat_information;
+use sctp_cookie::nonce;
 use sctp_rules::Phase;
 use sctp_rules::limits::CONTROL_OCTETS;
 
@@ -82,13 +83,13 @@ impl Endpoint {
         }
     }
 
-    /// A heartbeat with a number of its own goes out with the next packet. It is to be answered within RTO.
+    /// A heartbeat goes out with the next packet, with a number that nobody guesses. It is to be answered within RTO.
     fn send_beat(&mut self, now: u64)
         requires nonces { self.old.state.nonces < 2 ^ 64 - 1 }
         requires now { now ≤ 2 ^ 63 }
         ensures { self.new ≡ record self.old { state = beating (secrets_of self.old) now self.old.state } }
     {
-        let nonce = self.nonces;
+        let nonce = nonce(&self.cookie_key, self.nonces);
         self.nonces += 1;
         self.beat = Some(Beat { nonce, sent: now });
         self.beat_due = Some(now + u64::from(self.sender.timeout()));

@@ -77,7 +77,7 @@ impl Endpoint {
         now: u64,
         watch: &mut W,
     )
-        requires cookie { length cookie.now ≤ 660 }
+        requires cookie { length cookie.now ≤ 1184 }
         requires now { now ≤ 2 ^ 63 }
         ensures { Does W.has watch.old watch.new self.old self.new
             (echoed self.old.settings now failures (init_of init.now) cookie.now self.old.state) }
