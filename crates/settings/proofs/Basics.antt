@@ -21,7 +21,7 @@ pub use Rattle.std.specs.Str.{bytes_eq}
 pub use Rattle.settings.specs.Checks.{first_of, fault_unless, entries_fault, is_within, natural, range_fault, far_point_fault, has_repeat, count_fault, optional_fault, is_digit, ssn_fault, route_fault, digits_fault, added_fault}
 unfoldable pub use Rattle.settings.specs.Checks.{numbers_fault}
 pub use Rattle.settings.specs.FirstFault.{first_fault, ticks_fault, timers_written, ticks_in, timer_in, destination_fault, destination_point_fault, set_list_fault, joined_fault, has_destination, is_set_name, reached_fault, is_reached, is_first_name, link_fault, link_name_fault, link_set_fault, link_slc_fault, has_link_named, has_link_code, set_fault, set_name_fault, set_adjacent_fault, has_set_named, has_adjacent}
-unfoldable pub use Rattle.settings.specs.FirstFault.{scalars_fault, timers_fault, link_tests_fault, tables_fault, arrays_fault, sets_fault, links_fault, destinations_fault, unreached_fault}
+unfoldable pub use Rattle.settings.specs.FirstFault.{scalars_fault, timers_fault, link_tests_fault, bar_fault, tables_fault, arrays_fault, sets_fault, links_fault, destinations_fault, unreached_fault}
 pub use Rattle.settings.specs.TitleFaults.{title_fault, title_numbers_fault, title_digits_fault, title_target_fault, title_change_fault, is_same_title}
 unfoldable pub use Rattle.settings.specs.TitleFaults.{titles_fault}
 pub use Rattle.settings.specs.Meaning.{settings_of, ticks_of, test_ticks_of, set_of, destination_of, set_place, set_number, link_of, title_of, digit_of, route_of, change_of, is_by_title, points_of}
@@ -37,6 +37,6 @@ pub use Rattle.settings_rows.specs.declared.fault.DraftFault.{DraftFault}
 pub use Rattle.settings_rows.specs.declared.fault.FaultKind.{FaultKind}
 pub use Rattle.settings_rows.specs.declared.fault.FaultKind.TheVariants.{Range, Duplicate, UnknownName, TooMany}
 pub use Rattle.settings_rows.specs.declared.key.Key.{Key}
-pub use Rattle.settings_rows.specs.declared.key.TimerKey.TheVariants.{Slt1, Slt2, L4e, Sst}
+pub use Rattle.settings_rows.specs.declared.key.TimerKey.TheVariants.{Slt1, Slt2, L4e, Sst, T2Bar}
 pub use Rattle.settings_rows.specs.declared.key.Key.TheVariants.{Own, Network, Window, Pool, Users, Subsystems, Timer, Destination, DestinationPoint, DestinationSets, DestinationJoined, SetAdjacent, Link, LinkName, LinkSet, LinkSlc, LinkShare, Set, SetName, Title, TitleTranslation, TitlePlan, TitleNature, TitleDigits, TitlePoint, TitleBackup, TitleRoute, TitleSsn, TitleNewPlan, TitleNewNature, TitleRemove, TitleAdd}
 pub use Rattle.signalling_types.specs.declared.limits.TheConstants.Limits.{WINDOW, POOL, TICKS, DESTINATIONS, SETS_PER_DESTINATION, LINKS, LINKS_PER_SET, SETS, TITLES, TITLE_DIGITS}

@@ -3,7 +3,7 @@ use Rattle.settings.proofs.Basics.{◌≡◌, arith, None, natural, range_fault,
 use Rattle.settings_rows.specs.declared.draft.Draft.{Draft}
 use Rattle.settings.proofs.Rows.{three_none, four_none, five_none}
 use Rattle.settings.proofs.WellNumbers.{in_range, numbers_within, numbers_differ}
-use Rattle.settings.proofs.WellTimers.{timers_within}
+use Rattle.settings.proofs.WellTimers.{timers_within, bar_longer}
 use Rattle.settings.proofs.WellSets.{set_count_well, sets_well, set_names_well, adjacent_points_well}
 use Rattle.settings.proofs.WellLinks.{link_count_well, links_well, link_names_well, link_codes_well, links_of_a_set_well}
 use Rattle.settings.proofs.WellDestinations.{destination_count_well, destinations_well, points_well, adjacent_points_led_well}
@@ -40,6 +40,7 @@ well_of d h =
       subsystems = numbers_within 1 255 Subsystems d.subsystems.items r.2;
       subsystems_differ = numbers_differ 1 255 Subsystems d.subsystems.items r.2;
       timers = timers_within d.timers r.3;
+      bar = bar_longer d.timers r.3;
       set_count = set_count_well (natural d.own) d.sets.items a.0;
       sets = sets_well (natural d.own) d.sets.items a.0;
       set_names_differ = set_names_well (natural d.own) d.sets.items a.0;

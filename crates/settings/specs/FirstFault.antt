@@ -1,5 +1,5 @@
 -- The first fault of settings as they were written.
-use Rattle.std.specs.Prelude.{false, String, string_eq, ℕ, Bool, not, ◌&&◌, ◌||◌, nat_eq, nat_le, ℤ, List, [], ◌∷◌}
+use Rattle.std.specs.Prelude.{false, String, string_eq, ℕ, Bool, not, ◌&&◌, ◌||◌, nat_eq, nat_le, nat_lt, ℤ, List, [], ◌∷◌}
 use Rattle.std.specs.Prelude.{Option, Some, None, length, is_some, string_bytes}
 use Rattle.std.specs.declared.alloc.Global.{Global}
 use Rattle.std.specs.List.{list_any, list_all}
@@ -14,7 +14,7 @@ use Rattle.settings_rows.specs.declared.fault.DraftFault.{DraftFault}
 use Rattle.settings_rows.specs.declared.fault.FaultKind.TheVariants.{Range, Duplicate, UnknownName}
 use Rattle.settings_rows.specs.declared.key.TimerKey.{TimerKey}
 use Rattle.settings_rows.specs.declared.key.TimerKey.TheVariants.{L1, L2, L3, L4, L6, L7, T1, T2, T3, T4, T6, T8, T10}
-use Rattle.settings_rows.specs.declared.key.TimerKey.TheVariants.{Slt1, Slt2, L4e, Sst}
+use Rattle.settings_rows.specs.declared.key.TimerKey.TheVariants.{Slt1, Slt2, L4e, Sst, T2Bar}
 use Rattle.settings_rows.specs.declared.key.Key.{Key}
 use Rattle.settings_rows.specs.declared.key.Key.TheVariants.{Own, Network, Window, Pool, Users, Subsystems, Timer, Set}
 use Rattle.settings_rows.specs.declared.key.Key.TheVariants.{SetName, SetAdjacent, Link, LinkName, LinkSet, LinkSlc}
@@ -94,6 +94,14 @@ link_tests_fault (Some tests) = first_of (
     ∷ range_fault 1 TICKS (Timer Slt2) tests.slt2
     ∷ [])
 
+-- the bar, which may be left out, is longer than T2
+unfoldable pub bar_fault : (t2 : ℕ) → Option ℤ → Option DraftFault
+bar_fault t2 None = None
+bar_fault t2 (Some bar) = first_of (
+    range_fault 1 TICKS (Timer T2Bar) bar
+    ∷ fault_unless (nat_lt t2 (natural bar)) Range (Timer T2Bar)
+    ∷ [])
+
 -- the timers, in their order; last those that may be left out
 unfoldable pub timers_fault : TimersDraft → Option DraftFault
 timers_fault t = first_of (
@@ -101,6 +109,7 @@ timers_fault t = first_of (
     ∷ link_tests_fault t.link_tests
     ∷ optional_fault 1 TICKS (Timer L4e) t.l4e
     ∷ optional_fault 1 TICKS (Timer Sst) t.sst
+    ∷ bar_fault (natural t.t2) t.t2_bar
     ∷ [])
 
 -- whether a link of this name is among these

@@ -40,6 +40,7 @@ ticks_of t = record {
   link_tests = option_map test_ticks_of t.link_tests;
   l4e = option_map natural t.l4e;
   sst = option_map natural t.sst;
+  t2_bar = option_map natural t.t2_bar;
 }
 
 -- the place of the set of this name

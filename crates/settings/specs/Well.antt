@@ -33,7 +33,7 @@ ticks_if_any (Some ticks) = ticks ∷ []
 abbrev pub all_ticks : TimerTicks → List ℕ
 all_ticks t =
     t.l1 ∷ t.l2 ∷ t.l3 ∷ t.l4 ∷ t.l6 ∷ t.l7 ∷ t.t1 ∷ t.t2 ∷ t.t3 ∷ t.t4 ∷ t.t6 ∷ t.t8 ∷ t.t10
-    ∷ (test_ticks t.link_tests ++ (ticks_if_any t.l4e ++ ticks_if_any t.sst))
+    ∷ (test_ticks t.link_tests ++ (ticks_if_any t.l4e ++ (ticks_if_any t.sst ++ ticks_if_any t.t2_bar)))
 
 -- a point of 14 bits, other than the node's own
 pub record IsFarPoint (own : ℕ) (point : ℕ) : Type 0 where
@@ -122,6 +122,7 @@ pub record IsWell (c : Configuration) : Type 0 where
   pub subsystems : All (IsWithin 1 255) c.subsystems
   pub subsystems_differ : IsDistinct nat_eq c.subsystems
   pub timers : All (IsWithin 1 TICKS) (all_ticks c.timers)
+  pub bar : IfSome c.timers.t2_bar (λ bar. c.timers.t2 < bar)
   pub set_count : IsWithin 1 SETS (length c.sets)
   pub sets : All (IsSet c.own) c.sets
   pub set_names_differ : IsDistinct is_set_of_same_name c.sets

@@ -25,5 +25,5 @@ pub use settings_rows::{
 };
 pub use signalling_types::{
     Cause, ChangeoverTimer, FailureReason, Flow, FrameFault, LateTimer, Limits, LinkId, Msu,
-    MsuRef, Notice, Outcome, PointCode, SetId, Sls, Ssn,
+    MsuRef, Notice, Outcome, PointCode, SetId, Sls, Ssn, Unbarring,
 };

@@ -4,13 +4,13 @@ ghost use Rattle.std.specs.Prelude.{◌≡◌, [], None, Some, map, IfOk, OnOk, 
 ghost use Rattle.std.specs.Option.{option_map};
 ghost use Rattle.settings.specs.Checks.{natural, entries_fault, optional_fault};
 ghost use Rattle.settings.specs.Meaning.{ticks_of, test_ticks_of};
-ghost use Rattle.settings.specs.FirstFault.{written, timers_written, ticks_fault, link_tests_fault, timers_fault};
+ghost use Rattle.settings.specs.FirstFault.{written, timers_written, ticks_fault, link_tests_fault, bar_fault, timers_fault};
 ghost use Rattle.settings_rows.specs.declared.key.Key.TheVariants.{Timer};
 ghost use Rattle.signalling_types.specs.declared.limits.TheConstants.Limits.{TICKS};
 
-use crate::numbers::{number, optional_number};
+use crate::numbers::{ensure, number, optional_number};
 use settings_rows::{
-    DraftFault, Key, LinkTestTicks, LinkTestsDraft, TimerKey, TimerTicks, TimersDraft,
+    DraftFault, FaultKind, Key, LinkTestTicks, LinkTestsDraft, TimerKey, TimerTicks, TimersDraft,
 };
 use signalling_types::Limits;
 
@@ -44,6 +44,7 @@ pub(crate) fn timer_ticks(timers: &TimersDraft) -> Result<TimerTicks, DraftFault
     let link_tests = link_test_ticks(timers.link_tests)?;
     let l4e = optional_ticks(timers.l4e, TimerKey::L4e)?;
     let sst = optional_ticks(timers.sst, TimerKey::Sst)?;
+    let t2_bar = bar_ticks(t2, timers.t2_bar)?;
     Ok(TimerTicks {
         l1,
         l2,
@@ -61,6 +62,7 @@ pub(crate) fn timer_ticks(timers: &TimersDraft) -> Result<TimerTicks, DraftFault
         link_tests,
         l4e,
         sst,
+        t2_bar,
     })
 }
 
@@ -132,6 +134,22 @@ fn optional_ticks(ticks: Option<i64>, timer: TimerKey) -> Result<Option<u16>, Dr
     ensures fault { IfErr result (λ fault. optional_fault 1 TICKS (Timer timer) ticks ≡ Some fault) }
 {
     optional_number(ticks, 1, Limits::TICKS as u16, Key::Timer(timer))
+}
+
+/// The ticks of the bar, if they weren't left out: more than those of T2.
+#[tactic(auto, unfolding(crate::specs::FirstFault::bar_fault))]
+fn bar_ticks(t2: u16, bar: Option<i64>) -> Result<Option<u16>, DraftFault>
+    ensures value { IfOk result (λ n. n ≡ option_map natural bar) }
+    ensures well { OnOk result (bar_fault t2 bar ≡ None) }
+    ensures fault { IfErr result (λ fault. bar_fault t2 bar ≡ Some fault) }
+{
+    let Some(bar) = bar else {
+        return Ok(None);
+    };
+    let key = Key::Timer(TimerKey::T2Bar);
+    let ticks = number(bar, 1, Limits::TICKS as u16, key)?;
+    ensure(t2 < ticks, FaultKind::Range, key)?;
+    Ok(Some(ticks))
 }
 
 fn all_ticks(timers: &[Written; TIMERS]) -> Result<[u16; TIMERS], DraftFault>

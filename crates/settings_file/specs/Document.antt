@@ -8,7 +8,7 @@ use Rattle.settings_rows.specs.declared.draft.LinkTestsDraft.{LinkTestsDraft}
 use Rattle.settings_rows.specs.declared.key.Key.TheVariants as key
 use Rattle.settings_rows.specs.declared.key.TimerKey.{TimerKey}
 use Rattle.settings_rows.specs.declared.key.TimerKey.TheVariants.{L1, L2, L3, L4, L6, L7, T1, T2, T3, T4, T6, T8, T10}
-use Rattle.settings_rows.specs.declared.key.TimerKey.TheVariants.{Slt1, Slt2, L4e, Sst}
+use Rattle.settings_rows.specs.declared.key.TimerKey.TheVariants.{Slt1, Slt2, L4e, Sst, T2Bar}
 use Rattle.settings_file.specs.declared.fault.SettingsFault.{SettingsFault}
 use Rattle.settings_file.specs.declared.fault.SettingsFault.TheVariants.{Kind}
 use Rattle.settings_file.specs.declared.document.Numbers.{Numbers}
@@ -42,8 +42,8 @@ link_tests_at has_keys t =
     else Ok None
 
 -- how many ticks each timer runs
-unfoldable pub timers_in : (has_keys : Bool) → Members → Result TimersDraft SettingsFault
-timers_in has_keys t =
+unfoldable pub timers_in : (has_keys has_additions : Bool) → Members → Result TimersDraft SettingsFault
+timers_in has_keys has_additions t =
     and_then (ticks_at L1 t) (λ l1.
     and_then (ticks_at L2 t) (λ l2.
     and_then (ticks_at L3 t) (λ l3.
@@ -60,6 +60,7 @@ timers_in has_keys t =
     and_then (link_tests_at has_keys t) (λ link_tests.
     and_then (optional_ticks_at has_keys L4e t) (λ l4e.
     and_then (optional_ticks_at has_keys Sst t) (λ sst.
+    and_then (optional_ticks_at has_additions T2Bar t) (λ t2_bar.
     Ok (record {
       l1 = l1;
       l2 = l2;
@@ -77,12 +78,13 @@ timers_in has_keys t =
       link_tests = link_tests;
       l4e = l4e;
       sst = sst;
-    })))))))))))))))))
+      t2_bar = t2_bar;
+    }))))))))))))))))))
 
 -- the table of timers
-unfoldable pub timers_at : (has_keys : Bool) → Members → Result TimersDraft SettingsFault
-timers_at has_keys t =
-    and_then (required_at key.Timers t) (λ d. and_then (table_in (Kind key.Timers) d) (timers_in has_keys))
+unfoldable pub timers_at : (has_keys has_additions : Bool) → Members → Result TimersDraft SettingsFault
+timers_at has_keys has_additions t =
+    and_then (required_at key.Timers t) (λ d. and_then (table_in (Kind key.Timers) d) (timers_in has_keys has_additions))
 
 -- the numbers that a file begins with
 unfoldable pub numbers_at : Members → Result Numbers SettingsFault
@@ -125,7 +127,7 @@ document t =
     and_then (integers_at key.Users t) (λ users.
     and_then (integers_at key.Subsystems t) (λ subsystems.
     and_then (services_at (has_extensions numbers.version) (has_additions numbers.version) t) (λ services.
-    and_then (timers_at (has_extensions numbers.version) t) (λ timers.
+    and_then (timers_at (has_extensions numbers.version) (has_additions numbers.version) t) (λ timers.
     and_then (sets_at t) (λ sets.
     and_then (links_at (has_extensions numbers.version) t) (λ links.
     and_then (destinations_at (has_joined numbers.version) t) (λ destinations.

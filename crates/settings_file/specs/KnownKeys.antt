@@ -64,7 +64,7 @@ timer_keys =
     ∷ known (codes "l6") First ∷ known (codes "l7") First ∷ known (codes "t1") First ∷ known (codes "t2") First
     ∷ known (codes "t3") First ∷ known (codes "t4") First ∷ known (codes "t6") First ∷ known (codes "t8") First
     ∷ known (codes "t10") First ∷ known (codes "slt1") Third ∷ known (codes "slt2") Third
-    ∷ known (codes "l4e") Third ∷ known (codes "sst") Third ∷ []
+    ∷ known (codes "l4e") Third ∷ known (codes "sst") Third ∷ known (codes "t2_bar") Fourth ∷ []
 
 -- the keys of the table of a server
 abbrev pub serve_keys : List KnownKey

@@ -139,7 +139,7 @@ fn contents(alloc: Global, table: &Table) -> Result<Document, SettingsFault>
     let users = integers(alloc, table, Key::Users)?;
     let subsystems = integers(alloc, table, Key::Subsystems)?;
     let services = asked_services(numbers.has_extensions(), numbers.has_additions(), table)?;
-    let timers = timers(numbers.has_extensions(), table)?;
+    let timers = timers(numbers.has_extensions(), numbers.has_additions(), table)?;
     let sets = sets(alloc, table)?;
     let links = links(alloc, numbers.has_extensions(), table)?;
     let destinations = destinations(alloc, numbers.has_joined(), table)?;

@@ -4,7 +4,7 @@ ghost use Rattle.std.specs.Prelude.{◌≡◌, None, Some, []};
 ghost use Rattle.settings_rows.specs.Keys.{key_index};
 ghost use Rattle.settings_file.specs.Places.{key_place, row_place, behind_table, name_at, key_name};
 
-use settings::Key;
+use settings::{Key, TimerKey};
 
 /// A key of a settings file: where it is, and what its value must be, in words. `lone_key` and `entry_key` make one.
 #[derive(Clone, Copy)]
@@ -64,6 +64,8 @@ const POINT: &str = "0 to 16383";
 const FAR_POINT: &str = "0 to 16383, and not the node's own";
 
 const TICKS: &str = "1 to 65535";
+
+const BAR_TICKS: &str = "more than timers.t2, and at most 65535";
 
 const SET_NAMES: &str = "1 to 8 names of sets";
 
@@ -138,6 +140,7 @@ fn lone_row(key: Key) -> KeyRow
         Key::OutOfService => lone_key("out_of_service", TRUTH, ""),
         Key::ChangeoverByAnyRoute => lone_key("changeover_by_any_route", TRUTH, ""),
         Key::Timers => lone_key("timers", TABLE, ""),
+        Key::Timer(TimerKey::T2Bar) => lone_key("timers.t2_bar", INTEGER, BAR_TICKS),
         Key::Timer(timer) => lone_key(timer.path(), INTEGER, TICKS),
         Key::Set => lone_key("set", TABLES, "1 to 32"),
         Key::Link => lone_key("link", TABLES, "1 to 64"),

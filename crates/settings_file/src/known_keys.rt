@@ -51,6 +51,7 @@ const TIMERS: &[(&str, Since)] = &[
     ("slt2", Since::Third),
     ("l4e", Since::Third),
     ("sst", Since::Third),
+    ("t2_bar", Since::Fourth),
 ];
 
 /// The keys of the table `serve`.

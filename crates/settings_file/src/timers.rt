@@ -54,8 +54,12 @@ fn link_tests(has_keys: bool, table: &Table) -> Result<Option<LinkTestsDraft>, S
 
 /// The ticks that each timer of a table runs.
 #[tactic(auto, unfolding(crate::specs::Document::timers_in))]
-fn timers_in(has_keys: bool, table: &Table) -> Result<TimersDraft, SettingsFault>
-    ensures { result ≡ timers_in has_keys (table_view table.now) }
+fn timers_in(
+    has_keys: bool,
+    has_additions: bool,
+    table: &Table,
+) -> Result<TimersDraft, SettingsFault>
+    ensures { result ≡ timers_in has_keys has_additions (table_view table.now) }
 {
     Ok(TimersDraft {
         l1: ticks(table, TimerKey::L1)?,
@@ -74,15 +78,21 @@ fn timers_in(has_keys: bool, table: &Table) -> Result<TimersDraft, SettingsFault
         link_tests: link_tests(has_keys, table)?,
         l4e: optional_ticks(has_keys, table, TimerKey::L4e)?,
         sst: optional_ticks(has_keys, table, TimerKey::Sst)?,
+        t2_bar: optional_ticks(has_additions, table, TimerKey::T2Bar)?,
     })
 }
 
-/// The timers of a file, whose version has the keys of those that may be left out, or doesn't have them.
+/// The timers of a file, whose version has the keys of those that may be left out, or doesn't have them: those that
+/// version 3 brought, and those of version 4.
 #[tactic(auto, unfolding(crate::specs::Document::timers_at))]
-pub(crate) fn timers(has_keys: bool, table: &Table) -> Result<TimersDraft, SettingsFault>
-    ensures { result ≡ timers_at has_keys (table_view table.now) }
+pub(crate) fn timers(
+    has_keys: bool,
+    has_additions: bool,
+    table: &Table,
+) -> Result<TimersDraft, SettingsFault>
+    ensures { result ≡ timers_at has_keys has_additions (table_view table.now) }
 {
     let value = required(table, Key::Timers)?;
     let timers = table_in(value, SettingsFault::Kind(Key::Timers))?;
-    timers_in(has_keys, timers)
+    timers_in(has_keys, has_additions, timers)
 }

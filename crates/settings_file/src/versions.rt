@@ -15,7 +15,7 @@ const SECOND_VERSION: i64 = 2;
 /// changed titles, and timers of tests and of emergency proving.
 const THIRD_VERSION: i64 = 3;
 
-/// The version that brought orders to change over by any route.
+/// The version that brought orders to change over by any route, and bars of T2.
 const LAST_VERSION: i64 = 4;
 
 /// The version that brought a key: the first, the second, the third or the last.

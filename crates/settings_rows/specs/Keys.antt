@@ -3,7 +3,7 @@ use Rattle.std.specs.Prelude.{ℕ, List, [], ◌++◌, Option, Some, None, codes
 use Rattle.std.specs.Fmt.{decimal}
 use Rattle.settings_rows.specs.declared.key.TimerKey.{TimerKey}
 use Rattle.settings_rows.specs.declared.key.TimerKey.TheVariants.{L1, L2, L3, L4, L6, L7, T1, T2, T3, T4, T6, T8, T10}
-use Rattle.settings_rows.specs.declared.key.TimerKey.TheVariants.{Slt1, Slt2, L4e, Sst}
+use Rattle.settings_rows.specs.declared.key.TimerKey.TheVariants.{Slt1, Slt2, L4e, Sst, T2Bar}
 use Rattle.settings_rows.specs.declared.key.Key.{Key}
 use Rattle.settings_rows.specs.declared.key.Key.TheVariants.{Version, Own, Network, Window, Pool, Users, Subsystems}
 use Rattle.settings_rows.specs.declared.key.Key.TheVariants.{ExtendedUnitdata, SubsystemTests, UserPartUnavailable}
@@ -36,6 +36,7 @@ timer_path Slt1 = codes "timers.slt1"
 timer_path Slt2 = codes "timers.slt2"
 timer_path L4e = codes "timers.l4e"
 timer_path Sst = codes "timers.sst"
+timer_path T2Bar = codes "timers.t2_bar"
 
 -- how a key is written; of a key in an entry of an array, how the array is
 abbrev pub key_front : Key → List ℕ

@@ -78,6 +78,9 @@ pub struct TimersDraft {
     pub l4e: Option<i64>,
     /// Between two tests of a prohibited subsystem; if there is one, the node hears of other points' subsystems.
     pub sst: Option<i64>,
+    /// Waiting further for the acknowledgement of a changeover order, after the changeover is complete; if there is
+    /// none, the wait ends with T2.
+    pub t2_bar: Option<i64>,
 }
 
 /// How many ticks the timers of the node's own link tests run, as it was written.

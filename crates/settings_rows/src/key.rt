@@ -42,6 +42,8 @@ pub enum TimerKey {
     L4e,
     /// `sst`.
     Sst,
+    /// `t2_bar`.
+    T2Bar,
 }
 
 impl TimerKey {
@@ -67,6 +69,7 @@ impl TimerKey {
             TimerKey::Slt2 => "timers.slt2",
             TimerKey::L4e => "timers.l4e",
             TimerKey::Sst => "timers.sst",
+            TimerKey::T2Bar => "timers.t2_bar",
         }
     }
 }

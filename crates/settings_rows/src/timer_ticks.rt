@@ -44,4 +44,7 @@ pub struct TimerTicks {
     pub l4e: Option<u16>,
     /// Between two tests of a prohibited subsystem, where the node hears of other points' subsystems.
     pub sst: Option<u16>,
+    /// Waiting further for the acknowledgement of a changeover order, after the changeover is complete: longer than
+    /// `t2`. Without it the wait ends with that timer.
+    pub t2_bar: Option<u16>,
 }

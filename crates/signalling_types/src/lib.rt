@@ -16,7 +16,7 @@ pub use cause::Cause;
 pub use limits::Limits;
 pub use message::Msu;
 pub use msu_ref::MsuRef;
-pub use notice::{ChangeoverTimer, FailureReason, FrameFault, LateTimer, Notice};
+pub use notice::{ChangeoverTimer, FailureReason, FrameFault, LateTimer, Notice, Unbarring};
 pub use number::Number24;
 pub use outcome::Outcome;
 pub use point::{Flow, LinkId, PointCode, SetId, Sls};

@@ -88,6 +88,15 @@ pub enum ChangeoverTimer {
     T2,
 }
 
+/// What let a link open though the acknowledgement of its changeover order didn't come.
+#[derive(Clone, Copy, PartialEq, Eq)]
+pub enum Unbarring {
+    /// T2, which ran longer after the changeover was complete.
+    T2,
+    /// An order of the operator.
+    Operator,
+}
+
 /// The timers that end a changeback (Q.704 §16.8).
 #[derive(Clone, Copy, PartialEq, Eq)]
 pub enum LateTimer {
@@ -112,6 +121,8 @@ pub enum Notice {
     Unsent(Cause, PointCode),
     /// A changeover of this link ended by its timer.
     Expired(ChangeoverTimer, LinkId),
+    /// This link may open, though the acknowledgement of its changeover order didn't come.
+    Unbarred(Unbarring, LinkId),
     /// A changeback ended by its timer: T3 of the link of this number, or T4 of this code.
     Late(LateTimer, u8),
 }
