@@ -4,3 +4,4 @@ pub mod Finishing
 pub mod Keeping
 pub mod Splicing
 pub mod CompletionExamples
+pub mod Unasked

@@ -1,5 +1,5 @@
 -- TCOC, changeover control (Q.704 §5): how far the changeover of a link is, and what its completion finds.
-use Rattle.std.specs.Prelude.{ℕ, ◌-◌, not, List, [], ◌++◌, take, drop, filter, Option, Some, None, Bool, true, false, ◌&&◌, if◌then◌else◌, slice_index_or, slice_set}
+use Rattle.std.specs.Prelude.{ℕ, ◌-◌, not, List, [], ◌++◌, take, drop, filter, Option, Some, None, is_some, Bool, true, false, ◌&&◌, if◌then◌else◌, slice_index_or, slice_set}
 use Rattle.std.specs.Option.{option_and_then}
 use Rattle.signalling_types.specs.Message.{Message, is_management}
 use Rattle.link.specs.Queue.{Queue, named_count}
@@ -80,6 +80,14 @@ failed ordered s = record { incomplete = true; awaited = ordered }
 abbrev pub begun_by_peer : Standing → Standing
 begun_by_peer s = record s { incomplete = true }
 
+-- whether its changeover isn't complete, and no answer is awaited: no order went out
+abbrev pub is_unasked : Standing → Bool
+is_unasked s = s.incomplete && not s.awaited
+
+-- an order goes out late: its answer is awaited from now on
+abbrev pub with_order : Standing → Standing
+with_order s = record s { awaited = true }
+
 -- its messages have gone elsewhere
 abbrev pub completed : Standing → Standing
 completed s = record s { incomplete = false }
@@ -88,11 +96,27 @@ completed s = record s { incomplete = false }
 abbrev pub acknowledged : Standing → Standing
 acknowledged s = record s { incomplete = false; awaited = false }
 
+-- whether a number was given that names no count
+abbrev pub is_unreasonable : (number count : Option ℕ) → Bool
+is_unreasonable number count = not (is_some count) && is_some number
+
 -- whether an answer completes a changeover; none if no answer is awaited
 abbrev pub completed_by_acknowledgement : Standing → Option Bool
 completed_by_acknowledgement s = if s.awaited then Some s.incomplete else None
 
+-- whether the answer is awaited though the changeover is complete, so that the link is barred from opening
+abbrev pub is_barred : Standing → Bool
+is_barred s = not s.incomplete && s.awaited
+
+-- whether the answer is awaited, and the changeover isn't complete yet
+abbrev pub awaits_incomplete : Standing → Bool
+awaits_incomplete s = s.incomplete && s.awaited
+
+-- whether T2 that runs out leaves the answer awaited: where links are barred, and the changeover isn't complete yet
+abbrev pub stays_awaited : (bars : Bool) → Standing → Bool
+stays_awaited bars s = bars && s.incomplete
+
 -- its timer ran out
-abbrev pub expired : ChangeoverTimer → Standing → Standing
-expired T1 s = completed s
-expired T2 s = acknowledged s
+abbrev pub expired : (bars : Bool) → ChangeoverTimer → Standing → Standing
+expired bars T1 s = completed s
+expired bars T2 s = if stays_awaited bars s then completed s else acknowledged s

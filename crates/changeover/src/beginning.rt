@@ -12,7 +12,7 @@ pub enum Beginning {
     /// An order goes to the adjacent point by another link, with the number of the last message that was accepted on
     /// the failed one. T2 of the failed link runs, and the answer is awaited.
     Orders(Number24),
-    /// No order goes to the adjacent point: T1 of the failed link runs.
+    /// No order goes to the adjacent point for now: T1 of the failed link runs.
     Waits,
 }
 
