@@ -1,6 +1,6 @@
 -- Whatever happens, each link has the timer of its state.
 use Rattle.exchange_rules.proofs.Basics.{◌≡◌, ◌≢◌, ◌<◌, ℕ, Bool, true, false, ◌&&◌, not, nat_lt, length, List, [], ◌∷◌, Option, Some, None, refl, ap, sym, subst, ◌∙◌, arith, ⊎_elim, cases_eq, if◌then◌else◌, is_some, get_or-set_same, length-set}
-use Rattle.exchange_rules.proofs.Definitions.{period_of, Configuration, Message, FailureReason, ChangeoverTimer, Facts, opening, carries, completed, LinkTimer, TimerName, NodeCounts, Running, counts-set, counts-clear, counts-clear_set, left-set_other, left-clear_other, set_timer, clear_timer, timer_name, has_other, is_ordered, Found, Link, down_link, after_failure, Parts, Node, with_parts, link_at, in_service, down, is_link, set_of, suspended, fail_link, without_tests, make_unavailable, changing, begin, change_over, begin_by_peer, fail_by_peer, fail_by_order, complete_by_order, complete_if, concluded, lose_each, judged, changeover_of, with_changeover, changeover_order, changeover_acknowledgement, on_changeover_order, with_changeover_acknowledged, with_expiry, hold_flows, held_by_rerouting, answer, Handled, Ignored, WholeQueues, whole}
+use Rattle.exchange_rules.proofs.Definitions.{period_of, Configuration, Message, FailureReason, ChangeoverTimer, Facts, opening, carries, completed, LinkTimer, TimerName, NodeCounts, Running, counts-set, counts-clear, counts-clear_set, left-set_other, left-clear_other, set_timer, clear_timer, timer_name, has_other, is_ordered, Found, Link, down_link, after_failure, Parts, Node, with_parts, link_at, in_service, down, is_link, set_of, suspended, fail_link, without_tests, make_unavailable, changing, begin, change_over, begin_by_peer, fail_by_peer, fail_by_order, complete_by_order, complete_if, concluded, lose_each, judged, changeover_of, with_changeover, changeover_order, changeover_acknowledgement, on_changeover_order, with_changeover_acknowledged, with_expiry, hold_flows, held_by_rerouting, answer, Handled, Ignored, WholeQueues, whole, bar, barred, timed_bar, awaits_incomplete, asking}
 use Rattle.timers.specs.declared.name.TimerName.TheVariants as name
 use Rattle.timers.specs.declared.name.RouteTimer.TheVariants as of_set
 use Rattle.link.specs.declared.action.LinkTimer.TheVariants as timer
@@ -100,6 +100,7 @@ module _ (l : ℕ) where
       routed = λ link m n e. same n _ refl refl;
       noted = λ notice n e. same n _ refl refl;
       lost = λ notice n e. same n _ refl refl;
+      counted = λ messages broken n. same n _ refl refl;
     }
 
     abbrev failed : (served : Bool) (link : ℕ) (why : FailureReason) (n : Node WholeQueues) → Parts
@@ -196,12 +197,21 @@ module _ (l : ℕ) where
         (alike lost done (record { links = refl; counts = counts-clear (name.T1 link) lost.parts.timers; timers = clear-others (name.T1 link) lost.parts.timers refl }))
         (send_each-steps sends found.queued_anew done))
 
+    bar-keeps : (link : ℕ) (n : Node WholeQueues) → Keeps l n (bar whole c link n)
+    bar-keeps link n = by c.timers.t2_bar (awaits_incomplete (changeover_of n.parts link))
+      where
+        by : (ticks : Option ℕ) (is_barred : Bool) → Keeps l n (with_parts n (record n.parts { timers = timed_bar ticks is_barred link n.parts.timers }))
+        by (Some ticks) true = alike n _ (record { links = refl; counts = counts-set (name.T2 link) ticks n.parts.timers; timers = set-others (name.T2 link) ticks n.parts.timers refl })
+        by (Some ticks) false = same n n refl refl
+        by None is_barred = same n n refl refl
+
     orders-keeps : (link : ℕ) (number : Option ℕ) (n : Node WholeQueues) → Keeps l n (on_changeover_order whole c link number n).left
     orders-keeps link number n =
-        let one : Node WholeQueues = fail_by_order whole c link n in
+        let fallen : Node WholeQueues = fail_by_order whole c link n in
+        let one : Node WholeQueues = bar whole c link fallen in
         let standing : Node WholeQueues = with_parts one (with_changeover link (completed (changeover_of one.parts link)) one.parts) in
         let two : Node WholeQueues = complete_by_order whole c link number one in
-        both n one _ (ordered-keeps (down n.parts link) link n)
+        both n one _ (both n fallen one (ordered-keeps (down n.parts link) link n) (bar-keeps link fallen))
         (both one two _ (both one standing two (same one standing refl refl) (complete-keeps (changeover_of one.parts link).incomplete link number standing))
         (send_routed-steps sends (changeover_acknowledgement c link (whole.last_accepted two.queues link)) two))
 
@@ -215,16 +225,16 @@ module _ (l : ℕ) where
         (alike n next (record { links = refl; counts = counts-clear (name.T2 link) n.parts.timers; timers = clear-others (name.T2 link) n.parts.timers refl }))
         (complete-keeps (changeover_of n.parts link).incomplete link number next)
 
-    expiry-keeps : (its : ChangeoverTimer) (link : ℕ) (n : Node WholeQueues) → Keeps l n (with_parts n (with_expiry its link n.parts))
-    expiry-keeps which.T1 link n = same n _ refl refl
-    expiry-keeps which.T2 link n = same n _ refl refl
+    expiry-keeps : (its : ChangeoverTimer) (link : ℕ) (n : Node WholeQueues) → Keeps l n (with_parts n (with_expiry c its link (barred c link n.parts)))
+    expiry-keeps which.T1 link n = both n (bar whole c link n) _ (bar-keeps link n) (same (bar whole c link n) _ refl refl)
+    expiry-keeps which.T2 link n = both n (bar whole c link n) _ (bar-keeps link n) (same (bar whole c link n) _ refl refl)
 
     expires-keeps : (is_there : Bool) (its : ChangeoverTimer) (link : ℕ) (n : Node WholeQueues)
-        → Keeps l n (if is_there then complete_if whole c (changeover_of n.parts link).incomplete link None (with_parts n (with_expiry its link n.parts)) else n)
+        → Keeps l n (if is_there then complete_if whole c (changeover_of n.parts link).incomplete link None (with_parts n (with_expiry c its link (barred c link n.parts))) else n)
     expires-keeps false its link n = same n n refl refl
     expires-keeps true its link n =
-        both n (with_parts n (with_expiry its link n.parts)) _ (expiry-keeps its link n)
-        (complete-keeps (changeover_of n.parts link).incomplete link None (with_parts n (with_expiry its link n.parts)))
+        let ran : Node WholeQueues = with_parts n (with_expiry c its link (barred c link n.parts)) in
+        both n ran _ (expiry-keeps its link n) (complete-keeps (changeover_of n.parts link).incomplete link None ran)
 
     -- ---- flows are held
 
@@ -291,8 +301,19 @@ module _ (l : ℕ) where
       back = λ link n e may. on-link link _ n _ (is-set n.parts.links link _ down_link) (same-for link n.parts.timers) (λ h. waits-linked link (link_at n.parts link) _ n.parts.timers refl refl refl h.waits);
       fails = λ link why n may up. fails-keeps (in_service n.parts link) link why n;
       orders = λ link number n falls ends. orders-keeps link number n;
-      acknowledges = λ link number n may. acknowledges-keeps (changeover_of n.parts link).awaited link number n;
-      expires = λ its link n may. expires-keeps (is_link n.parts link) its link n;
+      acknowledges = λ link number n may wait. acknowledges-keeps (changeover_of n.parts link).awaited link number n;
+      expires = λ its link n may wait. expires-keeps (is_link n.parts link) its link n;
+      asks = λ link n e.
+          let stopped : Running = clear_timer (name.T1 link) n.parts.timers in
+          let stops : Node WholeQueues = with_parts n (record n.parts { timers = stopped }) in
+          let asks : Node WholeQueues = with_parts n (asking c link n.parts) in
+          both n asks _
+          (both n stops asks
+          (alike n stops (record { links = refl; counts = counts-clear (name.T1 link) n.parts.timers; timers = clear-others (name.T1 link) n.parts.timers refl }))
+          (alike stops asks (record { links = refl; counts = counts-set (name.T2 link) c.timers.t2 stopped; timers = set-others (name.T2 link) c.timers.t2 stopped refl })))
+          (send_routed-steps sends (changeover_order c link (whole.last_accepted n.queues link)) asks);
+      releases = λ link n e wait.
+          alike n _ (record { links = refl; counts = counts-clear (name.T2 link) n.parts.timers; timers = clear-others (name.T2 link) n.parts.timers refl });
       returns = λ before after code link other n e f. returns-keeps before after code link other n;
       frees = λ set code n may.
           alike n _ (record { links = refl; counts = counts-clear (name.T4 set code) n.parts.timers; timers = clear-others (name.T4 set code) n.parts.timers refl });

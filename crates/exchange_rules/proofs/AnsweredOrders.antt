@@ -1,6 +1,6 @@
 -- An order of the peer is answered, by whatever link it came, and awaits no answer itself.
 use Rattle.exchange_rules.proofs.Basics.{◌≡◌, ◌<◌, ◌≤◌, ◌⊎◌, inl, inr, ℕ, Bool, true, false, List, [], ◌∷◌, length, Option, Some, None, Result, refl, ap, sym, subst, ◌∙◌, arith, nat_tests, nat_eq, nat_le, nat_lt, is_some, if◌then◌else◌, ⊎_elim, cases_lt, get_or_past, get_or-set_same, length-set}
-use Rattle.exchange_rules.proofs.Definitions.{Configuration, Message, flow_of, opc_of, destination_place, set_place, Facts, chosen_link, link_in_set, testing, do_test, read_link_test, Cause, ManagementFull, ExtendedChangeoverAcknowledgement, Management, MgmtFault, Standing, no_changeover, completed, begun_by_peer, Queue, first_queue, appended, Parts, Node, Done, Found, with_parts, down, in_service, changeover_of, with_changeover, fail_link, link_of, set_of, peer_of, entry_of, suspended, without_tests, no_room, send, has_other, make_unavailable, begin_by_peer, fail_by_peer, fail_by_order, lose_each, judged, concluded, send_each, send_anew, complete_if, complete_by_order, changeover_acknowledgement, on_changeover_order, do_management, do_order, distribute, link_with_code, WholeQueues, queue_at, whole, HasAllPlaces, first_state, read_management}
+use Rattle.exchange_rules.proofs.Definitions.{Configuration, Message, flow_of, opc_of, destination_place, set_place, Facts, chosen_link, link_in_set, testing, do_test, read_link_test, Cause, ManagementFull, ExtendedChangeoverAcknowledgement, Management, MgmtFault, Standing, no_changeover, completed, begun_by_peer, Queue, first_queue, appended, Parts, Node, Done, Found, with_parts, down, in_service, changeover_of, with_changeover, fail_link, link_of, set_of, peer_of, entry_of, suspended, without_tests, no_room, send, has_other, make_unavailable, begin_by_peer, fail_by_peer, fail_by_order, lose_each, judged, concluded, send_each, send_anew, complete_if, complete_by_order, changeover_acknowledgement, on_changeover_order, do_management, do_order, distribute, link_with_code, WholeQueues, queue_at, whole, HasAllPlaces, first_state, read_management, bar}
 use Rattle.std.specs.Option.{option_and_then}
 use Rattle.signalling_types.specs.Numbers.{previous_number}
 use Rattle.signalling_types.specs.declared.notice.FailureReason.TheVariants as reasons
@@ -15,7 +15,7 @@ use Rattle.exchange_rules.proofs.Moves.{serving-there}
 use Rattle.exchange_rules.proofs.OrdersByAnyRoute.{management-room, send-changeovers}
 use Rattle.exchange_rules.proofs.OwnManagement.{made-management}
 use Rattle.exchange_rules.proofs.Receiving.{same-steps}
-use Rattle.exchange_rules.proofs.SteppingFailures.{complete_by_order-steps, fail_by_order-steps}
+use Rattle.exchange_rules.proofs.SteppingFailures.{complete_by_order-steps, fail_by_order-steps, bar-steps}
 use Rattle.exchange_rules.proofs.Telling.{send-routes}
 
 module _ (c : Configuration) where
@@ -36,7 +36,7 @@ module _ (c : Configuration) where
   concluded-changeovers : (link : ℕ) (found : Found) (p : Parts) → (concluded link found p).changeovers ≡ p.changeovers
   concluded-changeovers link found p = judged-changeovers found.is_reasonable (lose_each found.lost p) ∙ lose_each-changeovers found.lost p
 
-  complete_if-changeovers : (incomplete : Bool) (link : ℕ) (number : Option ℕ) (n : Node WholeQueues) → (complete_if whole c incomplete link number n).parts.changeovers ≡ n.parts.changeovers
+  pub complete_if-changeovers : (incomplete : Bool) (link : ℕ) (number : Option ℕ) (n : Node WholeQueues) → (complete_if whole c incomplete link number n).parts.changeovers ≡ n.parts.changeovers
   complete_if-changeovers true link number n =
       let found : Found = whole.found n.queues link number in
       send_each-changeovers found.queued_anew (record { queues = whole.completed n.queues link number; parts = concluded link found n.parts })
@@ -55,8 +55,8 @@ module _ (c : Configuration) where
       by false = refl
 
   -- of all links the same are awaited
-  record AwaitsAs (n m : Node WholeQueues) : Type 0 where
-    same : (other : ℕ) → (changeover_of m.parts other).awaited ≡ (changeover_of n.parts other).awaited
+  pub record AwaitsAs (n m : Node WholeQueues) : Type 0 where
+    pub same : (other : ℕ) → (changeover_of m.parts other).awaited ≡ (changeover_of n.parts other).awaited
 
   as-before : (n m : Node WholeQueues) → m.parts.changeovers ≡ n.parts.changeovers → AwaitsAs n m
   as-before n m e = record { same = λ other. ap (λ (all : List Standing). (changeover_of (record n.parts { changeovers = all }) other).awaited) e }
@@ -78,8 +78,11 @@ module _ (c : Configuration) where
   either-awaits false n m e = e
 
   module _ (link : ℕ) (number : Option ℕ) (n : Node WholeQueues) where
+    abbrev fallen : Node WholeQueues
+    fallen = fail_by_order whole c link n
+
     abbrev one : Node WholeQueues
-    one = fail_by_order whole c link n
+    one = bar whole c link fallen
 
     abbrev ended : Node WholeQueues
     ended = with_parts one (with_changeover link (completed (changeover_of one.parts link)) one.parts)
@@ -101,8 +104,9 @@ module _ (c : Configuration) where
 
     awaits : AwaitsAs n done.left
     awaits =
-        as-both n one done.left (either-awaits (down n.parts link) n (fail_by_peer whole c link n) (by_peer-awaits (in_service n.parts link) link n))
-        (as-both one ended done.left (as-set link (completed (changeover_of one.parts link)) one refl) (as-before ended done.left done-changeovers))
+        as-both n fallen done.left (either-awaits (down n.parts link) n (fail_by_peer whole c link n) (by_peer-awaits (in_service n.parts link) link n))
+        (as-both fallen one done.left (as-before fallen one refl)
+        (as-both one ended done.left (as-set link (completed (changeover_of one.parts link)) one refl) (as-before ended done.left done-changeovers)))
 
     -- its changeover is complete
 
@@ -129,7 +133,7 @@ module _ (c : Configuration) where
       m = reply (whole.last_accepted two.queues link)
 
       then-places : HasAllPlaces c two
-      then-places = (complete_by_order-steps (places-steps c) link number one).stay ((fail_by_order-steps (places-steps c) link n).stay places)
+      then-places = (complete_by_order-steps (places-steps c) link number one).stay ((bar-steps (places-steps c) link fallen).stay ((fail_by_order-steps (places-steps c) link n).stay places))
 
       led : link_of c done.left.parts (flow_of m) ≡ Some way → link_of c two.parts (flow_of m) ≡ Some way
       led e = sym (leads-as) ∙ e
@@ -187,6 +191,9 @@ module _ (c : Configuration) where
         ∙ ordered number ∙ ap (λ (o : Option ℕ). do_order whole c o number n) is.about
 
 -- ---- the laws
+
+pub order-awaits : (c : Configuration) (link : ℕ) (number : Option ℕ) (n : Node WholeQueues) → AwaitsAs c n (on_changeover_order whole c link number n).left
+order-awaits c link number n = awaits c link number n
 
 pub are-answered : orders_are_answered
 are-answered c by link number m n places is =

@@ -1,21 +1,22 @@
 -- If nothing but ticks happens, no timer runs after a while that may take a link into service or out of it, those of
 -- tests included. So all holds end.
-use Rattle.exchange_rules.proofs.Basics.{◌≡◌, ◌≤◌, ◌-◌, ◌+◌, ℕ, zero, suc, Bool, true, false, List, [], ◌∷◌, ◌++◌, Option, Some, None, refl, ap, sym, ◌∙◌, subst, arith, is_some, false_from_ne_true as not-so, if◌then◌else◌, max}
-use Rattle.exchange_rules.proofs.Definitions.{Configuration, TimerName, is_running, Asking, Abstract, apply, after_each, first_state, link_at, tests_links, answer_ticks, pause_ticks, after_asking}
+use Rattle.exchange_rules.proofs.Basics.{◌≡◌, ◌≤◌, ◌-◌, ◌+◌, ℕ, zero, suc, Bool, true, false, List, ◌++◌, Option, Some, None, refl, ap, sym, ◌∙◌, subst, arith, is_some, false_from_ne_true as not-so, if◌then◌else◌, max}
+use Rattle.exchange_rules.proofs.Definitions.{Configuration, TimerName, is_running, Asking, Abstract, apply, after_each, first_state, link_at, tests_links, answer_ticks, pause_ticks}
 use Rattle.link.specs.declared.period.Period.{Period}
 use Rattle.link.specs.declared.period.Period.TheVariants.{Fixed, Normal, Hurried, Emergency}
 use Rattle.exchange_rules.specs.Timing.{paced}
-use Rattle.exchange_rules.specs.TimerSettings.{setting_of}
+use Rattle.exchange_rules.specs.TimerSettings.{setting_of, barring}
 use Rattle.timers.specs.declared.name.TimerName.TheVariants as name
 use Rattle.exchange_rules.specs.TickingAlone.{ticks_alone, IsQuiet, longest_turn, longest_tests, HoldsNothing, ticks_end_all_holds}
 use Rattle.exchange_rules.proofs.Steps.{takes_links, is_of_test}
-use Rattle.exchange_rules.proofs.Asked.{asked-all, settings-stay}
+use Rattle.exchange_rules.proofs.Asked.{asked-all}
 use Rattle.exchange_rules.proofs.LinkTurns as turns
 use Rattle.exchange_rules.proofs.NoTests.{no-tests}
 use Rattle.exchange_rules.proofs.UnansweredTests.{Still, Unanswered, again, tick-unanswered}
 use Rattle.exchange_rules.proofs.SettingTimers.{timers-keep}
 use Rattle.exchange_rules.proofs.WithinTimes.{Within}
-use Rattle.exchange_rules.proofs.TickingAlone.{Rested, asked-behind, ended-links, idle, quiet-end, runs-not, tick-rested, tick_of, ticks-rested}
+use Rattle.exchange_rules.proofs.TickingAlone.{Quiet, Rested, after-settings, asked-behind, calm-end, ended-links, idle, quiet-of, runs-not, tick-punctual, tick-rested, tick_of, ticks-punctual, ticks-rested}
+use Rattle.exchange_rules.proofs.NoneLate.{Punctual}
 
 -- ---- no timer of a link runs that moves it
 
@@ -36,10 +37,6 @@ ticks-behind (suc some) more (suc many) a e = ticks-behind some more many (tick_
 
 -- ---- then no link is tested any more
 
-after-settings : (asked : List Asking) (a : Abstract) → (after_each asked a).settings ≡ a.settings
-after-settings [] a = refl
-after-settings (asking ∷ others) a = after-settings others (after_asking asking a) ∙ settings-stay asking a
-
 still : (a : Abstract) → Within takes_links 0 a.node.parts.timers → Rested a → Still a.settings a.node.parts.timers
 still a w r = record { none = λ timer takes x h. runs-not (a.node.parts.timers.left timer) x (idle takes_links a.node.parts.timers timer w takes (r.due timer)) h }
 
@@ -54,18 +51,26 @@ ticks-tests (suc many) most a w r u =
     subst (λ (k : ℕ). Unanswered a.settings k (after_each (ticks_alone many) (tick_of a)).node.parts) (omega arith)
     (ticks-tests many (most - 1) (tick_of a) (tick-links 0 a w) (tick-rested a) (tick-tests most a w r u))
 
--- the period for which a link is proved says nothing of its tests
-within-answer : (c : Configuration) (link x : ℕ) → (period : Period) × (x ≤ max 1 (setting_of (paced period c.timers) (name.Slt1 link))) → x ≤ max 1 (answer_ticks c)
-within-answer c link x (Fixed, l) = l
-within-answer c link x (Normal, l) = l
-within-answer c link x (Hurried, l) = l
-within-answer c link x (Emergency, l) = l
+-- neither the period for which a link is proved nor the bar says anything of its tests
+within-answer : (c : Configuration) (link x : ℕ) → (period : Period) × (is_bar : Bool) × (x ≤ max 1 (setting_of (paced period (barring is_bar c.timers)) (name.Slt1 link))) → x ≤ max 1 (answer_ticks c)
+within-answer c link x (Fixed, false, l) = l
+within-answer c link x (Normal, false, l) = l
+within-answer c link x (Hurried, false, l) = l
+within-answer c link x (Emergency, false, l) = l
+within-answer c link x (Fixed, true, l) = l
+within-answer c link x (Normal, true, l) = l
+within-answer c link x (Hurried, true, l) = l
+within-answer c link x (Emergency, true, l) = l
 
-within-pause : (c : Configuration) (link x : ℕ) → (period : Period) × (x ≤ max 1 (setting_of (paced period c.timers) (name.Slt2 link))) → x ≤ max 1 (pause_ticks c)
-within-pause c link x (Fixed, l) = l
-within-pause c link x (Normal, l) = l
-within-pause c link x (Hurried, l) = l
-within-pause c link x (Emergency, l) = l
+within-pause : (c : Configuration) (link x : ℕ) → (period : Period) × (is_bar : Bool) × (x ≤ max 1 (setting_of (paced period (barring is_bar c.timers)) (name.Slt2 link))) → x ≤ max 1 (pause_ticks c)
+within-pause c link x (Fixed, false, l) = l
+within-pause c link x (Normal, false, l) = l
+within-pause c link x (Hurried, false, l) = l
+within-pause c link x (Emergency, false, l) = l
+within-pause c link x (Fixed, true, l) = l
+within-pause c link x (Normal, true, l) = l
+within-pause c link x (Hurried, true, l) = l
+within-pause c link x (Emergency, true, l) = l
 
 -- in each state reached from the first
 reached-tests : (c : Configuration) (asked : List Asking) → Unanswered c (max 1 (pause_ticks c) + (max 1 (answer_ticks c) + max 1 (answer_ticks c))) (after_each asked (first_state c)).node.parts
@@ -172,13 +177,18 @@ ticks-end c asked many few long = by (longest_turn c.timers) refl
         (let first : Abstract = first_state c in
         let tests : ℕ = longest_tests c in
         let rest : ℕ = many - suc turn in
-        let both : List Asking = asked ++ ticks_alone (suc turn) in
-        subst HoldsNothing (sym (ticks-behind (suc turn) rest many (after_each asked first) (omega (arith, long, e))))
-        (subst HoldsNothing (sym (ticks-behind tests (rest - tests) rest (after_each (ticks_alone (suc turn)) (after_each asked first)) (omega (arith, long, e))))
-        (subst (λ (a : Abstract). HoldsNothing (after_each (ticks_alone (rest - tests)) a))
-        (asked-behind both (ticks_alone tests) first ∙ ap (after_each (ticks_alone tests)) (asked-behind asked (ticks_alone (suc turn)) first))
-        (quiet-end c (both ++ ticks_alone tests) (rest - tests) few
-        (subst (λ (a : Abstract). IsQuiet a.node.parts.timers)
-        (sym (asked-behind both (ticks_alone tests) first ∙ ap (after_each (ticks_alone tests)) (asked-behind asked (ticks_alone (suc turn)) first)))
-        (quiet-then c asked turn tests e (omega arith)))
+        let before : Abstract = after_each asked first in
+        let turned : Abstract = after_each (ticks_alone (suc turn)) before in
+        let tested : Abstract = after_each (ticks_alone tests) turned in
+        let all : List Asking = (asked ++ ticks_alone (suc turn)) ++ ticks_alone tests in
+        let reached : after_each all first ≡ tested =
+        asked-behind (asked ++ ticks_alone (suc turn)) (ticks_alone tests) first ∙ ap (after_each (ticks_alone tests)) (asked-behind asked (ticks_alone (suc turn)) first) in
+        let its-settings : tested.settings ≡ c = after-settings (ticks_alone tests) turned ∙ after-settings (ticks_alone (suc turn)) before ∙ after-settings asked first in
+        let punctual : Punctual c tested.node = subst (λ (d : Configuration). Punctual d tested.node) its-settings (ticks-punctual tests turned (ticks-punctual turn (tick_of before) (tick-punctual before))) in
+        subst HoldsNothing (sym (ticks-behind (suc turn) rest many before (omega (arith, long, e))))
+        (subst HoldsNothing (sym (ticks-behind tests (rest - tests) rest turned (omega (arith, long, e))))
+        (subst (λ (a : Abstract). HoldsNothing (after_each (ticks_alone (rest - tests)) a)) reached
+        (calm-end c all few (rest - tests)
+        (subst (λ (a : Abstract). Quiet a.node.parts.timers) (sym reached) (quiet-of tested.node.parts.timers (quiet-then c asked turn tests e (omega arith))))
+        (subst (λ (a : Abstract). Punctual c a.node) (sym reached) punctual)
         (omega (arith, long, e))))))

@@ -1,13 +1,13 @@
 -- What leaves the tests of links as they are, where nothing but ticks happens.
-use Rattle.exchange_rules.proofs.Basics.{◌≡◌, ◌≢◌, ◌⊎◌, inl, inr, ℕ, Bool, true, false, List, [], ◌∷◌, Option, Some, None, refl, ap, sym, ◌∙◌, subst, cases_eq, if◌then◌else◌, get_or-set_other}
-use Rattle.exchange_rules.proofs.Definitions.{is_led, Message, flow_of, Configuration, FailureReason, ChangeoverTimer, Link, down_link, after_failure, Running, clear_timer, left-clear, left-clear_other, without_timers, RouteStatus, status_of, Owed, owed, Found, Parts, Node, with_parts, link_at, links_with, in_service, facts, link_of, fail, lose_each, judged, concluded, complete_if, changeover_of, with_expiry, told_parts, route_message, may_tell, tell, tell_if, tell_each, tell_owed, ask, ask_by, prohibited_test, restricted_test, with_next_test, go_on, go_by, go, go_each, release, waits, WholeQueues, whole, Allowed, Restricted, Prohibited}
+use Rattle.exchange_rules.proofs.Basics.{◌≡◌, ◌≢◌, ◌⊎◌, inl, inr, ℕ, zero, suc, length, Bool, true, false, List, [], ◌∷◌, Option, Some, None, refl, ap, sym, ◌∙◌, subst, cases_eq, if◌then◌else◌, get_or-set_other}
+use Rattle.exchange_rules.proofs.Definitions.{is_led, Message, flow_of, Configuration, FailureReason, ChangeoverTimer, Link, down_link, after_failure, Running, clear_timer, left-clear, left-clear_other, without_timers, RouteStatus, status_of, Owed, owed, Found, Parts, Node, with_parts, link_at, links_with, in_service, facts, link_of, fail, lose_each, judged, concluded, complete_if, changeover_of, with_expiry, told_parts, route_message, may_tell, tell, tell_if, tell_each, tell_owed, ask, ask_by, prohibited_test, restricted_test, with_next_test, go_on, go_by, go, go_each, release, waits, WholeQueues, whole, Allowed, Restricted, Prohibited, barred, asking, changeover_order, is_late, order_late, order_if_late, order_each, order_all}
 use Rattle.timers.specs.declared.name.TimerName.TheVariants as name
 use Rattle.signalling_types.specs.declared.notice.ChangeoverTimer.TheVariants as which
 use Rattle.exchange_rules.proofs.Steps.{IsOfSends}
 use Rattle.exchange_rules.proofs.SteppingMessages.{send_if-steps, send_routed-steps, send_each-steps}
 use Rattle.exchange_rules.proofs.SteppingFailures.{fail-links}
 use Rattle.exchange_rules.proofs.Eased.{settled-eased}
-use Rattle.exchange_rules.proofs.LinkTimes.{Kept, kept-eased, stopped, fails-kept, fails-from}
+use Rattle.exchange_rules.proofs.LinkTimes.{Kept, kept-eased, stopped, fails-kept, fails-from, late_all-kept}
 
 -- ---- what leaves the tests of links as they are
 
@@ -63,6 +63,7 @@ module _ (c : Configuration) where
     routed = λ link m n e. refl;
     noted = λ notice n e. refl;
     lost = λ notice n e. refl;
+    counted = λ messages broken n. refl;
   }
 
   losses-links : (ms : List Message) (p : Parts) → (lose_each ms p).links ≡ p.links
@@ -81,11 +82,11 @@ module _ (c : Configuration) where
       send_each-steps linked-sends found.queued_anew done ∙ judged-links found.is_reasonable (lose_each found.lost n.parts) ∙ losses-links found.lost n.parts
 
   pub expired-links : (there : Bool) (expiry : ChangeoverTimer) (link : ℕ) (n : Node WholeQueues)
-      → (if there then complete_if whole c (changeover_of n.parts link).incomplete link None (with_parts n (with_expiry expiry link n.parts)) else n).parts.links ≡ n.parts.links
+      → (if there then complete_if whole c (changeover_of n.parts link).incomplete link None (with_parts n (with_expiry c expiry link (barred c link n.parts))) else n).parts.links ≡ n.parts.links
   expired-links false expiry link n = refl
-  expired-links true expiry link n = completed-links (changeover_of n.parts link).incomplete link None (with_parts n (with_expiry expiry link n.parts)) ∙ by expiry
+  expired-links true expiry link n = completed-links (changeover_of n.parts link).incomplete link None (with_parts n (with_expiry c expiry link (barred c link n.parts))) ∙ by expiry
     where
-      by : (its : ChangeoverTimer) → (with_expiry its link n.parts).links ≡ n.parts.links
+      by : (its : ChangeoverTimer) → (with_expiry c its link (barred c link n.parts)).links ≡ n.parts.links
       by which.T1 = refl
       by which.T2 = refl
 
@@ -129,6 +130,29 @@ module _ (c : Configuration) where
   settled-links n =
       let rest : Node WholeQueues = release whole c n in
       tell_each-links (owed (facts c rest.parts) rest.parts.told) rest ∙ go_each-links n.queues.held (record n { queues = whole.without_held n.queues })
+
+  -- and before that orders go out late
+  late-links : (link : ℕ) (n : Node WholeQueues) → (order_if_late whole c link n).parts.links ≡ n.parts.links
+  late-links link n = by (is_late c link n.parts)
+    where
+      by : (late : Bool) → (if late then order_late whole c link n else n).parts.links ≡ n.parts.links
+      by true = send_routed-steps linked-sends (changeover_order c link (whole.last_accepted n.queues link)) (with_parts n (asking c link n.parts))
+      by false = refl
+
+  late_each-links : (many : ℕ) (n : Node WholeQueues) → (order_each whole c many n).parts.links ≡ n.parts.links
+  unfolding order_each
+  late_each-links zero n = refl
+  late_each-links (suc link) n = late-links link (order_each whole c link n) ∙ late_each-links link n
+
+  late_all-links : (n : Node WholeQueues) → (order_all whole c n).parts.links ≡ n.parts.links
+  late_all-links n = by c.changeover_by_any_route
+    where
+      by : (any : Bool) → (if any then order_each whole c (length c.links) n else n).parts.links ≡ n.parts.links
+      by true = late_each-links (length c.links) n
+      by false = refl
+
+  pub late_all-calms : (n : Node WholeQueues) → Calms n (order_all whole c n)
+  late_all-calms n = calms-of n _ (late_all-links n) (late_all-kept c n)
 
   pub settled-calms : (n : Node WholeQueues) → Calms n (tell_owed whole c (release whole c n))
   settled-calms n = calms-of n _ (settled-links n) (kept-eased n _ (settled-eased c n))

@@ -1,7 +1,7 @@
 -- What an event may do, and what it does by this alone: a relation that holds of each rule, given what that event may
 -- do, and of each change of timers, holds between the node before it and the node after.
 use Rattle.exchange_rules.proofs.Basics.{◌≡◌, ◌⊎◌, inl, inr, refl, ◌∙◌, Ok, ℕ, zero, suc, true, ap, subst}
-use Rattle.exchange_rules.proofs.Definitions.{Configuration, LinkStatus, StatusFrame, TimerName, Running, is_due, ticked, after_due, due_name, due_count, due-left, no_tick_left, Node, with_timers, run_next, run_times, tick, Happening, CameUp, Ticked, WholeQueues, whole, apply, Abstract, run_all, subsystems_ticked}
+use Rattle.exchange_rules.proofs.Definitions.{Configuration, LinkStatus, StatusFrame, TimerName, Running, is_due, ticked, after_due, due_name, due_count, due-left, no_tick_left, Node, with_timers, run_next, run_times, tick, Happening, CameUp, Released, Ticked, WholeQueues, whole, apply, Abstract, run_all, subsystems_ticked}
 use Rattle.exchange_rules.specs.LawsOfCauses.{EndsByWord, EndsByTimer, EndsByRecovery, MayFail}
 use Rattle.exchange_rules.specs.LawsOfUserParts.{brings_lacking}
 use Rattle.exchange_rules.specs.LawsOfSubsystems.{changes_titles}
@@ -9,8 +9,15 @@ use Rattle.m2pa_codec.specs.declared.status.LinkStatus.TheVariants.{ProcessorRec
 use Rattle.exchange_rules.proofs.Asked.{any}
 use Rattle.exchange_rules.proofs.Outages.{recovery-is, recovers-says, recovery-out}
 use Rattle.exchange_rules.proofs.DueTimers.{next-dues}
-use Rattle.exchange_rules.proofs.Steps.{Deed, LinkOpens, LinkFails, HoldsEnd, Lacking, IsOfDeeds, TitlesChange, SetReturns}
+use Rattle.exchange_rules.proofs.Steps.{Deed, LinkOpens, LinkFails, HoldsEnd, Lacking, IsOfDeeds, TitlesChange, SetReturns, WaitEnds}
 use Rattle.exchange_rules.proofs.SteppingEvents.{AllowsTimer, AllowsEvent, run_due-deeds, apply-deeds}
+use Rattle.exchange_rules.specs.LawsOfWaits.{AnswerComes}
+use Rattle.exchange_rules.specs.Aligning.{RunsOut}
+use Rattle.timers.specs.declared.name.TimerName.TheVariants.{T2}
+
+-- what may end the wait for the answer about a link; what T2 and the operator need besides is looked at where they do
+abbrev pub MayEndWait : (link : ℕ) → Happening → Abstract → Type 0
+MayEndWait link what a = AnswerComes link what a ⊎ (RunsOut (T2 link) what a.node.parts.timers ⊎ (what ≡ Released link))
 
 abbrev pub Cause : Happening → Abstract → Deed → Type 0
 Cause what a (LinkOpens link) = what ≡ CameUp link
@@ -18,6 +25,7 @@ Cause what a (SetReturns set) = Unit {0}
 Cause what a (LinkFails link why) = MayFail why link what a
 Cause what a Lacking = brings_lacking what a ≡ true
 Cause what a TitlesChange = changes_titles what a ≡ true
+Cause what a (WaitEnds link) = MayEndWait link what a
 Cause what a (HoldsEnd procedure) = EndsByWord procedure what a ⊎ (EndsByTimer procedure what a ⊎ EndsByRecovery procedure what a)
 
 allows-event : (what : Happening) (c : Configuration) (n : Node WholeQueues) → AllowsEvent c (Cause what (record { settings = c; node = n })) what n
@@ -25,6 +33,7 @@ allows-event what c n = record {
   opens = λ link e. e;
   lost = λ link e. e;
   ordered = λ link e. e;
+  released = λ link e. inr (inr e);
   frame = λ link text e. record {
     wrong = λ f. (text, e, f);
     length = λ f. (text, e, f);
@@ -41,7 +50,7 @@ allows-event what c n = record {
           }));
     };
   };
-  words = λ word e. record { ends = λ procedure f. inl (record { word = word; heard = e; ends = f }); fails = λ link f. (word, e, f) };
+  words = λ word e. record { ends = λ procedure f. inl (record { word = word; heard = e; ends = f }); fails = λ link f. (word, e, f); answers = λ link f. inl (record { word = word; heard = e; answers = f }) };
   lacking = λ e. e;
   titles = λ e. e;
 }
@@ -52,6 +61,7 @@ allows-timer what c n is timer due = record {
   ends = λ procedure e. inr (inl (record { timer = timer; runs_out = (is, due); ends = e }));
   fails = λ link its e f. (its, f, (is, subst (λ (x : TimerName). is_due (ticked n.parts.timers) x ≡ true) e due));
   tests = λ link e. (is, subst (λ (x : TimerName). is_due (ticked n.parts.timers) x ≡ true) e due);
+  waits = λ link e. inr (inl (is, subst (λ (x : TimerName). is_due (ticked n.parts.timers) x ≡ true) e due));
 }
 
 module _ {c : Configuration} {May : Deed → Type 0} {R : Node WholeQueues → Node WholeQueues → Type 0} (s : IsOfDeeds c any any May R)

@@ -1,6 +1,6 @@
 -- Rules that make only management, or change no queue: there are as many user messages after each as before.
 use Rattle.exchange_rules.proofs.Basics.{Bool, Err, List, None, Ok, Option, Result, Some, [], false, length, nat_lt, not, refl, suc, true, zero, ℕ, ◌&&◌, ◌∙◌, ◌∷◌, ◌≡◌, if◌then◌else◌}
-use Rattle.exchange_rules.proofs.Definitions.{is_led, ask, enters_traffic, is_first_test, pass_test, begun_anew, is_outstanding, managements_of, acts_on, Action, Expiry, Status, LinkTimer, Transition, Queue, appended, LinkStatus, LinkTestValue, MgmtFault, TestKind, Acknowledgement, Test, Management, ChangebackDeclaration, ExtendedChangeoverOrder, RouteSetTestProhibited, RouteSetTestRestricted, Owed, owed, Heard, RouteTest, Facts, status_of, RouteStatus, Allowed, Prohibited, Restricted, Configuration, Message, flow_of, is_management, Cause, FailureReason, FrameFault, Outcome, Handled, Ignored, code_for, code_in_use, declaration, freed, hold_flows, loses_flows, on_changeback_acknowledgement, take_back_each, fail_by_order, send_each, standing, begin, begin_by_peer, change_over, changing, fail, fail_by_peer, is_ordered, make_unavailable, leave_aside, down, in_service, is_link, link_at, do_kind, do_test, test_answer, management_to, send, send_anew, send_routed, activate, association_down, deactivate, end_association, fail_if_up, set_active, adjacent_of, entry_of, peer_of, point_of, set_of, no_room, queue_on, WholeQueues, queue_at, whole, apply_route_status, ask_again, ask_by, on_route_status, with_next_test, facts, link_of, Done, Node, answer, refuse, with_parts, act_by_status, act_by_timer, advance, enters, moved_on, on_link_status, return_if, run_out, serve_status, answer_no_route, answered_parts, inhibited, is_inhibited, may_tell, on_route_test, prohibit, send_route_status, tell_each, tell_if, tell_owed, telling, told_parts, answer_no_user_part, is_unequipped_told, tell_unavailable, unavailable, unequipped_counted, UserPartUnavailable, Unequipped, opc_of, service_indicator, tells_outage, tells_recovery, begin_outage, hear_outage, end_outage, take_step, test_if, queue_if, send_test, begin_test, repeat_test, test_unanswered, with_test_failed, awaiting_test, link_test, tests_links, passes_test, test_passed}
+use Rattle.exchange_rules.proofs.Definitions.{is_led, ask, enters_traffic, is_first_test, pass_test, begun_anew, is_outstanding, managements_of, acts_on, Action, Expiry, Status, LinkTimer, Transition, Queue, appended, LinkStatus, LinkTestValue, MgmtFault, TestKind, Acknowledgement, Test, Management, ChangebackDeclaration, ExtendedChangeoverOrder, RouteSetTestProhibited, RouteSetTestRestricted, Owed, owed, Heard, RouteTest, Facts, status_of, RouteStatus, Allowed, Prohibited, Restricted, Configuration, Message, flow_of, is_management, Cause, FailureReason, FrameFault, Outcome, Handled, Ignored, code_for, code_in_use, declaration, freed, hold_flows, loses_flows, on_changeback_acknowledgement, take_back_each, fail_by_order, send_each, standing, begin, begin_by_peer, change_over, changing, fail, fail_by_peer, is_ordered, make_unavailable, leave_aside, down, in_service, is_link, link_at, do_kind, do_test, test_answer, management_to, send, send_anew, send_routed, activate, association_down, deactivate, end_association, fail_if_up, set_active, adjacent_of, entry_of, peer_of, point_of, set_of, no_room, queue_on, WholeQueues, queue_at, whole, apply_route_status, ask_again, ask_by, on_route_status, with_next_test, facts, link_of, Done, Node, answer, refuse, with_parts, act_by_status, act_by_timer, advance, enters, moved_on, on_link_status, return_if, run_out, serve_status, answer_no_route, answered_parts, inhibited, is_inhibited, may_tell, on_route_test, prohibit, send_route_status, tell_each, tell_if, tell_owed, telling, told_parts, answer_no_user_part, is_unequipped_told, tell_unavailable, unavailable, unequipped_counted, UserPartUnavailable, Unequipped, opc_of, service_indicator, tells_outage, tells_recovery, begin_outage, hear_outage, end_outage, take_step, test_if, queue_if, send_test, begin_test, repeat_test, test_unanswered, with_test_failed, awaiting_test, link_test, tests_links, passes_test, test_passed, release_bar, is_barred, unbarred, changeover_of, asking, is_late, order_late, order_each, order_all, late_by}
 use Rattle.exchange_rules.proofs.OwnManagement.{made-management, answer-management, test-management}
 use Rattle.exchange_rules.proofs.Tallies.{no-user-behind, queue-same}
 use Rattle.link.specs.declared.action.Action.TheVariants as act
@@ -11,6 +11,7 @@ use Rattle.route_management.specs.declared.heard.Heard.TheVariants as hears
 use Rattle.signalling_types.specs.declared.notice.FailureReason.TheVariants as reasons
 use Rattle.m2pa_codec.specs.declared.status.LinkStatus.TheVariants as says
 use Rattle.exchange_rules.specs.Telling as telling
+use Rattle.signalling_types.specs.declared.outcome.Outcome.TheVariants as outcome
 
 -- how many stand in a node
 abbrev pub stands : (Message → Bool) → Node WholeQueues → ℕ
@@ -142,6 +143,29 @@ module _ (of : Message → Bool) (c : Configuration) where
       made-stand (peer_of c link) (ExtendedChangeoverOrder (entry_of c link).slc (whole.last_accepted n.queues link)) (with_parts n (changing c true link n.parts))
   begin-stand false link n = refl
 
+  -- orders go out late
+  order_late-stand : (link : ℕ) (n : Node WholeQueues) → stands of (order_late whole c link n) ≡ stands of n
+  order_late-stand link n =
+      made-stand (peer_of c link) (ExtendedChangeoverOrder (entry_of c link).slc (whole.last_accepted n.queues link)) (with_parts n (asking c link n.parts))
+
+  order_each-stand : (many : ℕ) (n : Node WholeQueues) → stands of (order_each whole c many n) ≡ stands of n
+  unfolding order_each
+  order_each-stand zero n = refl
+  order_each-stand (suc link) n =
+      let one : Node WholeQueues = order_each whole c link n in
+      either-stand (is_late c link one.parts) (order_late whole c link one) one (stands of n) (order_late-stand link one ∙ order_each-stand link n) (order_each-stand link n)
+
+  order_all-stand : (n : Node WholeQueues) → stands of (order_all whole c n) ≡ stands of n
+  order_all-stand n = either-stand c.changeover_by_any_route (order_each whole c (length c.links) n) n (stands of n) (order_each-stand (length c.links) n) refl
+
+  pub late_by-stand : (o : Outcome) (n : Node WholeQueues) → stands of (late_by whole c o n) ≡ stands of n
+  late_by-stand (outcome.Refused cause) n = refl
+  late_by-stand (outcome.Queued link) n = order_all-stand n
+  late_by-stand outcome.Held n = order_all-stand n
+  late_by-stand outcome.Local n = order_all-stand n
+  late_by-stand outcome.Handled n = order_all-stand n
+  late_by-stand outcome.Ignored n = order_all-stand n
+
   failing-stand : (served : Bool) (link : ℕ) (why : FailureReason) (n : Node WholeQueues)
       → stands of (change_over whole c served link (make_unavailable whole c served link why n)) ≡ stands of n
   failing-stand true link why n =
@@ -175,6 +199,12 @@ module _ (of : Message → Bool) (c : Configuration) where
 
   pub activate-stand : (emergency : Bool) (link : ℕ) (n : Node WholeQueues) → stands of (activate whole c emergency link n).left ≡ stands of n
   activate-stand emergency link n = either_done-stand (is_link n.parts link) (answer Handled (set_active whole c true emergency link n)) (refuse causes.NoSuchName n) (stands of n) refl refl
+
+  pub release_bar-stand : (link : ℕ) (n : Node WholeQueues) → stands of (release_bar whole c link n).left ≡ stands of n
+  release_bar-stand link n =
+      let freed : Done WholeQueues = answer Handled (with_parts n (unbarred link n.parts)) in
+      either_done-stand (is_link n.parts link) (if is_barred (changeover_of n.parts link) then freed else answer Ignored n) (refuse causes.NoSuchName n) (stands of n)
+      (either_done-stand (is_barred (changeover_of n.parts link)) freed (answer Ignored n) (stands of n) refl refl) refl
 
   pub deactivate-stand : (link : ℕ) (n : Node WholeQueues) → stands of (deactivate whole c link n).left ≡ stands of n
   deactivate-stand link n =

@@ -108,6 +108,8 @@ makes-steps c = record {
   taken_out = λ n. same-makes n _ refl;
   noted = λ notice n e. record { made = notice ∷ []; by = refl };
   lost = λ n. same-makes n _ refl;
+  counted = λ messages broken n. same-makes n _ refl;
+  asked = λ link n e. same-makes n _ refl;
   late = λ n. same-makes n _ refl;
   timed = λ r n e. same-makes n _ refl;
   holding = λ h n e. same-makes n _ refl;

@@ -1,7 +1,7 @@
 -- Changeovers that are completed, by the peer's messages and by timers, and the release: how many user messages leave
 -- for good.
 use Rattle.exchange_rules.proofs.Basics.{Bool, Err, List, None, Ok, Option, Result, Some, [], ap, arith, false, nat_eq, not, refl, subst, suc, sym, true, zero, ℕ, ◌&&◌, ◌+◌, ◌∙◌, ◌∷◌, ◌≡◌, filter_agree, filter, if◌then◌else◌, is_some}
-use Rattle.exchange_rules.proofs.Definitions.{accepted_count, behind, completed, IsQueue, Queue, read_link_test, read_management, MgmtFault, Management, ChangebackAcknowledgement, ChangebackDeclaration, EmergencyChangeoverAcknowledgement, EmergencyChangeoverOrder, ExtendedChangeoverAcknowledgement, ExtendedChangeoverOrder, RouteSetTestProhibited, RouteSetTestRestricted, TrafficRestartAllowed, TransferAllowed, TransferProhibited, TransferRestricted, Allowed, Prohibited, Restricted, Configuration, Message, flow_of, opc_of, service_indicator, ChangeoverTimer, Handled, Ignored, destination_place, set_place, after_due, due_count, due_name, ticked, TimerName, complete_if, concluded, fail_by_order, on_changeover_order, on_changeover_timer, with_changeover_acknowledged, with_expiry, Gone, both_gone, gone_by_answer, gone_by_completion, gone_by_expiry, gone_by_order, gone_by_release, gone_by_tick, gone_by_timer, gone_by_timers, gone_by_word, gone_that, is_stranded, nothing_gone, standing, users_that, changeover_of, with_changeover, hold, waits, is_link, do_acknowledgement, do_management, do_order, do_test, is_adjacent, link_with_code, manage, testing, entry_of, peer_of, route_about, queue_on, WholeQueues, queue_at, whole, go, go_by, go_each, go_on, release, link_of, Found, Node, answer, with_parts, run_due, run_next, run_times, tick, with_timers, from_afar, UserPartUnavailable}
+use Rattle.exchange_rules.proofs.Definitions.{accepted_count, behind, completed, IsQueue, Queue, read_link_test, read_management, MgmtFault, Management, ChangebackAcknowledgement, ChangebackDeclaration, EmergencyChangeoverAcknowledgement, EmergencyChangeoverOrder, ExtendedChangeoverAcknowledgement, ExtendedChangeoverOrder, RouteSetTestProhibited, RouteSetTestRestricted, TrafficRestartAllowed, TransferAllowed, TransferProhibited, TransferRestricted, Allowed, Prohibited, Restricted, Configuration, Message, flow_of, opc_of, service_indicator, ChangeoverTimer, Handled, Ignored, destination_place, set_place, after_due, due_count, due_name, ticked, TimerName, complete_if, concluded, fail_by_order, on_changeover_order, on_changeover_timer, with_changeover_acknowledged, with_expiry, Gone, both_gone, gone_by_answer, gone_by_completion, gone_by_expiry, gone_by_order, gone_by_release, gone_by_tick, gone_by_timer, gone_by_timers, gone_by_word, gone_that, is_stranded, nothing_gone, standing, users_that, changeover_of, with_changeover, hold, waits, is_link, do_acknowledgement, do_management, do_order, do_test, is_adjacent, link_with_code, manage, testing, entry_of, peer_of, route_about, queue_on, WholeQueues, queue_at, whole, go, go_by, go_each, go_on, release, link_of, Found, Node, answer, with_parts, run_due, run_next, run_times, tick, with_timers, from_afar, UserPartUnavailable, bar, barred}
 use Rattle.exchange_rules.proofs.Changes.{anew-stand, answered_back-stand, ask_again-stand, do_test-stand, fail_by_order-queues, made-stand, on_route_status-stand, on_route_test-stand, run_out-stand, stands, test_unanswered-stand, begin_test-stand}
 use Rattle.exchange_rules.proofs.Fitting.{Fits, fit-steps, handed-fit, next-fit, ticked-fit}
 use Rattle.exchange_rules.proofs.Moves.{completed-lets, queued-more}
@@ -52,7 +52,7 @@ module _ (of : Message → Bool) (c : Configuration) where
   order-lets : (link : ℕ) (number : Option ℕ) (n : Node WholeQueues) → IsQueue c.window (queue_at n.queues link)
       → stands of n ≡ stands of (on_changeover_order whole c link number n).left + gone_that of (gone_by_order (Some link) number c n)
   order-lets link number n h =
-      let fell : Node WholeQueues = fail_by_order whole c link n in
+      let fell : Node WholeQueues = bar whole c link (fail_by_order whole c link n) in
       let same : fell.queues ≡ n.queues = fail_by_order-queues of c link n in
       let stood : Node WholeQueues = with_parts fell (with_changeover link (completed (changeover_of fell.parts link)) fell.parts) in
       let done : Node WholeQueues = complete_if whole c (changeover_of fell.parts link).incomplete link number stood in
@@ -115,9 +115,9 @@ module _ (of : Message → Bool) (c : Configuration) where
 
   expiry-by : (is_there : Bool) (expired : ChangeoverTimer) (link : ℕ) (n : Node WholeQueues) → IsQueue c.window (queue_at n.queues link)
       → stands of n
-      ≡ stands of (if is_there then complete_if whole c (changeover_of n.parts link).incomplete link None (with_parts n (with_expiry expired link n.parts)) else n)
+      ≡ stands of (if is_there then complete_if whole c (changeover_of n.parts link).incomplete link None (with_parts n (with_expiry c expired link (barred c link n.parts))) else n)
       + gone_that of (if is_there then gone_by_completion (changeover_of n.parts link).incomplete link None n.queues else nothing_gone)
-  expiry-by true expired link n h = complete-lets (changeover_of n.parts link).incomplete link None (with_parts n (with_expiry expired link n.parts)) h
+  expiry-by true expired link n h = complete-lets (changeover_of n.parts link).incomplete link None (with_parts n (with_expiry c expired link (barred c link n.parts))) h
   expiry-by false expired link n h = none-more (stands of n)
 
   expiry-lets : (expired : ChangeoverTimer) (link : ℕ) (n : Node WholeQueues) → Fits c n

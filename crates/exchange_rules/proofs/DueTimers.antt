@@ -33,6 +33,8 @@ dues-steps c = record {
   taken_out = λ n. same-dues n _ refl;
   noted = λ notice n e. same-dues n _ refl;
   lost = λ n. same-dues n _ refl;
+  counted = λ messages broken n. same-dues n _ refl;
+  asked = λ link n e. same-dues n _ refl;
   late = λ n. same-dues n _ refl;
   timed = λ r n e. record { counts = e.counts; due = e.due };
   holding = λ h n e. same-dues n _ refl;

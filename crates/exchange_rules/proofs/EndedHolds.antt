@@ -1,6 +1,6 @@
 -- A hold ends only as its word comes or its timer runs out.
 use Rattle.exchange_rules.proofs.Basics.{◌≡◌, ◌≢◌, ◌⊎◌, inl, inr, ℕ, Bool, true, false, ◌||◌, ◌&&◌, List, [], ◌∷◌, Option, Some, None, refl, ap, sym, ◌∙◌, subst, if◌then◌else◌}
-use Rattle.exchange_rules.proofs.Definitions.{Configuration, FailureReason, ChangeoverTimer, Procedure, Changeover, Code, Reroute, HoldSet, holds, lifted, with_hold, with_flows, may_hold, flows_leave, flows_add, Facts, completed, Parts, Node, with_parts, in_service, is_link, down, has_other, is_ordered, set_of, is_failed, is_taken_back, suspended, facts, Found, fail_link, make_unavailable, change_over, begin, changing, changeover_order, begin_by_peer, fail, fail_by_peer, fail_by_order, complete_if, concluded, complete_by_order, on_changeover_order, on_changeover_acknowledgement, on_changeover_timer, changeover_acknowledgement, changeover_of, with_changeover, with_changeover_acknowledged, with_expiry, without_tests, answer, Handled, Ignored, hold_flows, procedure_by, held_by_rerouting, WholeQueues, whole, Outgoing, SendsMessage, SendsNothing, SendsStatus, Acknowledges, after_sending, goes_out}
+use Rattle.exchange_rules.proofs.Definitions.{Configuration, FailureReason, ChangeoverTimer, Procedure, Changeover, Code, Reroute, HoldSet, holds, lifted, with_hold, with_flows, may_hold, flows_leave, flows_add, Facts, completed, Parts, Node, with_parts, in_service, is_link, down, has_other, is_ordered, set_of, is_failed, is_taken_back, suspended, facts, Found, fail_link, make_unavailable, change_over, begin, changing, changeover_order, begin_by_peer, fail, fail_by_peer, fail_by_order, complete_if, concluded, complete_by_order, on_changeover_order, on_changeover_acknowledgement, on_changeover_timer, changeover_acknowledgement, changeover_of, with_changeover, with_changeover_acknowledged, with_expiry, without_tests, answer, Handled, Ignored, hold_flows, procedure_by, held_by_rerouting, WholeQueues, whole, Outgoing, SendsMessage, SendsNothing, SendsStatus, Acknowledges, after_sending, goes_out, bar, barred, asking}
 use Rattle.signalling_types.specs.declared.notice.FailureReason.TheVariants as reasons
 use Rattle.signalling_types.specs.declared.notice.ChangeoverTimer.TheVariants as which
 use Rattle.changeback.specs.Rerouting.{held_for}
@@ -76,6 +76,7 @@ module _ (May : Deed → Type 0) where
       routed = λ link m n e. same n _ refl;
       noted = λ notice n e. same n _ refl;
       lost = λ notice n e. same n _ refl;
+      counted = λ messages broken n. same n _ refl;
     }
 
     -- ---- a link fails
@@ -137,10 +138,11 @@ module _ (May : Deed → Type 0) where
 
     orders : (link : ℕ) (number : Option ℕ) (n : Node WholeQueues) → May (HoldsEnd (Changeover link)) → Ends May n (on_changeover_order whole c link number n).left
     orders link number n may =
-        let one : Node WholeQueues = fail_by_order whole c link n in
+        let fallen : Node WholeQueues = fail_by_order whole c link n in
+        let one : Node WholeQueues = bar whole c link fallen in
         let marked : Node WholeQueues = with_parts one (with_changeover link (completed (changeover_of one.parts link)) one.parts) in
         let two : Node WholeQueues = complete_by_order whole c link number one in
-        both-end n one _ (fails_by_order link n)
+        both-end n one _ (both-end n fallen one (fails_by_order link n) (same fallen one refl))
         (both-end one two _ (both-end one marked two (same one marked refl) (completes (changeover_of one.parts link).incomplete link number marked may))
         (send_routed-steps sends (changeover_acknowledgement c link (whole.last_accepted two.queues link)) two))
 
@@ -153,12 +155,12 @@ module _ (May : Deed → Type 0) where
 
     expires : (timer : ChangeoverTimer) (link : ℕ) (n : Node WholeQueues) → May (HoldsEnd (Changeover link)) → Ends May n (on_changeover_timer whole c timer link n)
     expires timer link n may =
-        let marked : Node WholeQueues = with_parts n (with_expiry timer link n.parts) in
+        let marked : Node WholeQueues = with_parts n (with_expiry c timer link (barred c link n.parts)) in
         let done : Node WholeQueues = complete_if whole c (changeover_of n.parts link).incomplete link None marked in
         either-steps sends (is_link n.parts link) n done n
         (both-end n marked done (same n marked (expired timer)) (completes (changeover_of n.parts link).incomplete link None marked may)) (same n n refl)
       where
-        expired : (its : ChangeoverTimer) → (with_expiry its link n.parts).holds ≡ n.parts.holds
+        expired : (its : ChangeoverTimer) → (with_expiry c its link (barred c link n.parts)).holds ≡ n.parts.holds
         expired which.T1 = refl
         expired which.T2 = refl
 
@@ -198,8 +200,12 @@ module _ (May : Deed → Type 0) where
       back = λ link n e may. lifts (Changeover link) n _ refl may;
       fails = λ link why n may up. fails link why n;
       orders = λ link number n falls may. orders link number n may;
-      acknowledges = acknowledges;
-      expires = expires;
+      acknowledges = λ link number n may wait. acknowledges link number n may;
+      expires = λ timer link n may wait. expires timer link n may;
+      releases = λ link n e wait. same n _ refl;
+      asks = λ link n e.
+          let asks : Node WholeQueues = with_parts n (asking c link n.parts) in
+          both-end n asks _ (same n asks refl) (send_routed-steps sends (changeover_order c link (whole.last_accepted n.queues link)) asks);
       returns = λ before after code link other n e f. returns before after code link other n;
       frees = λ set code n may. lifts (Code set code) n _ refl may;
       reroutes = reroutes;

@@ -1,9 +1,10 @@
 -- Each link that goes down is named as failed, and none is named without a cause.
-use Rattle.exchange_rules.proofs.Basics.{◌≡◌, ◌≢◌, ◌<◌, ◌≤◌, ◌⊎◌, inl, inr, ℕ, Bool, true, false, List, [], ◌∷◌, Option, Some, None, refl, ap, sym, ◌∙◌, subst, arith, ⊎_elim, cases_eq, cases_lt, if◌then◌else◌, count_by}
-use Rattle.exchange_rules.proofs.Definitions.{period_of, Configuration, Message, flow_of, LostUnconfirmed, note, FailureReason, ChangeoverTimer, Link, is_down, stepped, opened_by, after_failure, Facts, completed, Parts, Node, with_parts, link_at, links_with, in_service, is_link, down, has_other, is_ordered, set_of, suspended, Found, fail_link, make_unavailable, change_over, begin, changing, changeover_order, begin_by_peer, fail, fail_by_peer, fail_by_order, complete_if, concluded, lose, lose_each, judged, complete_by_order, on_changeover_order, on_changeover_acknowledgement, on_changeover_timer, changeover_acknowledgement, changeover_of, with_changeover, with_changeover_acknowledged, with_expiry, without_tests, answer, Handled, Ignored, hold_flows, held_by_rerouting, WholeQueues, whole, apply, Happening, CameUp, FrameCame, Ticked, Abstract}
+use Rattle.exchange_rules.proofs.Basics.{◌≡◌, ◌≢◌, ◌&&◌, not, ◌<◌, ◌≤◌, ◌⊎◌, inl, inr, ℕ, Bool, true, false, List, [], ◌∷◌, Option, Some, None, refl, ap, sym, ◌∙◌, subst, arith, ⊎_elim, cases_eq, cases_lt, if◌then◌else◌, count_by}
+use Rattle.exchange_rules.proofs.Definitions.{period_of, Configuration, Message, flow_of, LostUnconfirmed, note, FailureReason, ChangeoverTimer, Link, is_down, stepped, opened_by, after_failure, Facts, completed, Parts, Node, with_parts, link_at, links_with, in_service, is_link, down, has_other, is_ordered, set_of, suspended, Found, fail_link, make_unavailable, change_over, begin, changing, changeover_order, begin_by_peer, fail, fail_by_peer, fail_by_order, complete_if, concluded, lose, lose_each, judged, complete_by_order, on_changeover_order, on_changeover_acknowledgement, on_changeover_timer, changeover_acknowledgement, changeover_of, with_changeover, with_changeover_acknowledged, with_expiry, without_tests, answer, Handled, Ignored, hold_flows, held_by_rerouting, WholeQueues, whole, apply, Happening, CameUp, FrameCame, Ticked, Abstract, bar, barred, bars, expiry_notice, asking}
 use Rattle.std.specs.Prelude.{Contains}
 use Rattle.std.proofs.lemmas.List.Elements.{Contains-push}
 use Rattle.signalling_types.specs.declared.notice.Notice.TheVariants as notices
+use Rattle.signalling_types.specs.declared.notice.Unbarring.TheVariants as unbarring
 use Rattle.signalling_types.specs.declared.notice.FailureReason.TheVariants as reasons
 use Rattle.signalling_types.specs.declared.notice.ChangeoverTimer.TheVariants as which
 use Rattle.exchange_rules.specs.LawsOfCauses.{links_fail_so, MayFail}
@@ -11,7 +12,7 @@ use Rattle.exchange_rules.proofs.NamedOnce.{named-in, at-most-one}
 use Rattle.exchange_rules.specs.LawsOfCauses.{says_failed}
 use Rattle.exchange_rules.proofs.Asked.{any}
 use Rattle.exchange_rules.proofs.Serving.{goes-up}
-use Rattle.exchange_rules.proofs.Steps.{Deed, LinkFails, IsOfSends, IsOfDeeds, loss-other, lateness-other, either-steps, either_done-steps}
+use Rattle.exchange_rules.proofs.Steps.{Deed, LinkFails, IsOfSends, IsOfDeeds, loss-other, lateness-other, either-steps, either_done-steps, is_failure}
 use Rattle.exchange_rules.proofs.SteppingMessages.{send_routed-steps, send_each-steps}
 use Rattle.exchange_rules.proofs.WillEnding.{no-way}
 use Rattle.exchange_rules.proofs.Causes.{Cause, event-deeds}
@@ -51,6 +52,7 @@ module _ (May : Deed → Type 0) where
       routed = λ link m n e. same May n _ refl refl;
       noted = λ notice n e. one May notice n _ refl refl e.other;
       lost = λ notice n e. one May notice n _ refl refl (loss-other notice e);
+      counted = λ messages broken n. same May n _ refl refl;
     }
 
     gone : (served : Bool) (link : ℕ) (why : FailureReason) (n : Node WholeQueues) → May (LinkFails link why) → down n.parts link ≡ false → Names May n (make_unavailable whole c served link why n)
@@ -124,10 +126,11 @@ module _ (May : Deed → Type 0) where
 
     orders : (link : ℕ) (number : Option ℕ) (n : Node WholeQueues) → May (LinkFails link reasons.Changeover) → Names May n (on_changeover_order whole c link number n).left
     orders link number n may =
-        let left : Node WholeQueues = fail_by_order whole c link n in
+        let fallen : Node WholeQueues = fail_by_order whole c link n in
+        let left : Node WholeQueues = bar whole c link fallen in
         let marked : Node WholeQueues = with_parts left (with_changeover link (completed (changeover_of left.parts link)) left.parts) in
         let done : Node WholeQueues = complete_by_order whole c link number left in
-        both-name May n left _ (fails_by_order link n may)
+        both-name May n left _ (both-name May n fallen left (fails_by_order link n may) (same May fallen left refl refl))
         (both-name May left done _ (both-name May left marked done (same May left marked refl refl) (completes (changeover_of left.parts link).incomplete link number marked))
         (send_routed-steps sends (changeover_acknowledgement c link (whole.last_accepted done.queues link)) done))
 
@@ -138,13 +141,17 @@ module _ (May : Deed → Type 0) where
         either_done-steps sends (changeover_of n.parts link).awaited n (answer Handled done) (answer Ignored n)
         (both-name May n marked done (same May n marked refl refl) (completes (changeover_of n.parts link).incomplete link number marked)) (same May n n refl refl)
 
-    expired : (timer : ChangeoverTimer) (link : ℕ) (n : Node WholeQueues) → Names May n (with_parts n (with_expiry timer link n.parts))
+    expired : (timer : ChangeoverTimer) (link : ℕ) (n : Node WholeQueues) → Names May n (with_parts n (with_expiry c timer link (barred c link n.parts)))
     expired which.T1 link n = one May (notices.Expired which.T1 link) n _ refl refl refl
-    expired which.T2 link n = one May (notices.Expired which.T2 link) n _ refl refl refl
+    expired which.T2 link n = one May (expiry_notice c which.T2 (changeover_of n.parts link) link) n _ refl refl (by (bars c && not (changeover_of n.parts link).incomplete))
+      where
+        by : (b : Bool) → is_failure (if b then notices.Unbarred unbarring.T2 link else notices.Expired which.T2 link) ≡ false
+        by true = refl
+        by false = refl
 
     expires : (timer : ChangeoverTimer) (link : ℕ) (n : Node WholeQueues) → Names May n (on_changeover_timer whole c timer link n)
     expires timer link n =
-        let marked : Node WholeQueues = with_parts n (with_expiry timer link n.parts) in
+        let marked : Node WholeQueues = with_parts n (with_expiry c timer link (barred c link n.parts)) in
         let done : Node WholeQueues = complete_if whole c (changeover_of n.parts link).incomplete link None marked in
         either-steps sends (is_link n.parts link) n done n
         (both-name May n marked done (expired timer link n) (completes (changeover_of n.parts link).incomplete link None marked)) (same May n n refl refl)
@@ -183,8 +190,12 @@ module _ (May : Deed → Type 0) where
       back = λ link n e may. alike May link _ n _ refl refl refl;
       fails = fails;
       orders = λ link number n may ends. orders link number n may;
-      acknowledges = λ link number n may. acknowledges link number n;
-      expires = λ timer link n may. expires timer link n;
+      acknowledges = λ link number n may wait. acknowledges link number n;
+      expires = λ timer link n may wait. expires timer link n;
+      releases = λ link n e wait. one May (notices.Unbarred unbarring.Operator link) n _ refl refl refl;
+      asks = λ link n e.
+          let asks : Node WholeQueues = with_parts n (asking c link n.parts) in
+          both-name May n asks _ (same May n asks refl refl) (send_routed-steps sends (changeover_order c link (whole.last_accepted n.queues link)) asks);
       returns = λ before after code link other n e f. returns before after code link other n;
       frees = λ set code n may. same May n _ refl refl;
       reroutes = reroutes;

@@ -1,6 +1,6 @@
 -- A message that says something of a subsystem at another point, and is heard, changes what is known by that alone.
 use Rattle.exchange_rules.proofs.Basics.{◌≡◌, ℕ, Bool, true, false, ◌&&◌, not, nat_eq, Option, Some, None, Result, Ok, Err, refl, ap, sym, subst, ◌∙◌, ⊎_elim, arith, nat_tests, and_parts, eqb-true, if◌then◌else◌, drop, is_some}
-use Rattle.exchange_rules.proofs.Definitions.{acts_on, Action, UserData, SeqFault, EmptyFrame, FrameValue, MessageFrame, StatusFrame, read_frame, Discrimination, Configuration, TitlesValue, Message, is_management, service_indicator, FrameFault, Ignored, Carrying, accept, act_by_data, carry, empty_data, handle_by, message_data, numbers, read, timed_parts, down, is_link, link_at, distribute, local, manage, sccp, deliver_to, submit_to, whither_goes, WholeQueues, whole, new_at, new_by, new_of, Parts, Done, Node, answer, refuse, note_refusal, owing, advance, FrameCame, Submitted}
+use Rattle.exchange_rules.proofs.Definitions.{acts_on, Action, UserData, SeqFault, EmptyFrame, FrameValue, MessageFrame, StatusFrame, read_frame, Discrimination, Configuration, TitlesValue, Message, is_management, service_indicator, FrameFault, Ignored, Carrying, accept, act_by_data, carry, empty_data, handle_by, message_data, numbers, read, timed_parts, down, is_link, link_at, distribute, local, manage, sccp, deliver_to, submit_to, whither_goes, WholeQueues, whole, new_at, new_by, new_of, Parts, Done, Node, answer, refuse, note_refusal, owing, advance, FrameCame, Submitted, receive}
 use Rattle.link.specs.declared.action.Action.TheVariants as act
 use Rattle.mtp3_codec.specs.declared.discrimination.Discrimination.TheVariants as whither
 use Rattle.mtp3_codec.specs.Headings.{label_at}
@@ -17,7 +17,7 @@ use Rattle.sccp_relay.specs.Statuses.{heard}
 use Rattle.exchange_rules.specs.LawsOfMessages.{goes_here, is_heard_here, says_in, says_status}
 use Rattle.exchange_rules.specs.LawsOfSubsystems.{Says, news_say_what_came, what_is_heard_changes_titles}
 use Rattle.exchange_rules.specs.Messages.{sst_ticks}
-use Rattle.exchange_rules.proofs.KeptTitles.{after-same, alters-deeds}
+use Rattle.exchange_rules.proofs.KeptTitles.{after-same, alters-deeds, late-same}
 use Rattle.exchange_rules.proofs.Steps.{Deed}
 use Rattle.exchange_rules.proofs.SteppingLinks.{advance-steps}
 use Rattle.exchange_rules.proofs.Subsystems.{is-heard}
@@ -185,7 +185,7 @@ heard-changes m a is =
       framed = λ link text e. record {
         about = s.about;
         says = s.says;
-        is = after-same c (FrameCame link text) n ∙ receive-knows c m s.about s.says link parts.0 (is_link n.parts link) (down n.parts link) (read_frame text) n e;
+        is = after-same c (FrameCame link text) n ∙ late-same c (receive whole c link text n).outcome (receive whole c link text n).left ∙ receive-knows c m s.about s.says link parts.0 (is_link n.parts link) (down n.parts link) (read_frame text) n e;
       };
       submitted = record {
         about = s.about;

@@ -18,7 +18,7 @@ use Rattle.exchange_rules.proofs.Serving.{data-serves, fails-up, each-step}
 use Rattle.exchange_rules.proofs.SettingTimers.{Sets, sets-rules}
 use Rattle.exchange_rules.proofs.SteppingEvents.{handle_by-deeds, leave_aside-deeds}
 use Rattle.exchange_rules.proofs.SteppingLinks.{tested_if-steps, advance-serves, advance-steps, advance-links, moved-at, stepped-at, stepped-other, entered-steps, stepping-there}
-use Rattle.exchange_rules.proofs.Steps.{Deed, LinkOpens, SetReturns, LinkFails, HoldsEnd, Lacking, TitlesChange, IsOfSet, IsOfDeeds, brings_back, with_busy, without_busy}
+use Rattle.exchange_rules.proofs.Steps.{Deed, LinkOpens, SetReturns, LinkFails, HoldsEnd, Lacking, TitlesChange, IsOfSet, IsOfDeeds, brings_back, with_busy, without_busy, WaitEnds}
 use Rattle.exchange_rules.proofs.Tested.{serves-before}
 use Rattle.exchange_rules.proofs.TimerSettings.{AreSet, timed-set, timed_busy-set, timed_busy_ended-set}
 
@@ -77,6 +77,7 @@ module _ (c : Configuration) (s d : ℕ) where
   Kept (LinkOpens link) = Unit {0}
   Kept (LinkFails link why) = Unit {0}
   Kept (HoldsEnd procedure) = Unit {0}
+  Kept (WaitEnds link) = Unit {0}
   Kept Lacking = Unit {0}
   Kept TitlesChange = Unit {0}
 
@@ -238,7 +239,7 @@ module _ (c : Configuration) (s d : ℕ) where
         on : (brings_back c l next.parts ≡ true → Apart (set_of c l)) → Runs (handle_by whole c (numbers whole c l x next) l x next).left
         on back =
             runs-on next _ (handle_by-deeds rules (numbers whole c l x next) l x next back tt serves refl (λ g. tt)
-            (record { words = λ word g. record { ends = λ procedure k. tt; fails = λ link k. tt }; lacking = λ g. tt; hears = λ g. tt })) h
+            (record { words = λ word g. record { ends = λ procedure k. tt; fails = λ link k. tt; answers = λ link k. tt }; lacking = λ g. tt; hears = λ g. tt })) h
 
         by : (set_of c l ≡ s) ⊎ (set_of c l ≢ s) → (first : Bool) → brings_back c l next.parts ≡ first → Runs (handle_by whole c (numbers whole c l x next) l x next).left ⊎ Returns n
         by (inr apart) first f = inl (on (λ g. apart))

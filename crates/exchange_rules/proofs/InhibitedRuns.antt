@@ -1,15 +1,15 @@
 -- T8 runs on for as many ticks as it is set to, whatever is asked, unless its set comes back.
-use Rattle.exchange_rules.proofs.Basics.{◌≡◌, ◌⊎◌, inl, inr, ◌<◌, ◌≤◌, ℕ, ◌+◌, ◌-◌, ◌==◌, true, List, [], ◌∷◌, Option, Some, None, refl, ap, sym, ◌∙◌, arith, nat_tests, max, is_some}
+use Rattle.exchange_rules.proofs.Basics.{◌≡◌, ◌⊎◌, inl, inr, ◌<◌, ◌≤◌, ℕ, ◌+◌, ◌-◌, ◌==◌, Bool, true, false, List, [], ◌∷◌, Option, Some, None, refl, ap, sym, ◌∙◌, arith, nat_tests, max, is_some}
 use Rattle.link.specs.declared.period.Period.TheVariants.{Fixed, Normal, Hurried, Emergency}
 use Rattle.settings_rows.specs.declared.timer_ticks.TimerTicks.{TimerTicks}
-use Rattle.exchange_rules.proofs.Definitions.{Period, paced, left-ticked, one_less, Asking, AsksWants, Happens, Takes, Happening, CameUp, WentDown, FrameCame, Ticked, Submitted, Activated, Deactivated, TitleAdded, TitleRemoved, Abstract, whole}
+use Rattle.exchange_rules.proofs.Definitions.{Period, paced, left-ticked, one_less, Asking, AsksWants, Happens, Takes, Happening, CameUp, WentDown, FrameCame, Ticked, Submitted, Activated, Deactivated, TitleAdded, TitleRemoved, Abstract, whole, Released}
 use Rattle.timers.specs.Timers.{no_tick_left}
 use Rattle.timers.specs.declared.name.TimerName.TheVariants.{T8}
 use Rattle.exchange_rules.specs.Exchange.{after, taken}
 use Rattle.exchange_rules.specs.Aligning.{RunsOut}
 use Rattle.exchange_rules.specs.LawsOfAnswers.{AllStayAway, ComesBack, t8_lasts, ticks_among, ticks_by}
 use Rattle.exchange_rules.specs.Lasting.{after_each}
-use Rattle.exchange_rules.specs.TimerSettings.{RunsBy, left_by}
+use Rattle.exchange_rules.specs.TimerSettings.{RunsBy, left_by, barring}
 use Rattle.exchange_rules.proofs.Inhibited.{no-way}
 use Rattle.exchange_rules.proofs.InhibitedTicks.{t8-runs, takes-leave}
 use Rattle.exchange_rules.proofs.SettingTimers.{events-set}
@@ -28,6 +28,7 @@ begins (FrameCame link text) y l = record { left = y; is = refl; ticks = omega a
 begins (Submitted m) y l = record { left = y; is = refl; ticks = omega arith }
 begins (Activated link emergency) y l = record { left = y; is = refl; ticks = omega arith }
 begins (Deactivated link) y l = record { left = y; is = refl; ticks = omega arith }
+begins (Released link) y l = record { left = y; is = refl; ticks = omega arith }
 begins (TitleAdded row refused) y l = record { left = y; is = refl; ticks = omega arith }
 begins (TitleRemoved key digits) y l = record { left = y; is = refl; ticks = omega arith }
 
@@ -51,6 +52,10 @@ module _ (s d : ℕ) where
   same-t8 Normal ticks = refl
   same-t8 Hurried ticks = refl
   same-t8 Emergency ticks = refl
+
+  bar-t8 : (is_bar : Bool) (ticks : TimerTicks) → (barring is_bar ticks).t8 ≡ ticks.t8
+  bar-t8 false ticks = refl
+  bar-t8 true ticks = refl
 
   -- it runs out only at the last tick
   not-yet : (what : Happening) (a : Abstract) (y more : ℕ) → left_in a ≡ Some y → ticks_by what + more < y → RunsOut (T8 s d) what a.node.parts.timers → ⊥
@@ -81,7 +86,7 @@ module _ (s d : ℕ) where
         more = omega (arith, h.more, from.ticks);
         most = omega (arith, h.most, from.ticks);
       }
-      by (inr (inl e)) = record { left = max 1 a.settings.timers.t8; is = e.1 ∙ ap (λ (ticks : ℕ). Some (max 1 ticks)) (same-t8 e.0 a.settings.timers); more = omega (arith, h.more, h.most); most = omega arith }
+      by (inr (inl e)) = record { left = max 1 a.settings.timers.t8; is = e.2 ∙ ap (λ (ticks : ℕ). Some (max 1 ticks)) (same-t8 e.0 (barring e.1 a.settings.timers) ∙ bar-t8 e.1 a.settings.timers); more = omega (arith, h.more, h.most); most = omega arith }
       by (inr (inr e)) = stops e
 
   all-last : (asked : List Asking) (a : Abstract) → Lasts a (ticks_among asked) (max 1 a.settings.timers.t8) → AllStayAway asked s a → is_some (left_in (after_each asked a)) ≡ true

@@ -1,6 +1,6 @@
 -- Over ticks and all events T8 of a set and a destination runs until it runs out, or its set comes back.
 use Rattle.exchange_rules.proofs.Basics.{◌≡◌, ◌≢◌, ◌⊎◌, inl, inr, ℕ, zero, suc, Bool, true, false, List, Option, Some, None, refl, ap, sym, subst, ◌∙◌, ⊎_elim, cases_eq, is_some, get_or-set_other, false_from_ne_true as not-so, if◌then◌else◌}
-use Rattle.exchange_rules.proofs.Definitions.{Period, Configuration, Action, Alignment, Expiry, action_at, acts_on, LinkTimer, TimerName, Running, Link, down_link, carries_traffic, Node, is_link, link_at, down, in_traffic, set_of, advance, start_unless_running, is_running, is_due, ticked, due_name, after_due, due_count, after-clear, after-none, due-left, left-clear, left-clear_other, left-set_other, left-ticked, one_less, set_timer, clear_timer, L7, after_failure, act_by_timer, run_out, read_frame, receive, with_timers, run_timer, run_due, run_next, run_times, tick, Outgoing, SendsMessage, SendsStatus, Acknowledges, SendsNothing, after_sending, goes_out, Happening, CameUp, WentDown, FrameCame, Ticked, Submitted, Activated, Deactivated, TitleAdded, TitleRemoved, apply, association_up, release, tell_owed, WholeQueues, whole}
+use Rattle.exchange_rules.proofs.Definitions.{Period, Configuration, Action, Alignment, Expiry, action_at, acts_on, LinkTimer, TimerName, Running, Link, down_link, carries_traffic, Node, is_link, link_at, down, in_traffic, set_of, advance, start_unless_running, is_running, is_due, ticked, due_name, after_due, due_count, after-clear, after-none, due-left, left-clear, left-clear_other, left-set_other, left-ticked, one_less, set_timer, clear_timer, L7, after_failure, act_by_timer, run_out, read_frame, receive, with_timers, run_timer, run_due, run_next, run_times, tick, Outgoing, SendsMessage, SendsStatus, Acknowledges, SendsNothing, after_sending, goes_out, Happening, CameUp, WentDown, FrameCame, Ticked, Submitted, Activated, Deactivated, TitleAdded, TitleRemoved, apply, association_up, release, tell_owed, WholeQueues, whole, Released, Done, late_by, order_all}
 use Rattle.signalling_types.specs.declared.notice.FailureReason.TheVariants as reasons
 use Rattle.link.specs.declared.action.Action.TheVariants as act
 use Rattle.link.specs.declared.action.LinkTimer.TheVariants as timer
@@ -24,6 +24,7 @@ use Rattle.exchange_rules.proofs.Steps.{is_of_link}
 use Rattle.exchange_rules.proofs.Tested.{serves-before}
 use Rattle.exchange_rules.proofs.TimerSettings.{cases-name}
 use Rattle.exchange_rules.proofs.Inhibited.{no-way, serving-is, by-timer, Runs, Kept, rules, runs-on, Enters, advance-runs, Returns, receive-runs}
+use Rattle.exchange_rules.proofs.SteppingLate.{late_by-steps, order_all-steps}
 
 module _ (c : Configuration) where
   -- L1 to L4 take no traffic from a link
@@ -116,7 +117,7 @@ module _ (c : Configuration) (s d : ℕ) (first : Node WholeQueues) where
     out-runs link its due r = own-runs (acts_on (link_at n.parts link) (Expiry its)) link its due refl r
 
     rest-runs : (its : TimerName) → is_of_link its ≡ false → Runs c s d handed → Runs c s d (run_timer whole c its handed) ⊎ Proved
-    rest-runs its none r = inl (runs-on c s d handed _ (run_timer-deeds (rules c s d) its handed (λ link t e. absurd (no-link its link t none e)) (record { ends = λ procedure e. tt; fails = λ link t e f. tt; tests = λ link e. tt })) r)
+    rest-runs its none r = inl (runs-on c s d handed _ (run_timer-deeds (rules c s d) its handed (λ link t e. absurd (no-link its link t none e)) (record { ends = λ procedure e. tt; fails = λ link t e f. tt; tests = λ link e. tt; waits = λ link e. tt })) r)
 
     due-runs : (due : Option TimerName) → due_name n.parts.timers ≡ due → Runs c s d handed → Runs c s d (run_due whole c due handed) ⊎ Proved
     due-runs None e r = inl r
@@ -195,7 +196,8 @@ module _ (c : Configuration) (s d : ℕ) (n : Node WholeQueues) where
   tick-runs true e r = inr (inl (refl, e))
   tick-runs false e r =
       let begun : Node WholeQueues = with_timers n (ticked n.parts.timers) in
-      ⊎_elim (λ (k : Runs c s d (tick whole c n).left). inl (settled-runs (tick whole c n).left k))
+      let ran : Node WholeQueues = (tick whole c n).left in
+      ⊎_elim (λ (k : Runs c s d ran). inl (settled-runs (order_all whole c ran) (runs-on c s d ran _ (order_all-steps (rules c s d) ran) k)))
       (λ (p : Proved c s d begun). inr (inr (record { link = p.link; of_set = p.of_set; begins = inl (inl ((refl, p.due), p.ready)); first = p.none })))
       (times-run c s d begun (due_count (ticked n.parts.timers)) begun (record { proving = λ link f. f; dues = λ its f. f; serving = λ link f other g. g; due = e })
       (ap is_some (left-ticked (T8 s d) n.parts.timers) ∙ still-running (n.parts.timers.left (T8 s d)) ∙ r))
@@ -203,7 +205,8 @@ module _ (c : Configuration) (s d : ℕ) (n : Node WholeQueues) where
   frame-runs : (link : ℕ) (text : List ℕ) → Runs c s d n → Runs c s d (apply whole c (FrameCame link text) n).left ⊎ Ends (FrameCame link text)
   unfolding apply
   frame-runs link text r =
-      ⊎_elim (λ (k : Runs c s d (receive whole c link text n).left). inl (settled-runs (receive whole c link text n).left k))
+      let x : Done WholeQueues = receive whole c link text n in
+      ⊎_elim (λ (k : Runs c s d x.left). inl (settled-runs (late_by whole c x.outcome x.left) (runs-on c s d x.left _ (late_by-steps (rules c s d) x.outcome x.left) k)))
       (λ (b : Returns c s d link text n).
       inr (inr (record { link = link; of_set = b.of_set; begins = ⊎_elim (λ h. inl (inr h)) (λ h. inr h) b.said; first = ap (serves_set c n.parts) (sym b.of_set) ∙ b.first })))
       (receive-runs c s d link text (is_link n.parts link) (down n.parts link) (read_frame text) n refl refl r)
@@ -217,8 +220,9 @@ module _ (c : Configuration) (s d : ℕ) (n : Node WholeQueues) where
     opens = λ link e. tt;
     lost = λ link e. tt;
     ordered = λ link e. tt;
+    released = λ link e. tt;
     frame = λ link text e. absurd (none link (subst (λ (w : Happening). IsOf w link) (sym e) refl));
-    words = λ word e. record { ends = λ procedure f. tt; fails = λ link f. tt };
+    words = λ word e. record { ends = λ procedure f. tt; fails = λ link f. tt; answers = λ link f. tt };
     lacking = λ e. tt;
     titles = λ e. tt;
   }
@@ -234,6 +238,7 @@ module _ (c : Configuration) (s d : ℕ) (n : Node WholeQueues) where
   event-runs (Submitted m) r = inl (other-runs (Submitted m) (λ k is. is) (λ no. cc) r)
   event-runs (Activated link emergency) r = inl (other-runs (Activated link emergency) (λ k is. is) (λ no. cc) r)
   event-runs (Deactivated link) r = inl (other-runs (Deactivated link) (λ k is. is) (λ no. cc) r)
+  event-runs (Released link) r = inl (other-runs (Released link) (λ k is. is) (λ no. cc) r)
   event-runs (TitleAdded row refused) r = inl (other-runs (TitleAdded row refused) (λ k is. is) (λ no. cc) r)
   event-runs (TitleRemoved key digits) r = inl (other-runs (TitleRemoved key digits) (λ k is. is) (λ no. cc) r)
 

@@ -1,17 +1,17 @@
 -- Frames, whole events and what goes out: what is kept of the node that a rule leaves is what the rule leaves of what
 -- was kept, and it stays sound. Over any two kinds of queues P and Q of which h keeps one as the other.
 use Rattle.exchange_rules.proofs.Basics.{◌≡◌, ℕ, Bool, true, false, List, [], ◌∷◌, Option, Some, None, Result, Ok, Err, refl, ap, ◌∙◌, if◌then◌else◌}
-use Rattle.exchange_rules.proofs.Definitions.{Message, flow_of, Configuration, Ignored, FrameFault, FrameValue, EmptyFrame, MessageFrame, StatusFrame, read_frame, Action, UserData, acts_on, SeqFault, Parts, Node, Done, QueueKind, keep, answer, refuse, is_link, link_at, down, waits, link_of, tell_owed, whither_goes, go_on, go_by, go, go_each, release, advance, Carrying, carries, owing, timed_parts, numbers, accept, carry, handle_by, handle, act_by_data, receive_data, receive_frame, leave_aside, read, receive, Outgoing, SendsStatus, SendsMessage, Acknowledges, SendsNothing, carried, goes_out, after_sending, frame_taken, after_take, Happening, CameUp, WentDown, FrameCame, Ticked, Submitted, Activated, Deactivated, TitleAdded, TitleRemoved, handle_event, settled, apply}
+use Rattle.exchange_rules.proofs.Definitions.{Message, flow_of, Configuration, Ignored, FrameFault, FrameValue, EmptyFrame, MessageFrame, StatusFrame, read_frame, Action, UserData, acts_on, SeqFault, Parts, Node, Done, QueueKind, keep, answer, refuse, is_link, link_at, down, waits, link_of, tell_owed, whither_goes, go_on, go_by, go, go_each, release, advance, Carrying, carries, owing, timed_parts, numbers, accept, carry, handle_by, handle, act_by_data, receive_data, receive_frame, leave_aside, read, receive, Outgoing, SendsStatus, SendsMessage, Acknowledges, SendsNothing, carried, goes_out, after_sending, frame_taken, after_take, Happening, CameUp, WentDown, FrameCame, Ticked, Submitted, Activated, Deactivated, TitleAdded, TitleRemoved, handle_event, settled, apply, Released, late_by, ordered_late, tick}
 use Rattle.signalling_types.specs.declared.cause.Cause.TheVariants as causes
 use Rattle.signalling_types.specs.declared.notice.FrameFault.TheVariants as faults
 use Rattle.link.specs.declared.action.Action.TheVariants as act
 use Rattle.exchange_rules.proofs.Combining.{IsKept, IsKeeping, KeepsNode, Keeps, changed, answered, parted, either, behind_node, behind}
 use Rattle.exchange_rules.proofs.KeepingMessages.{tell_owed-kept}
 use Rattle.exchange_rules.proofs.KeepingLinkTests.{advance-kept}
-use Rattle.exchange_rules.proofs.KeepingChangeover.{fail-kept}
+use Rattle.exchange_rules.proofs.KeepingChangeover.{fail-kept, late_by-kept}
 use Rattle.exchange_rules.proofs.KeepingLocal.{deliver-kept, submit_to-kept}
 use Rattle.exchange_rules.proofs.KeepingRelaying.{add_title-kept, remove_title-kept}
-use Rattle.exchange_rules.proofs.KeepingLinks.{association_up-kept, association_down-kept, activate-kept, deactivate-kept, on_link_status-kept, tick-kept}
+use Rattle.exchange_rules.proofs.KeepingLinks.{association_up-kept, association_down-kept, activate-kept, deactivate-kept, on_link_status-kept, tick-kept, release_bar-kept}
 
 module _ {P Q : Type 0} (p : QueueKind P) (q : QueueKind Q) (h : P → Q) (IsFit : P → Type 0) (c : Configuration) (k : IsKeeping p q h IsFit c.window) where
   -- the end of an event after a rule
@@ -86,16 +86,26 @@ module _ {P Q : Type 0} (p : QueueKind P) (q : QueueKind Q) (h : P → Q) (IsFit
       (either (down n.parts l) _ _ (answer Ignored n) (read p c l (read_frame text) n) (parted _ n.parts n.queues f) (read-kept l (read_frame text) n f))
       (parted _ n.parts n.queues f)
 
+  -- and orders that go out late
+  late-kept : (s : Done P) (t : Done Q) → Keeps h IsFit t s → Keeps h IsFit (ordered_late q c t) (ordered_late p c s)
+  late-kept s t e =
+      let r : KeepsNode h IsFit (late_by q c s.outcome (keep h s.left)) (late_by p c s.outcome s.left) = late_by-kept p q h IsFit c k s.outcome s.left e.fit in
+      record {
+        same = ap (λ (d : Done Q). ordered_late q c d) e.same ∙ ap (λ (n : Node Q). record { outcome = s.outcome; left = n }) r.same;
+        fit = r.fit;
+      }
+
   -- ---- all events, and what goes out
 
   handle_event-kept : (what : Happening) (n : Node P) → IsFit n.queues → Keeps h IsFit (handle_event q c what (keep h n)) (handle_event p c what n)
   handle_event-kept (CameUp link) n f = association_up-kept p q h IsFit c k link n f
   handle_event-kept (WentDown link) n f = association_down-kept p q h IsFit c k link n f
-  handle_event-kept (FrameCame link text) n f = receive-kept link text n f
-  handle_event-kept Ticked n f = tick-kept p q h IsFit c k n f
+  handle_event-kept (FrameCame link text) n f = late-kept (receive p c link text n) (receive q c link text (keep h n)) (receive-kept link text n f)
+  handle_event-kept Ticked n f = late-kept (tick p c n) (tick q c (keep h n)) (tick-kept p q h IsFit c k n f)
   handle_event-kept (Submitted message) n f = submit_to-kept p q h IsFit c k (whither_goes c message) message n f
   handle_event-kept (Activated link emergency) n f = activate-kept p q h IsFit c k emergency link n f
   handle_event-kept (Deactivated link) n f = deactivate-kept p q h IsFit c k link n f
+  handle_event-kept (Released link) n f = release_bar-kept p q h IsFit c k link n f
   handle_event-kept (TitleAdded row lacking) n f = add_title-kept row lacking n f
   handle_event-kept (TitleRemoved key digits) n f = remove_title-kept key digits n f
 

@@ -1,11 +1,13 @@
 -- A link fails, a changeover goes on, a link returns: what is kept of the node that a rule leaves is what the rule
 -- leaves of what was kept, and it stays sound. Over any two kinds of queues P and Q of which h keeps one as the other.
 use Rattle.exchange_rules.proofs.Basics.{◌≡◌, ℕ, zero, suc, Bool, true, false, List, Option, Some, None, refl, ap, ◌∙◌, if◌then◌else◌}
-use Rattle.exchange_rules.proofs.Definitions.{Message, Configuration, Cause, Handled, Ignored, FailureReason, ChangeoverTimer, completed, Facts, free_code, is_outstanding, Node, Found, QueueKind, keep, with_parts, answer, is_link, down, in_service, facts, set_of, send_routed, suspended, fail_link, without_tests_if_last, changeover_order, changeover_of, with_changeover, is_ordered, changing, make_unavailable, begin, change_over, fail, begin_by_peer, fail_by_peer, concluded, changeover_acknowledgement, with_expiry, with_changeover_acknowledged, send_each, conclude, complete_if, fail_by_order, complete_by_order, acknowledge_changeover, on_changeover_order, on_changeover_acknowledgement, on_changeover_timer, declaration, code_in_use, freed, if_room, procedure_by, loses_flows, with_flows_held, usable, code_for, declare_by, hold_flows, take_back, take_back_each, on_changeback_acknowledgement, return_if}
+use Rattle.exchange_rules.proofs.Definitions.{Message, Configuration, Cause, Handled, Ignored, FailureReason, ChangeoverTimer, completed, Facts, free_code, is_outstanding, Node, Found, QueueKind, keep, with_parts, answer, is_link, down, in_service, facts, set_of, send_routed, suspended, fail_link, without_tests_if_last, changeover_order, changeover_of, with_changeover, is_ordered, changing, make_unavailable, begin, change_over, fail, begin_by_peer, fail_by_peer, concluded, changeover_acknowledgement, with_expiry, with_changeover_acknowledged, send_each, conclude, complete_if, fail_by_order, complete_by_order, acknowledge_changeover, on_changeover_order, on_changeover_acknowledgement, on_changeover_timer, declaration, code_in_use, freed, if_room, procedure_by, loses_flows, with_flows_held, usable, code_for, declare_by, hold_flows, take_back, take_back_each, on_changeback_acknowledgement, return_if, bar, barred, asking, is_late, order_late, order_if_late, order_each, order_all, late_by}
 use Rattle.std.specs.Prelude.{nat_eq, length}
 use Rattle.signalling_types.specs.declared.notice.FailureReason.TheVariants as reasons
 use Rattle.exchange_rules.proofs.Combining.{IsKeeping, KeepsNode, Keeps, changed, answered, parted, parts-kept, either, either_node, behind_node}
 use Rattle.exchange_rules.proofs.KeepingMessages.{no_room-kept, send_routed-kept, send_each-kept}
+use Rattle.signalling_types.specs.declared.outcome.Outcome.{Outcome}
+use Rattle.signalling_types.specs.declared.outcome.Outcome.TheVariants as outcome
 
 module _ {P Q : Type 0} (p : QueueKind P) (q : QueueKind Q) (h : P → Q) (IsFit : P → Type 0) (c : Configuration) (k : IsKeeping p q h IsFit c.window) where
   -- ---- a link fails
@@ -82,10 +84,10 @@ module _ {P Q : Type 0} (p : QueueKind P) (q : QueueKind Q) (h : P → Q) (IsFit
 
   pub on_changeover_order-kept : (l : ℕ) (number : Option ℕ) (n : Node P) → IsFit n.queues → Keeps h IsFit (on_changeover_order q c l number (keep h n)) (on_changeover_order p c l number n)
   on_changeover_order-kept l number n f =
-      let one : Node P = fail_by_order p c l n in
+      let one : Node P = bar p c l (fail_by_order p c l n) in
       let two : Node P = complete_by_order p c l number one in
-      let e : KeepsNode h IsFit (fail_by_order q c l (keep h n)) one = fail_by_order-kept l n f in
-      let g : KeepsNode h IsFit (complete_by_order q c l number (fail_by_order q c l (keep h n))) two =
+      let e : KeepsNode h IsFit (bar q c l (fail_by_order q c l (keep h n))) one = parts-kept (barred c l) _ _ (fail_by_order-kept l n f) in
+      let g : KeepsNode h IsFit (complete_by_order q c l number (bar q c l (fail_by_order q c l (keep h n)))) two =
       behind_node (λ (z : Node Q). complete_by_order q c l number z) two _ one e.same (complete_by_order-kept l number one e.fit) in
       answered _ _ _ (behind_node (λ (z : Node Q). acknowledge_changeover q c l z) (acknowledge_changeover p c l two) _ two g.same (about-kept (changeover_acknowledgement c l) l two g.fit))
 
@@ -97,9 +99,38 @@ module _ {P Q : Type 0} (p : QueueKind P) (q : QueueKind Q) (h : P → Q) (IsFit
 
   pub on_changeover_timer-kept : (t : ChangeoverTimer) (l : ℕ) (n : Node P) → IsFit n.queues → KeepsNode h IsFit (on_changeover_timer q c t l (keep h n)) (on_changeover_timer p c t l n)
   on_changeover_timer-kept t l n f =
-      let one : Node P = complete_if p c (changeover_of n.parts l).incomplete l None (with_parts n (with_expiry t l n.parts)) in
+      let ran : Node P = with_parts n (with_expiry c t l (barred c l n.parts)) in
+      let one : Node P = complete_if p c (changeover_of n.parts l).incomplete l None ran in
       either_node (is_link n.parts l) _ _ one n
-      (complete_if-kept (changeover_of n.parts l).incomplete l None (with_parts n (with_expiry t l n.parts)) f) (record { same = refl; fit = f })
+      (complete_if-kept (changeover_of n.parts l).incomplete l None ran f) (record { same = refl; fit = f })
+
+  -- ---- orders go out late
+
+  order_late-kept : (l : ℕ) (n : Node P) → IsFit n.queues → KeepsNode h IsFit (order_late q c l (keep h n)) (order_late p c l n)
+  order_late-kept l n f = about-kept (changeover_order c l) l (with_parts n (asking c l n.parts)) f
+
+  order_if_late-kept : (l : ℕ) (n : Node P) → IsFit n.queues → KeepsNode h IsFit (order_if_late q c l (keep h n)) (order_if_late p c l n)
+  order_if_late-kept l n f = either_node (is_late c l n.parts) _ _ (order_late p c l n) n (order_late-kept l n f) (record { same = refl; fit = f })
+
+  order_each-kept : (many : ℕ) (n : Node P) → IsFit n.queues → KeepsNode h IsFit (order_each q c many (keep h n)) (order_each p c many n)
+  unfolding order_each
+  order_each-kept zero n f = record { same = refl; fit = f }
+  order_each-kept (suc l) n f =
+      let one : Node P = order_each p c l n in
+      let e : KeepsNode h IsFit (order_each q c l (keep h n)) one = order_each-kept l n f in
+      behind_node (λ (z : Node Q). order_if_late q c l z) (order_if_late p c l one) _ one e.same (order_if_late-kept l one e.fit)
+
+  order_all-kept : (n : Node P) → IsFit n.queues → KeepsNode h IsFit (order_all q c (keep h n)) (order_all p c n)
+  order_all-kept n f =
+      either_node c.changeover_by_any_route _ _ (order_each p c (length c.links) n) n (order_each-kept (length c.links) n f) (record { same = refl; fit = f })
+
+  pub late_by-kept : (o : Outcome) (n : Node P) → IsFit n.queues → KeepsNode h IsFit (late_by q c o (keep h n)) (late_by p c o n)
+  late_by-kept (outcome.Refused cause) n f = record { same = refl; fit = f }
+  late_by-kept (outcome.Queued link) n f = order_all-kept n f
+  late_by-kept outcome.Held n f = order_all-kept n f
+  late_by-kept outcome.Local n f = order_all-kept n f
+  late_by-kept outcome.Handled n f = order_all-kept n f
+  late_by-kept outcome.Ignored n f = order_all-kept n f
 
   -- ---- a link returns
 

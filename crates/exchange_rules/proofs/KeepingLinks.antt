@@ -1,7 +1,7 @@
 -- Associations and orders, statuses and timers of links: what is kept of the node that a rule leaves is what the rule
 -- leaves of what was kept, and it stays sound. Over any two kinds of queues P and Q of which h keeps one as the other.
 use Rattle.exchange_rules.proofs.Basics.{ℕ, Bool, zero, suc, true, false, Option, Some, None, refl, ap, if◌then◌else◌, List, ◌∙◌}
-use Rattle.exchange_rules.proofs.Definitions.{Configuration, Handled, Ignored, FailureReason, LinkStatus, Action, Status, Expiry, LinkTimer, Transition, acts_on, TimerName, ticked, due_name, due_count, after_due, may_restart, Node, Done, QueueKind, keep, with_parts, answer, refuse, is_link, link_at, down, may_open, begun, open_link, association_up, fail_if_up, end_association, association_down, with_active, set_active, activate, deactivate, without_association, changeover_of, fail, advance, end_busy, serve_status, step_by_status, act_by_status, on_link_status, act_by_timer, run_out, with_timers, run_timer, run_due, run_next, run_times, tick, tells_outage, tells_recovery, begin_outage, hear_outage, end_outage, hear_busy_ended, put_out, become_busy, let_back, Message, run_all, count_subsystems}
+use Rattle.exchange_rules.proofs.Definitions.{Configuration, Handled, Ignored, FailureReason, LinkStatus, Action, Status, Expiry, LinkTimer, Transition, acts_on, TimerName, ticked, due_name, due_count, after_due, may_restart, Node, Done, QueueKind, keep, with_parts, answer, refuse, is_link, link_at, down, may_open, begun, open_link, association_up, fail_if_up, end_association, association_down, with_active, set_active, activate, deactivate, without_association, changeover_of, fail, advance, end_busy, serve_status, step_by_status, act_by_status, on_link_status, act_by_timer, run_out, with_timers, run_timer, run_due, run_next, run_times, tick, tells_outage, tells_recovery, begin_outage, hear_outage, end_outage, hear_busy_ended, put_out, become_busy, let_back, Message, run_all, count_subsystems, release_bar, is_barred, unbarred}
 use Rattle.signalling_types.specs.declared.cause.Cause.TheVariants as causes
 use Rattle.signalling_types.specs.declared.notice.FailureReason.TheVariants as reasons
 use Rattle.m2pa_codec.specs.declared.status.LinkStatus.TheVariants as says
@@ -42,6 +42,13 @@ module _ {P Q : Type 0} (p : QueueKind P) (q : QueueKind Q) (h : P → Q) (IsFit
   pub activate-kept : (emergency : Bool) (l : ℕ) (n : Node P) → IsFit n.queues → Keeps h IsFit (activate q c emergency l (keep h n)) (activate p c emergency l n)
   activate-kept emergency l n f =
       either (is_link n.parts l) _ _ (answer Handled (set_active p c true emergency l n)) (refuse causes.NoSuchName n) (parted _ _ n.queues f) (parted _ n.parts n.queues f)
+
+  pub release_bar-kept : (l : ℕ) (n : Node P) → IsFit n.queues → Keeps h IsFit (release_bar q c l (keep h n)) (release_bar p c l n)
+  release_bar-kept l n f =
+      let freed : Done P = answer Handled (with_parts n (unbarred l n.parts)) in
+      either (is_link n.parts l) _ _ (if is_barred (changeover_of n.parts l) then freed else answer Ignored n) (refuse causes.NoSuchName n)
+      (either (is_barred (changeover_of n.parts l)) _ _ freed (answer Ignored n) (parted _ _ n.queues f) (parted _ n.parts n.queues f))
+      (parted _ n.parts n.queues f)
 
   pub deactivate-kept : (l : ℕ) (n : Node P) → IsFit n.queues → Keeps h IsFit (deactivate q c l (keep h n)) (deactivate p c l n)
   deactivate-kept l n f =

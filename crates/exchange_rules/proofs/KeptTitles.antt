@@ -1,6 +1,6 @@
 -- Which events change translation rows and prohibited subsystems: what is heard, a tick, and orders about rows.
 use Rattle.exchange_rules.proofs.Basics.{◌≡◌, ◌⊎◌, inl, inr, ⊎_elim, ℕ, Bool, true, false, List, [], ◌∷◌, Option, Some, None, refl, ap, sym, ◌∙◌, if◌then◌else◌}
-use Rattle.exchange_rules.proofs.Definitions.{Message, flow_of, Configuration, TitleEntry, TitleKey, FailureReason, ChangeoverTimer, Facts, Cause, Found, TitlesValue, place_of, has_row, without_row, ticked, due_count, Parts, Node, Done, answer, refuse, with_parts, is_link, in_service, down, link_of, waits, no_room, facts, own_of, has_other, is_ordered, set_of, changeover_of, with_expiry, changeover_order, changeover_acknowledgement, whole, WholeQueues, fail, fail_link, suspended, make_unavailable, change_over, begin, begin_by_peer, fail_by_peer, fail_by_order, without_tests, lose_each, lose, judged, send, send_each, send_anew, complete_if, complete_by_order, on_changeover_order, on_changeover_acknowledgement, on_changeover_timer, with_changeover_acknowledged, hold_flows, held_by_rerouting, go, go_by, go_each, go_on, release, tell_owed, tell_each, tell_if, tell, route_message, told_parts, may_tell, owed, with_timers, run_all, handle_event, apply, add_title_unless, title_refusal, with_rows, Happening, Ticked, TitleAdded, TitleRemoved, Owed}
+use Rattle.exchange_rules.proofs.Definitions.{Message, flow_of, Configuration, TitleEntry, TitleKey, FailureReason, ChangeoverTimer, Facts, Cause, Found, TitlesValue, place_of, has_row, without_row, ticked, due_count, Parts, Node, Done, answer, refuse, with_parts, is_link, in_service, down, link_of, waits, no_room, facts, own_of, has_other, is_ordered, set_of, changeover_of, with_expiry, changeover_order, changeover_acknowledgement, whole, WholeQueues, fail, fail_link, suspended, make_unavailable, change_over, begin, begin_by_peer, fail_by_peer, fail_by_order, without_tests, lose_each, lose, judged, send, send_each, send_anew, complete_if, complete_by_order, on_changeover_order, on_changeover_acknowledgement, on_changeover_timer, with_changeover_acknowledged, hold_flows, held_by_rerouting, go, go_by, go_each, go_on, release, tell_owed, tell_each, tell_if, tell, route_message, told_parts, may_tell, owed, with_timers, run_all, handle_event, apply, add_title_unless, title_refusal, with_rows, Happening, Ticked, TitleAdded, TitleRemoved, Owed, bar, barred, asking, order_late, late_by, tick}
 use Rattle.signalling_types.specs.declared.cause.Cause.TheVariants.{LostUnconfirmed, NoSuchName}
 use Rattle.signalling_types.specs.declared.outcome.Outcome.TheVariants.{Handled, Ignored}
 use Rattle.signalling_types.specs.declared.notice.FailureReason.TheVariants as reasons
@@ -15,6 +15,9 @@ use Rattle.exchange_rules.proofs.Asked.{any}
 use Rattle.exchange_rules.proofs.Steps.{Deed, TitlesChange, IsOfDeeds}
 use Rattle.exchange_rules.proofs.Causes.{event-deeds, times-deeds, Cause as MayDo}
 use Rattle.exchange_rules.proofs.KeptFacts.{after-facts, own-same}
+use Rattle.exchange_rules.proofs.LateOrders.{order_all-facts}
+use Rattle.signalling_types.specs.declared.outcome.Outcome.{Outcome}
+use Rattle.exchange_rules.proofs.SteppingLate.{late_by-steps}
 
 -- rows and subsystems stay, unless they may change
 pub record Alters (May : Deed → Type 0) (n m : Node WholeQueues) : Type 0 where
@@ -96,7 +99,7 @@ module _ (c : Configuration) where
 
   order-same : (link : ℕ) (number : Option ℕ) (n : Node WholeQueues) → Same n (on_changeover_order whole c link number n).left
   order-same link number n =
-      let failed : Node WholeQueues = fail_by_order whole c link n in
+      let failed : Node WholeQueues = bar whole c link (fail_by_order whole c link n) in
       let done : Node WholeQueues = complete_by_order whole c link number failed in
       let m : Message = changeover_acknowledgement c link (whole.last_accepted done.queues link) in
       send-same (no_room whole c m done.queues) (link_of c done.parts (flow_of m)) m done
@@ -114,6 +117,12 @@ module _ (c : Configuration) where
       by true = complete-same (changeover_of n.parts link).incomplete link number (with_parts n (with_changeover_acknowledged link n.parts))
       by false = refl
 
+  asks-same : (link : ℕ) (n : Node WholeQueues) → Same n (order_late whole c link n)
+  asks-same link n =
+      let m : Message = changeover_order c link (whole.last_accepted n.queues link) in
+      let asks : Node WholeQueues = with_parts n (asking c link n.parts) in
+      send-same (no_room whole c m n.queues) (link_of c asks.parts (flow_of m)) m asks
+
   flagged-same : (timer : ChangeoverTimer) (p : Parts) → (flagged_by timer p).titles ≡ p.titles
   flagged-same which.T1 p = refl
   flagged-same which.T2 p = refl
@@ -121,7 +130,7 @@ module _ (c : Configuration) where
   expired-same : (timer : ChangeoverTimer) (link : ℕ) (n : Node WholeQueues) → Same n (on_changeover_timer whole c timer link n)
   expired-same timer link n =
       either-same (is_link n.parts link) n _ n
-      (complete-same (changeover_of n.parts link).incomplete link None (with_parts n (with_expiry timer link n.parts)) ∙ flagged-same timer _) refl
+      (complete-same (changeover_of n.parts link).incomplete link None (with_parts n (with_expiry c timer link (barred c link n.parts))) ∙ flagged-same timer _) refl
 
   -- ---- flows are held
 
@@ -153,6 +162,7 @@ module _ (c : Configuration) where
         routed = λ link m n e. as_it_was n _ refl;
         noted = λ notice n e. as_it_was n _ refl;
         lost = λ notice n e. as_it_was n _ refl;
+        counted = λ messages broken n. as_it_was n _ refl;
       };
       tested = λ link point test n e f. as_it_was n _ refl;
       probed = λ link n e. as_it_was n _ refl;
@@ -177,13 +187,19 @@ module _ (c : Configuration) where
       back = λ link n e may. as_it_was n _ refl;
       fails = λ link why n may up. as_it_was n _ (fail-same link why n);
       orders = λ link number n falls may. as_it_was n _ (order-same link number n);
-      acknowledges = λ link number n may. as_it_was n _ (acknowledged-same link number n);
-      expires = λ timer link n may. as_it_was n _ (expired-same timer link n);
+      acknowledges = λ link number n may wait. as_it_was n _ (acknowledged-same link number n);
+      expires = λ timer link n may wait. as_it_was n _ (expired-same timer link n);
+      releases = λ link n e wait. as_it_was n _ refl;
+      asks = λ link n e. as_it_was n _ (asks-same link n);
       returns = λ before after code link other n e f. as_it_was n _ (returns-same before after code link other n);
       frees = λ set code n may. as_it_was n _ refl;
       reroutes = λ destination selections n. as_it_was n _ (reroutes-same destination selections n);
       lifts = λ procedure n may. as_it_was n _ refl;
     }
+
+  -- so orders that go out late change none
+  pub late-same : (outcome : Outcome) (n : Node WholeQueues) → Same n (late_by whole c outcome n)
+  late-same outcome n = ⊎_elim (λ (no : ⊥). absurd no) (λ (e : Same n (late_by whole c outcome n)). e) (late_by-steps (alters-deeds (λ deed. ⊥)) outcome n).is
 
   -- ---- what ends an event
 
@@ -230,15 +246,17 @@ module _ (c : Configuration) where
   ran-same n =
       ⊎_elim (λ (no : ⊥). absurd no) (λ (e : Same n (run_all whole c n)). e)
       (times-deeds (alters-deeds Leaving) (λ r m. as_it_was Leaving m _ refl) n.parts.timers (due_count n.parts.timers) n (λ its e. e)
-      (λ its e. record { ends = λ procedure f. tt; fails = λ link other f g. tt; tests = λ link f. tt })).is
+      (λ its e. record { ends = λ procedure f. tt; fails = λ link other f g. tt; tests = λ link f. tt; waits = λ link f. tt })).is
 
   tick-titles : (n : Node WholeQueues)
       → (apply whole c Ticked n).left.parts.titles ≡ tests.ticked (own_of c (apply whole c Ticked n).left.parts) (sst_ticks c) n.parts.titles
   tick-titles n =
       let ran : Node WholeQueues = run_all whole c (with_timers n (ticked n.parts.timers)) in
-      after-same Ticked n
+      let timed : Node WholeQueues = (tick whole c n).left in
+      after-same Ticked n ∙ late-same Handled timed
       ∙ ap (λ (t : TitlesValue). tests.ticked (own_of c ran.parts) (sst_ticks c) t) (ran-same (with_timers n (ticked n.parts.timers)))
-      ∙ ap (λ (own : OwnValue). tests.ticked own (sst_ticks c) n.parts.titles) (own-same c ran (apply whole c Ticked n).left (sym (after-facts c Ticked n)))
+      ∙ ap (λ (own : OwnValue). tests.ticked own (sst_ticks c) n.parts.titles)
+      (own-same c ran (apply whole c Ticked n).left (sym (after-facts c Ticked n ∙ order_all-facts c timed)))
 
 pub counts-them : a_tick_counts_them
 counts-them a = tick-titles a.settings a.node

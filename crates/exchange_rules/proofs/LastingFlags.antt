@@ -24,6 +24,8 @@ flags-steps c = record {
   taken_out = λ n. same-flags _ _ refl refl;
   noted = λ notice n e. same-flags _ _ refl refl;
   lost = λ n. record { lost = λ h. refl; late = λ h. h };
+  counted = λ messages broken n. record { lost = λ h. h; late = λ h. h };
+  asked = λ link n e. record { lost = λ h. h; late = λ h. h };
   late = λ n. record { lost = λ h. h; late = λ h. refl };
   timed = λ r n e. same-flags _ _ refl refl;
   holding = λ h n e. same-flags _ _ refl refl;

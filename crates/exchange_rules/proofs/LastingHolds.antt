@@ -1,6 +1,6 @@
 -- Whatever an exchange is asked, every hold has its timer or its word.
 use Rattle.exchange_rules.proofs.Basics.{◌≡◌, ◌≢◌, inl, inr, ◌<◌, ◌≤◌, ℕ, Bool, true, false, List, [], ◌∷◌, length, Option, Some, None, refl, ap, sym, ◌∙◌, subst, arith, ⊎_elim, cases_lt, get_or-replicate, get_or_past, length-replicate, replicate, slice_index_or, is_some, nat_lt, if◌then◌else◌, and_from, get_or-set_same, get_or-set_other}
-use Rattle.exchange_rules.proofs.Definitions.{recovered, period_of, Configuration, Facts, ChangeoverTimer, Procedure, Code, Time, Reroute, HoldSet, holds, lifted, flows_leave, none_at_first, Standing, no_changeover, TimerName, Running, NodeCounts, is_running, has_name, set_timer, clear_timer, ticked, due_name, after_due, one_less, left-set_other, left-clear_other, left-ticked, counts-set, link_at, after-clear, after-none, due-left, Parts, Node, with_parts, in_service, is_link, changeover_of, set_of, complete_if, on_changeover_timer, with_expiry, is_taken_back, hold_flows, held_by_rerouting, opening, carries, with_timers, run_due, run_timer, counts-after, first_state, WholeQueues, whole, HasAllPlaces, Link, down_link, stepped, opened_by, is_in_service, without_owed, Changeover, is_failed, facts, in_outage, put_out, let_back}
+use Rattle.exchange_rules.proofs.Definitions.{recovered, period_of, Configuration, Facts, ChangeoverTimer, Procedure, Code, Time, Reroute, HoldSet, holds, lifted, flows_leave, none_at_first, Standing, no_changeover, TimerName, Running, NodeCounts, is_running, has_name, set_timer, clear_timer, ticked, due_name, after_due, one_less, left-set_other, left-clear_other, left-ticked, counts-set, link_at, after-clear, after-none, due-left, Parts, Node, with_parts, in_service, is_link, changeover_of, set_of, complete_if, on_changeover_timer, with_expiry, is_taken_back, hold_flows, held_by_rerouting, opening, carries, with_timers, run_due, run_timer, counts-after, first_state, WholeQueues, whole, HasAllPlaces, Link, down_link, stepped, opened_by, is_in_service, without_owed, Changeover, is_failed, facts, in_outage, put_out, let_back, barred}
 use Rattle.std.proofs.lemmas.Bool.{lt-ltb, ltb-true}
 use Rattle.flow_hold.proofs.Pairing.{ends_its_own}
 use Rattle.timers.proofs.Maps.{exists}
@@ -18,7 +18,7 @@ use Rattle.exchange_rules.proofs.WillEnding.{no-way, LinkAs, link-same, link-set
 use Rattle.exchange_rules.proofs.SteppingTimers.{apart-from}
 use Rattle.exchange_rules.proofs.SteppingEvents.{run_next-steps}
 use Rattle.exchange_rules.proofs.EndingProcedures.{timer_of, has-timer, held-else, held_for-leaves}
-use Rattle.exchange_rules.proofs.EndingChangeovers.{Stays, places, same-parts, same-ends, sends-stay, fails-by, unheld-by, orders-stay, acknowledges-by, expires-at, expires-by}
+use Rattle.exchange_rules.proofs.EndingChangeovers.{Stays, places, same-parts, same-ends, sends-stay, fails-by, unheld-by, orders-stay, acknowledges-by, expires-at, expires-by, releases-stay, asks-stay}
 use Rattle.exchange_rules.proofs.LinksAlike.{busied-as, linked-as, opened-as, parted-as, passed-as, resumed-as, stepped-as}
 
 module _ (c : Configuration) where
@@ -139,8 +139,10 @@ module _ (c : Configuration) where
     back = λ link n e may. record { places = (places c).back link n e tt; ends = λ h. let-ends link n e };
     fails = λ link why n may up. record { places = (places c).fails link why n tt up; ends = fails-by c (in_service n.parts link) link why n refl };
     orders = λ link number n falls ends. record { places = (places c).orders link number n tt tt; ends = orders-stay c link number n };
-    acknowledges = λ link number n may. record { places = (places c).acknowledges link number n tt; ends = acknowledges-by c (changeover_of n.parts link).awaited link number n };
-    expires = λ timer link n may. record { places = (places c).expires timer link n tt; ends = expires-by c timer link n };
+    acknowledges = λ link number n may wait. record { places = (places c).acknowledges link number n tt tt; ends = acknowledges-by c (changeover_of n.parts link).awaited link number n };
+    expires = λ timer link n may wait. record { places = (places c).expires timer link n tt (λ t2. tt); ends = expires-by c timer link n };
+    releases = λ link n e wait. record { places = (places c).releases link n e tt; ends = λ h. releases-stay c link n e };
+    asks = λ link n e. record { places = (places c).asks link n e; ends = asks-stay c link n e };
     returns = λ before after code link other n e f.
         let k : kept.Keeps c n (hold_flows whole c before after code link other n) = (places c).returns before after code link other n e f in
         record { places = k; ends = λ h. returns-by before after code link other n (k.stay h) };
@@ -179,16 +181,19 @@ module _ (c : Configuration) where
       → HasAllPlaces c n → AllWillEnd n.parts → AllWillEnd (on_changeover_timer whole c expiry link (next timer n due)).parts
   changeover-ran expiry timer link n due its first named h a = by (is_link n.parts link) refl
     where
+      its-own : nat_lt link n.parts.timers.counts.links ≡ true
+      its-own = named (exists n.parts.timers timer 0 (due-left timer n.parts.timers due))
+
       here : link < length n.parts.links
-      here =
-          omega (arith, ltb-true link n.parts.timers.counts.links (named (exists n.parts.timers timer 0 (due-left timer n.parts.timers due))), h.parts.links, h.timers.links)
+      here = omega (arith, ltb-true link n.parts.timers.counts.links its-own, h.parts.links, h.timers.links)
 
       by : (there : Bool) → is_link n.parts link ≡ there
-          → AllWillEnd (if there then complete_if whole c (changeover_of n.parts link).incomplete link None (with_parts (next timer n due) (with_expiry expiry link (next timer n due).parts)) else next timer n due).parts
+          → AllWillEnd (if there then complete_if whole c (changeover_of n.parts link).incomplete link None (with_parts (next timer n due) (with_expiry c expiry link (barred c link (next timer n due).parts))) else next timer n due).parts
       by true e =
           expires-at c expiry link (next timer n due) (next-places timer n due h)
           (but-moved link n.parts (next timer n due).parts (λ procedure destination sls apart held. held) (λ other apart. refl)
           (λ other ends out. still timer n due other (λ same. out (subst (Its link) same its))) (λ other apart. link-same (link_at n.parts other)) (but-of link n.parts a))
+          (ap (λ (counts : NodeCounts). nat_lt link counts.links) (counts-after n.parts.timers) ∙ its-own)
           (λ waits t1. runs-as (name.T2 link) n.parts.timers (next timer n due).parts.timers (still timer n due (name.T2 link) (first t1)) ((a.changeovers link).awaited waits)) (unheld-by c link n.parts a) (a.outages link)
       by false e = absurd (no-way (is_link n.parts link) e (lt-ltb link (length n.parts.links) here))
 

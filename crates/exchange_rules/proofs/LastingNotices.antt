@@ -80,6 +80,8 @@ raised-steps c = record {
   taken_out = λ n. same-raised n _ refl refl refl;
   noted = λ notice n e. noted-raised notice n _ e.lost e.late refl refl refl;
   lost = λ n. record { stay = λ h. record { lost = λ k. refl; late = h.late } };
+  counted = λ messages broken n. record { stay = λ h. record { lost = h.lost; late = h.late } };
+  asked = λ link n e. record { stay = λ h. record { lost = h.lost; late = h.late } };
   late = λ n. record { stay = λ h. record { lost = h.lost; late = λ k. refl } };
   timed = λ r n e. same-raised n _ refl refl refl;
   holding = λ h n e. same-raised n _ refl refl refl;

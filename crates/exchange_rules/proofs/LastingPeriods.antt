@@ -48,6 +48,8 @@ module _ (c : Configuration) (P : Link → Type 0) (s : IsLasting c P) where
     taken_out = λ n. same n _ refl;
     noted = λ notice n e. same n _ refl;
     lost = λ n. same n _ refl;
+    counted = λ messages broken n. same n _ refl;
+    asked = λ link n e. same n _ refl;
     late = λ n. same n _ refl;
     timed = λ r n e. same n _ refl;
     holding = λ h n e. same n _ refl;

@@ -1,6 +1,6 @@
 -- A node keeps an index for everything that its settings name.
 use Rattle.exchange_rules.proofs.Basics.{◌≡◌, ℕ, Bool, List, length, refl, ap, ◌∙◌, false, slice_set, length-set, length-replicate, length-map}
-use Rattle.exchange_rules.proofs.Definitions.{period_of, Message, FailureReason, Configuration, opening, Queue, first_queue, appended, emptied, down_link, after_failure, with_code, HoldSet, NodeCounts, Running, ticked, after_due, counts-after, Route, first_routes, ToldTable, shape_of, first_shape, Link, Standing, no_changeover, Node, Noted, with_parts, link_at, links_with, note, flagged, flagged_late, without_timers, with_changeover, fail_link, declaration, test_answer, carries, WholeQueues, queue_at, whole, with_titles, HasTimersFor, HasAllPlaces, places_at_first, places_stay, TitlesValue, link_test}
+use Rattle.exchange_rules.proofs.Definitions.{period_of, Message, FailureReason, Configuration, opening, Queue, first_queue, appended, emptied, down_link, after_failure, with_code, HoldSet, NodeCounts, Running, ticked, after_due, counts-after, Route, first_routes, ToldTable, shape_of, first_shape, Link, Standing, no_changeover, Node, Noted, with_parts, link_at, links_with, note, flagged, flagged_late, without_timers, with_changeover, fail_link, declaration, test_answer, carries, WholeQueues, queue_at, whole, with_titles, HasTimersFor, HasAllPlaces, places_at_first, places_stay, TitlesValue, link_test, with_order, changeover_of}
 use Rattle.signalling_types.specs.declared.notice.Notice.TheVariants as notices
 use Rattle.link.specs.Queue as queue
 use Rattle.exchange_rules.proofs.Places.{with_code-fits, no_codes-fits, no_holds-fits}
@@ -35,6 +35,24 @@ module _ (c : Configuration) where
   pub notices-keep : (notices : Noted) (lost late : ℕ) (n : Node WholeQueues)
       → Keeps c n (with_parts n (record n.parts { notices = notices; times_lost = lost; times_late = late }))
   notices-keep notices lost late n = record {
+    stay = λ h. record {
+      parts = record {
+        few_links = h.parts.few_links;
+        links = h.parts.links;
+        changeovers = h.parts.changeovers;
+        routes = h.parts.routes;
+        told = h.parts.told;
+        codes = h.parts.codes;
+        holds = h.parts.holds;
+        unequipped = h.parts.unequipped;
+      };
+      queues = h.queues;
+      timers = h.timers;
+    };
+  }
+
+  pub counts-keep : (messages broken : ℕ) (n : Node WholeQueues) → Keeps c n (with_parts n (record n.parts { messages_lost = messages; times_broken = broken }))
+  counts-keep messages broken n = record {
     stay = λ h. record {
       parts = record {
         few_links = h.parts.few_links;
@@ -217,6 +235,8 @@ places-steps c = record {
   taken_out = λ n. queues-keep c (whole.without_held n.queues) n refl;
   noted = λ notice n e. notices-keep c (note notice n.parts).notices n.parts.times_lost n.parts.times_late n;
   lost = λ n. notices-keep c n.parts.notices (flagged n.parts).times_lost n.parts.times_late n;
+  counted = counts-keep c;
+  asked = λ link n e. changeover-keeps c link (with_order (changeover_of n.parts link)) n;
   late = λ n. notices-keep c n.parts.notices n.parts.times_lost (flagged_late n.parts).times_late n;
   timed = λ r n e. timers-keep c r n e.counts;
   holding = λ h n e. holds-keep c h n e;

@@ -1,6 +1,6 @@
 -- A refused event leaves what it is to leave, and a message is queued on a link in service.
-use Rattle.exchange_rules.proofs.Basics.{◌≡◌, ℕ, Bool, true, false, List, [], ◌∷◌, Option, Some, None, Result, Ok, Err, refl, ap, ◌∙◌, if◌then◌else◌}
-use Rattle.exchange_rules.proofs.Definitions.{Message, flow_of, Configuration, Cause, Queued, Ignored, Refused, FrameFault, FrameValue, read_frame, Owed, owed, facts, Action, UserData, acts_on, count_confirmed, Node, Done, with_node, with_parts, answer, refuse, is_link, link_at, down, in_traffic, link_of, no_room, send, route_message, told_parts, may_tell, tell_if, tell_each, tell_owed, whither_goes, submit, advance, Carrying, data_of, numbers, accept, read, CameUp, WentDown, FrameCame, Ticked, Submitted, Activated, Deactivated, TitleAdded, TitleRemoved, WholeQueues, whole, waits, all_wait, go_on, go_by, go, go_each, release, settled, apply, accept_data, accept_frame, accept_text, carried_message, answered, refusals_leave, queued_in_traffic, Abstract, IsSound}
+use Rattle.exchange_rules.proofs.Basics.{◌≡◌, ℕ, Bool, true, false, List, [], ◌∷◌, Option, Some, None, Result, Ok, Err, refl, ap, ◌∙◌, if◌then◌else◌, zero, suc, length}
+use Rattle.exchange_rules.proofs.Definitions.{Message, flow_of, Configuration, Cause, Queued, Ignored, Refused, FrameFault, FrameValue, read_frame, Owed, owed, facts, Action, UserData, acts_on, count_confirmed, Node, Done, with_node, with_parts, answer, refuse, is_link, link_at, down, in_traffic, link_of, no_room, send, route_message, told_parts, may_tell, tell_if, tell_each, tell_owed, whither_goes, submit, advance, Carrying, data_of, numbers, accept, read, CameUp, WentDown, FrameCame, Ticked, Submitted, Activated, Deactivated, TitleAdded, TitleRemoved, WholeQueues, whole, waits, all_wait, go_on, go_by, go, go_each, release, settled, apply, accept_data, accept_frame, accept_text, carried_message, answered, refusals_leave, queued_in_traffic, Abstract, IsSound, Released, late_by, ordered_late, order_all, order_each, order_if_late, order_late, is_late, asking, changeover_order, receive}
 use Rattle.signalling_types.specs.declared.cause.Cause.TheVariants as causes
 use Rattle.link.specs.declared.action.Action.TheVariants as act
 use Rattle.exchange_rules.specs.Telling as telling
@@ -9,8 +9,10 @@ use Rattle.exchange_rules.proofs.Answering.{answered-waits, answered-told}
 use Rattle.exchange_rules.proofs.Telling.{told_already}
 use Rattle.exchange_rules.proofs.AddedHolds.{advance-waits}
 use Rattle.exchange_rules.proofs.Leaves.{Leaves, Stays}
-use Rattle.exchange_rules.proofs.LeavingMessages.{submit_to-leaves, add_title-leaves, remove_title-leaves, association_up-leaves, association_down-leaves, activate-leaves, deactivate-leaves}
+use Rattle.exchange_rules.proofs.LeavingMessages.{submit_to-leaves, add_title-leaves, remove_title-leaves, association_up-leaves, association_down-leaves, activate-leaves, deactivate-leaves, release_bar-leaves}
 use Rattle.exchange_rules.proofs.LeavingFrames.{left_of_text, up_leaves}
+use Rattle.signalling_types.specs.declared.outcome.Outcome.{Outcome}
+use Rattle.signalling_types.specs.declared.outcome.Outcome.TheVariants as outcome
 
 -- ---- the end of an event after a rule
 
@@ -104,6 +106,43 @@ received_served : (t : Bool) (d : Done WholeQueues) (by : Cause → Node WholeQu
 received_served true d by a l f e = f.served l e
 received_served false d by a l f e = cc
 
+-- ---- orders that go out late
+
+-- a refusal sends none
+late-refused : (c : Configuration) (d : Done WholeQueues) (cause : Cause) → d.outcome ≡ Refused cause → late_by whole c d.outcome d.left ≡ d.left
+late-refused c d cause e = ap (λ (o : Outcome). late_by whole c o d.left) e
+
+-- and none changes a link
+order_if_late-serves : (c : Configuration) (link : ℕ) (n : Node WholeQueues) (l : ℕ) → in_traffic (order_if_late whole c link n).parts l ≡ in_traffic n.parts l
+order_if_late-serves c link n l = by (is_late c link n.parts)
+  where
+    by : (late : Bool) → in_traffic (if late then order_late whole c link n else n).parts l ≡ in_traffic n.parts l
+    by true =
+        let m : Message = changeover_order c link (whole.last_accepted n.queues link) in
+        let asks : Node WholeQueues = with_parts n (asking c link n.parts) in
+        send-serves c (no_room whole c m n.queues) (link_of c asks.parts (flow_of m)) m asks l
+    by false = refl
+
+order_each-serves : (c : Configuration) (many : ℕ) (n : Node WholeQueues) (l : ℕ) → in_traffic (order_each whole c many n).parts l ≡ in_traffic n.parts l
+unfolding order_each
+order_each-serves c zero n l = refl
+order_each-serves c (suc link) n l = order_if_late-serves c link (order_each whole c link n) l ∙ order_each-serves c link n l
+
+order_all-serves : (c : Configuration) (n : Node WholeQueues) (l : ℕ) → in_traffic (order_all whole c n).parts l ≡ in_traffic n.parts l
+order_all-serves c n l = by c.changeover_by_any_route
+  where
+    by : (b : Bool) → in_traffic (if b then order_each whole c (length c.links) n else n).parts l ≡ in_traffic n.parts l
+    by true = order_each-serves c (length c.links) n l
+    by false = refl
+
+late_by-serves : (c : Configuration) (o : Outcome) (n : Node WholeQueues) (l : ℕ) → in_traffic (late_by whole c o n).parts l ≡ in_traffic n.parts l
+late_by-serves c (outcome.Refused cause) n l = refl
+late_by-serves c (outcome.Queued link) n l = order_all-serves c n l
+late_by-serves c outcome.Held n l = order_all-serves c n l
+late_by-serves c outcome.Local n l = order_all-serves c n l
+late_by-serves c outcome.Handled n l = order_all-serves c n l
+late_by-serves c outcome.Ignored n l = order_all-serves c n l
+
 -- ---- the laws
 
 -- what any other refusal leaves: the node as it was
@@ -123,6 +162,7 @@ refused_leaves (WentDown link) a cause s e = left-so a _ cause s (association_do
 refused_leaves Ticked a cause s e = cc
 refused_leaves (Activated link emergency) a cause s e = left-so a _ cause s (activate-leaves a.settings a.node (as_it_was a) (unchanged a) emergency link) e
 refused_leaves (Deactivated link) a cause s e = left-so a _ cause s (deactivate-leaves a.settings a.node (as_it_was a) (unchanged a) link) e
+refused_leaves (Released link) a cause s e = left-so a _ cause s (release_bar-leaves a.settings a.node (as_it_was a) (unchanged a) link) e
 refused_leaves (TitleAdded row lacking) a cause s e = left-so a _ cause s (add_title-leaves row lacking a.node) e
 refused_leaves (TitleRemoved key digits) a cause s e = left-so a _ cause s (remove_title-leaves key digits a.node) e
 refused_leaves (Submitted message) a cause s e =
@@ -132,7 +172,8 @@ refused_leaves (Submitted message) a cause s e =
     (answered-waits a.settings cause None (Some message) a.node s.waiting)
     ∙ told_already whole a.settings left (answered-told a.settings cause message a.node s.telling))
 refused_leaves (FrameCame link text) a cause s e =
-    received_left (is_link a.node.parts link) (if down a.node.parts link then answer Ignored a.node else read whole a.settings link (read_frame text) a.node)
+    ap (λ (m : Node WholeQueues). with_node a (tell_owed whole a.settings (release whole a.settings m))) (late-refused a.settings (receive whole a.settings link text a.node) cause e)
+    ∙ received_left (is_link a.node.parts link) (if down a.node.parts link then answer Ignored a.node else read whole a.settings link (read_frame text) a.node)
     (left_of_text link (read_frame text) a) a cause (up_leaves (down a.node.parts link) link (read_frame text) a)
     (answered-waits a.settings cause (Some link) (carried_message (read_frame text)) (accept_text link (read_frame text) a)
     (accept_text-waits link (read_frame text) a s.waiting)) s e
@@ -151,11 +192,14 @@ queued_served (WentDown link) a l e = served-so a _ l (association_down-leaves a
 queued_served Ticked a l e = cc
 queued_served (Activated link emergency) a l e = served-so a _ l (activate-leaves a.settings a.node (as_it_was a) (unchanged a) emergency link) e
 queued_served (Deactivated link) a l e = served-so a _ l (deactivate-leaves a.settings a.node (as_it_was a) (unchanged a) link) e
+queued_served (Released link) a l e = served-so a _ l (release_bar-leaves a.settings a.node (as_it_was a) (unchanged a) link) e
 queued_served (Submitted message) a l e =
     still a (submit whole a.settings message a.node) l ((submit_to-leaves a.settings a.node (whither_goes a.settings message) message).served l e)
 queued_served (TitleAdded row lacking) a l e = served-so a _ l (add_title-leaves row lacking a.node) e
 queued_served (TitleRemoved key digits) a l e = served-so a _ l (remove_title-leaves key digits a.node) e
 queued_served (FrameCame link text) a l e =
     let up : Done WholeQueues = if down a.node.parts link then answer Ignored a.node else read whole a.settings link (read_frame text) a.node in
-    still a (if is_link a.node.parts link then up else refuse causes.NoSuchName a.node) l
-    (received_served (is_link a.node.parts link) up (left_of_text link (read_frame text) a) a l (up_leaves (down a.node.parts link) link (read_frame text) a) e)
+    let d : Done WholeQueues = receive whole a.settings link text a.node in
+    still a (ordered_late whole a.settings d) l
+    (late_by-serves a.settings d.outcome d.left l
+    ∙ received_served (is_link a.node.parts link) up (left_of_text link (read_frame text) a) a l (up_leaves (down a.node.parts link) link (read_frame text) a) e)

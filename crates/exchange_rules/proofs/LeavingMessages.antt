@@ -1,7 +1,7 @@
 -- A message or a command that is refused leaves what its cause is to leave, and a message is queued on a link in
 -- service.
 use Rattle.exchange_rules.proofs.Basics.{◌≡◌, ℕ, Bool, true, false, List, Option, Some, None, Result, Ok, Err, refl, ap, sym, ◌∙◌, ◌&&◌, arith, if◌then◌else◌, nat_tests, option_and_then}
-use Rattle.exchange_rules.proofs.Definitions.{Message, dpc_of, opc_of, flow_of, is_management, service_indicator, Configuration, TitleEntry, Cause, Outcome, Local, Handled, Ignored, destination_place, set_place, RouteStatus, Allowed, Restricted, Prohibited, Heard, RouteTest, chosen_link, facts, MgmtFault, TestKind, Test, Acknowledgement, Management, TrafficRestartAllowed, TransferProhibited, TransferRestricted, TransferAllowed, RouteSetTestProhibited, RouteSetTestRestricted, ChangebackDeclaration, ChangebackAcknowledgement, ExtendedChangeoverOrder, ExtendedChangeoverAcknowledgement, EmergencyChangeoverOrder, EmergencyChangeoverAcknowledgement, LinkTestValue, read_link_test, read_management, label_at, Discrimination, Parts, Node, Done, with_parts, answer, refuse, is_link, link_at, in_service, link_at, in_traffic, network_of, link_of, no_room_for, is_destination, offer, transfer, send_on, send_routed, route_about, apply_route_status, on_route_status, answer_no_route, send_route_status, answer_route_test, on_route_test, changeback_acknowledgement, freed, on_changeback_acknowledgement, is_outstanding, sccp, is_user, is_adjacent, cause_of, test_answer, link_with_code, local, do_order, do_acknowledgement, do_management, do_kind, do_test, manage, distribute, deliver_to, submit_to, TitleKey, place_of, has_row, without_row, RelayedValue, relay, own_of, in_place_of, return_unitdata, return_outcome, relay_by, on_unitdata, with_rows, title_refusal, add_title_unless, add_title, remove_title, answered_by, may_open, open_link, association_up, fail_if_up, end_association, association_down, set_active, activate, deactivate, WholeQueues, whole, waits, on_changeover_acknowledgement, complete_if, with_changeover_acknowledged, fail_by_order, complete_by_order, acknowledge_changeover, changeover_of, may_restart, answer_no_user_part, no_part_answered, UserPartUnavailable, Refused, from_afar, says_unavailable, passes_test, pass_test}
+use Rattle.exchange_rules.proofs.Definitions.{Message, dpc_of, opc_of, flow_of, is_management, service_indicator, Configuration, TitleEntry, Cause, Outcome, Local, Handled, Ignored, destination_place, set_place, RouteStatus, Allowed, Restricted, Prohibited, Heard, RouteTest, chosen_link, facts, MgmtFault, TestKind, Test, Acknowledgement, Management, TrafficRestartAllowed, TransferProhibited, TransferRestricted, TransferAllowed, RouteSetTestProhibited, RouteSetTestRestricted, ChangebackDeclaration, ChangebackAcknowledgement, ExtendedChangeoverOrder, ExtendedChangeoverAcknowledgement, EmergencyChangeoverOrder, EmergencyChangeoverAcknowledgement, LinkTestValue, read_link_test, read_management, label_at, Discrimination, Parts, Node, Done, with_parts, answer, refuse, is_link, link_at, in_service, in_traffic, network_of, link_of, no_room_for, is_destination, offer, transfer, send_on, send_routed, route_about, apply_route_status, on_route_status, answer_no_route, send_route_status, answer_route_test, on_route_test, changeback_acknowledgement, freed, on_changeback_acknowledgement, is_outstanding, sccp, is_user, is_adjacent, cause_of, test_answer, link_with_code, local, do_order, do_acknowledgement, do_management, do_kind, do_test, manage, distribute, deliver_to, submit_to, TitleKey, place_of, has_row, without_row, RelayedValue, relay, own_of, in_place_of, return_unitdata, return_outcome, relay_by, on_unitdata, with_rows, title_refusal, add_title_unless, add_title, remove_title, answered_by, may_open, open_link, association_up, fail_if_up, end_association, association_down, set_active, activate, deactivate, WholeQueues, whole, waits, on_changeover_acknowledgement, complete_if, with_changeover_acknowledged, fail_by_order, complete_by_order, acknowledge_changeover, changeover_of, may_restart, answer_no_user_part, no_part_answered, UserPartUnavailable, Refused, from_afar, says_unavailable, passes_test, pass_test, bar, release_bar, is_barred, unbarred}
 use Rattle.std.specs.Prelude.{nat_eq, nat_lt}
 use Rattle.signalling_types.specs.declared.point.Flow.{Flow}
 use Rattle.signalling_types.specs.declared.cause.Cause.TheVariants as causes
@@ -59,7 +59,7 @@ module _ (c : Configuration) (n : Node WholeQueues) (by : Cause → Node WholeQu
   do_test-leaves (Ok v) link z = do_kind-leaves v.kind link z v
 
   do_order-leaves : (link : Option ℕ) (number : Option ℕ) → Leaves (do_order whole c link number n) by
-  do_order-leaves (Some link) number = handled (acknowledge_changeover whole c link (complete_by_order whole c link number (fail_by_order whole c link n))) by
+  do_order-leaves (Some link) number = handled (acknowledge_changeover whole c link (complete_by_order whole c link number (bar whole c link (fail_by_order whole c link n)))) by
   do_order-leaves None number = refused causes.BadManagement refl
 
   on_changeover_acknowledgement-leaves : (link : ℕ) (number : Option ℕ) → Leaves (on_changeover_acknowledgement whole c link number n) by
@@ -143,6 +143,12 @@ module _ (c : Configuration) (n : Node WholeQueues) (by : Cause → Node WholeQu
   pub activate-leaves : (emergency : Bool) (link : ℕ) → Leaves (activate whole c emergency link n) by
   activate-leaves emergency link =
       either (is_link n.parts link) (answer Handled (set_active whole c true emergency link n)) (refuse causes.NoSuchName n) by (handled _ by) (refused _ refl)
+
+  pub release_bar-leaves : (link : ℕ) → Leaves (release_bar whole c link n) by
+  release_bar-leaves link =
+      let freed : Done WholeQueues = answer Handled (with_parts n (unbarred link n.parts)) in
+      either (is_link n.parts link) (if is_barred (changeover_of n.parts link) then freed else answer Ignored n) (refuse causes.NoSuchName n) by
+      (either (is_barred (changeover_of n.parts link)) freed (answer Ignored n) by (handled _ by) (ignored n by)) (refused _ refl)
 
   pub deactivate-leaves : (link : ℕ) → Leaves (deactivate whole c link n) by
   deactivate-leaves link =

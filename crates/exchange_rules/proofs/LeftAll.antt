@@ -1,13 +1,13 @@
 -- Every event leaves the links that it isn't about, and every take the queues of other links.
 use Rattle.exchange_rules.proofs.Basics.{◌≡◌, ◌≢◌, ℕ, zero, suc, Bool, true, false, ◌||◌, nat_eq, Some, None, refl, ap, sym, subst, ◌∙◌, arith, list_any, nat_tests, get_or-set_other}
-use Rattle.exchange_rules.proofs.Definitions.{flow_of, Configuration, LinkTimer, first_queue, sent_one, TimerName, Running, is_due, no_tick_left, ticked, due_name, after_due, due_count, due-left, after-clear, after-none, Parts, Node, timer_name, with_timers, run_next, run_times, tick, Happening, CameUp, WentDown, FrameCame, Ticked, Submitted, Activated, Deactivated, TitleAdded, TitleRemoved, Outgoing, SendsStatus, SendsMessage, Acknowledges, SendsNothing, goes_out, after_sending, WholeQueues, queue_at, whole, run_all, subsystems_ticked}
+use Rattle.exchange_rules.proofs.Definitions.{flow_of, Configuration, LinkTimer, first_queue, sent_one, TimerName, Running, is_due, no_tick_left, ticked, due_name, after_due, due_count, due-left, after-clear, after-none, Parts, Node, timer_name, with_timers, run_next, run_times, tick, Happening, CameUp, WentDown, FrameCame, Ticked, Submitted, Activated, Deactivated, TitleAdded, TitleRemoved, Outgoing, SendsStatus, SendsMessage, Acknowledges, SendsNothing, goes_out, after_sending, WholeQueues, queue_at, whole, run_all, subsystems_ticked, Released}
 use Rattle.link.specs.declared.action.LinkTimer.TheVariants as timer
 use Rattle.exchange_rules.specs.Touching.{link_timers, runs_out, some_runs_out, is_about, other_links_are_left, takes_leave_other_queues}
 use Rattle.exchange_rules.proofs.LeavingMessages.{chosen_serves}
 use Rattle.exchange_rules.proofs.SteppingTimers.{due-clear}
 use Rattle.exchange_rules.proofs.LinkTimers.{timed-for, timed_busy-for, timed_busy_ended-for}
 use Rattle.exchange_rules.proofs.OnLink.{link-on, opened-on, accepted-on, sent-on}
-use Rattle.exchange_rules.proofs.LeftLinks.{Left, same-left, both-left, both-lefts, alike, other-left, queued-left, failed-left, dropped-left, completed-left, answered-left, linked-left}
+use Rattle.exchange_rules.proofs.LeftLinks.{Left, same-left, both-left, both-lefts, alike, other-left, queued-left, failed-left, dropped-left, completed-left, answered-left, linked-left, asked-left}
 use Rattle.exchange_rules.proofs.Steps.{IsOfSteps}
 use Rattle.exchange_rules.proofs.SteppingEvents.{IsOf, run_due-steps, apply-steps}
 use Rattle.exchange_rules.proofs.Rules.{rules-of}
@@ -29,6 +29,8 @@ module _ (dues : Bool) (c : Configuration) (l : ℕ) where
     taken_out = λ n. alike dues l n _ refl refl refl (λ name h. h);
     noted = λ notice n e. alike dues l n _ refl refl refl (λ name h. h);
     lost = λ n. alike dues l n _ refl refl refl (λ name h. h);
+    counted = λ messages broken n. alike dues l n _ refl refl refl (λ name h. h);
+    asked = λ link n e. asked-left dues l link n e;
     late = λ n. alike dues l n _ refl refl refl (λ name h. h);
     timed = λ r n e. alike dues l n _ refl refl refl e.due;
     holding = λ h n e. alike dues l n _ refl refl refl (λ name h. h);
@@ -123,6 +125,7 @@ not-about Ticked p l e link of same = of
 not-about (Submitted message) p l e link of same = of
 not-about (Activated its emergency) p l e link of same = of
 not-about (Deactivated its) p l e link of same = of
+not-about (Released its) p l e link of same = of
 not-about (TitleAdded row refused) p l e link of same = of
 not-about (TitleRemoved key digits) p l e link of same = of
 

@@ -1,7 +1,7 @@
 -- A link that an event isn't about: while it is in service messages are appended to its queue, a completion empties the
 -- queue, and nothing else touches it.
 use Rattle.exchange_rules.proofs.Basics.{◌≡◌, ◌≢◌, ◌<◌, ◌≤◌, ◌⊎◌, inl, inr, ℕ, Bool, true, false, List, [], ◌∷◌, ◌++◌, length, Option, refl, ap, sym, subst, ◌∙◌, arith, slice_set, ⊎_elim, cases_eq, cases_lt, append-nil, append_assoc, get_or_past, get_or-set_same, length-set}
-use Rattle.exchange_rules.proofs.Definitions.{Message, FailureReason, Configuration, Queue, first_queue, emptied, TimerName, is_due, Link, down_link, is_in_service, after_failure, Standing, no_changeover, Node, with_parts, link_at, in_service, with_link, queue_on, changeover_of, with_changeover, fail_link, WholeQueues, queue_at, whole}
+use Rattle.exchange_rules.proofs.Definitions.{Message, FailureReason, Configuration, Queue, first_queue, emptied, TimerName, is_due, Link, down_link, is_in_service, after_failure, Standing, no_changeover, Node, with_parts, link_at, in_service, with_link, queue_on, changeover_of, with_changeover, fail_link, WholeQueues, queue_at, whole, with_order, is_unasked}
 use Rattle.link.specs.Queue as queue
 use Rattle.exchange_rules.specs.Touching.{IsGrown, IsEmptied, IsUntouched, IsCompleted, HadChangeover, IsLeft}
 use Rattle.exchange_rules.proofs.Lists.{alike-at}
@@ -205,6 +205,17 @@ module _ (dues : Bool) (l : ℕ) where
       on-left k _ _ _ n _ (answered-on k s n)
       (λ (same : l ≡ k). subst (λ (i : ℕ). IsLeft i n (with_parts n (with_changeover k s n.parts))) (sym same)
       (same-left k n _ refl refl (complete-at k s n f ∙ sym e)))
+
+  -- an order goes out late
+  asked-at : (k : ℕ) (n : Node WholeQueues) → (changeover_of (with_changeover k (with_order (changeover_of n.parts k)) n.parts) k).incomplete ≡ (changeover_of n.parts k).incomplete
+  asked-at k n = alike-at (λ (t : Standing). t.incomplete) n.parts.changeovers k k (with_order (changeover_of n.parts k)) no_changeover refl
+
+  pub asked-left : (k : ℕ) (n : Node WholeQueues) → is_unasked (changeover_of n.parts k) ≡ true
+      → Left dues l n (with_parts n (with_changeover k (with_order (changeover_of n.parts k)) n.parts))
+  asked-left k n e =
+      on-left k _ _ _ n _ (answered-on k (with_order (changeover_of n.parts k)) n)
+      (λ (same : l ≡ k). subst (λ (i : ℕ). IsLeft i n (with_parts n (with_changeover k (with_order (changeover_of n.parts k)) n.parts))) (sym same)
+      (same-left k n _ refl refl (asked-at k n)))
 
   -- a link is in service as before
   pub linked-left : (k : ℕ) (x : Link) (n : Node WholeQueues) → x.alignment ≡ (link_at n.parts k).alignment → Left dues l n (with_parts n (with_link n.parts k x))

@@ -47,6 +47,7 @@ pub mod SteppingRelaying
 pub mod SteppingEntries
 pub mod SteppingTests
 pub mod SteppingLocal
+pub mod SteppingLate
 pub mod SteppingEvents
 pub mod Asked
 pub mod LinkTimers
@@ -87,6 +88,7 @@ pub mod LinkTests
 pub mod CalmTests
 pub mod UntestedLinks
 pub mod UnansweredTests
+pub mod NoneLate
 pub mod TickingAlone
 pub mod BecomingQuiet
 pub mod Receiving
@@ -157,6 +159,16 @@ pub mod FarPoints
 pub mod LedRows
 pub mod ProcedureExamples
 pub mod OrderExamples
+pub mod BarExamples
+pub mod LateExamples
+pub mod LateOrders
+pub mod LateTurns
+pub mod LateEvents
+pub mod RestingLinks
+pub mod EndedWaits
+pub mod EndingWaits
+pub mod LastingWaits
+pub mod BarredWaits
 pub mod ToldRoutes
 pub mod OrderedLinks
 pub mod OrdersByAnyRoute

@@ -1,7 +1,7 @@
 -- Of the timers that may take a link into service or out of it, no failure, changeover or return sets one, and no step
 -- of an alignment any but one of a test.
 use Rattle.exchange_rules.proofs.Basics.{◌≡◌, ℕ, zero, suc, Bool, true, false, ◌&&◌, not, List, [], ◌∷◌, length, Option, Some, None, refl, ap, sym, ◌∙◌, if◌then◌else◌}
-use Rattle.exchange_rules.proofs.Definitions.{enters_traffic, without_timers, take_step, test_if, queue_if, send_test, begin_test, repeat_test, test_unanswered, with_test_failed, awaiting_test, answer_ticks, link_test, tests_links, Cause, link_at, Message, flow_of, Configuration, FailureReason, Facts, Transition, TimerName, Running, set_timer, left-set_other, left-clear_set_other, is_of_set, clear_set, Parts, Node, with_parts, answer, Handled, Ignored, in_service, down, set_of, facts, suspended, fail_link, has_other, is_ordered, without_tests, make_unavailable, changing, begin, change_over, begin_by_peer, fail_by_peer, fail_by_order, complete_by_order, complete_if, completed, changeover_of, with_changeover, changeover_order, send_routed, changeover_acknowledgement, on_changeover_order, with_changeover_acknowledged, no_room, link_of, loses_flows, code_for, hold_flows, take_back_each, held_by_rerouting, step_on, enters, begun_anew_if, moved_on, return_if, advance, WholeQueues, whole}
+use Rattle.exchange_rules.proofs.Definitions.{enters_traffic, without_timers, take_step, test_if, queue_if, send_test, begin_test, repeat_test, test_unanswered, with_test_failed, awaiting_test, answer_ticks, link_test, tests_links, Cause, link_at, Message, flow_of, Configuration, FailureReason, Facts, Transition, TimerName, Running, set_timer, left-set_other, left-clear_set_other, is_of_set, clear_set, Parts, Node, with_parts, answer, Handled, Ignored, in_service, down, set_of, facts, suspended, fail_link, has_other, is_ordered, without_tests, make_unavailable, changing, begin, change_over, begin_by_peer, fail_by_peer, fail_by_order, complete_by_order, complete_if, completed, changeover_of, with_changeover, changeover_order, send_routed, changeover_acknowledgement, on_changeover_order, with_changeover_acknowledged, no_room, link_of, loses_flows, code_for, hold_flows, take_back_each, held_by_rerouting, step_on, enters, begun_anew_if, moved_on, return_if, advance, WholeQueues, whole, bar, timed_bar, awaits_incomplete, asking, is_late, order_late, order_if_late, order_each, order_all, clear_timer}
 use Rattle.timers.proofs.Maps.{left-clear_set}
 use Rattle.timers.specs.declared.name.TimerName.TheVariants as name
 use Rattle.timers.specs.declared.name.RouteTimer.{RouteTimer}
@@ -129,12 +129,22 @@ module _ (c : Configuration) where
   ordered-kept true link n = kept-same n n refl
   ordered-kept false link n = by_peer-kept (in_service n.parts link) link n
 
+  pub bar-kept : (link : ℕ) (n : Node WholeQueues) → Kept n (bar whole c link n)
+  bar-kept link n = record { timers = by c.timers.t2_bar (awaits_incomplete (changeover_of n.parts link)) }
+    where
+      by : (ticks : Option ℕ) (is_barred : Bool) (timer : TimerName) → moves_links timer ≡ true → (x : ℕ) → (timed_bar ticks is_barred link n.parts.timers).left timer ≡ Some x
+          → n.parts.timers.left timer ≡ Some x
+      by (Some ticks) true = other-set (name.T2 link) ticks n.parts.timers refl
+      by (Some ticks) false = λ timer t x h. h
+      by None is_barred = λ timer t x h. h
+
   pub orders-kept : (link : ℕ) (number : Option ℕ) (n : Node WholeQueues) → Kept n (on_changeover_order whole c link number n).left
   orders-kept link number n =
-      let one : Node WholeQueues = fail_by_order whole c link n in
+      let fallen : Node WholeQueues = fail_by_order whole c link n in
+      let one : Node WholeQueues = bar whole c link fallen in
       let standing : Node WholeQueues = with_parts one (with_changeover link (completed (changeover_of one.parts link)) one.parts) in
       let two : Node WholeQueues = complete_by_order whole c link number one in
-      kept-both n one _ (ordered-kept (down n.parts link) link n)
+      kept-both n one _ (kept-both n fallen one (ordered-kept (down n.parts link) link n) (bar-kept link fallen))
       (kept-both one two _ (kept-both one standing two (kept-same one standing refl) (kept-eased standing two (completed-eased c (changeover_of one.parts link).incomplete link number standing)))
       (sent-kept (changeover_acknowledgement c link (whole.last_accepted two.queues link)) two))
 
@@ -146,6 +156,36 @@ module _ (c : Configuration) where
       let next : Node WholeQueues = with_parts n (with_changeover_acknowledged link n.parts) in
       kept-both n next _ (record { timers = λ timer t x h. less-clear (name.T2 link) n.parts.timers timer (moved-waited timer t) x h })
       (kept-eased next _ (completed-eased c (changeover_of n.parts link).incomplete link number next))
+
+  -- an order goes out late
+  pub asks-kept : (link : ℕ) (n : Node WholeQueues) → Kept n (order_late whole c link n)
+  asks-kept link n =
+      let stopped : Running = clear_timer (name.T1 link) n.parts.timers in
+      let asks : Node WholeQueues = with_parts n (asking c link n.parts) in
+      kept-both n asks _
+      (record { timers = λ timer t x h. less-clear (name.T1 link) n.parts.timers timer (moved-waited timer t) x (other-set (name.T2 link) c.timers.t2 stopped refl timer t x h) })
+      (sent-kept (changeover_order c link (whole.last_accepted n.queues link)) asks)
+
+  late-kept : (link : ℕ) (n : Node WholeQueues) → Kept n (order_if_late whole c link n)
+  late-kept link n = by (is_late c link n.parts)
+    where
+      by : (late : Bool) → Kept n (if late then order_late whole c link n else n)
+      by true = asks-kept link n
+      by false = kept-same n n refl
+
+  late_each-kept : (many : ℕ) (n : Node WholeQueues) → Kept n (order_each whole c many n)
+  unfolding order_each
+  late_each-kept zero n = kept-same n n refl
+  late_each-kept (suc link) n =
+      let one : Node WholeQueues = order_each whole c link n in
+      kept-both n one _ (late_each-kept link n) (late-kept link one)
+
+  pub late_all-kept : (n : Node WholeQueues) → Kept n (order_all whole c n)
+  late_all-kept n = by c.changeover_by_any_route
+    where
+      by : (any : Bool) → Kept n (if any then order_each whole c (length c.links) n else n)
+      by true = late_each-kept (length c.links) n
+      by false = kept-same n n refl
 
   -- ---- a link returns
 

@@ -12,7 +12,7 @@ use Rattle.exchange_rules.proofs.Steps.{IsOfSends, IsOfRules, takes_links, moves
 use Rattle.exchange_rules.proofs.Asked.{any, IsOfAll}
 use Rattle.exchange_rules.proofs.Eased.{less-clear, expired-eased, ran-eased, link-waited}
 use Rattle.exchange_rules.proofs.WithinTimes.{Within, within-set, handed_out-eased, lower}
-use Rattle.exchange_rules.proofs.LinkTimes.{kept-eased, Turned, turned-of, turned-both, turned-same, turned-set, fails-kept, orders-kept, acknowledges-kept, returns-kept, reroutes-kept, advanced-turned, begin_test-turned, test_unanswered-turned}
+use Rattle.exchange_rules.proofs.LinkTimes.{kept-eased, Turned, turned-of, turned-both, turned-same, turned-set, fails-kept, orders-kept, acknowledges-kept, asks-kept, returns-kept, reroutes-kept, advanced-turned, begin_test-turned, test_unanswered-turned}
 use Rattle.m2pa_codec.specs.declared.status.LinkStatus.TheVariants.{Ready}
 use Rattle.link.specs.Table.{entering}
 use Rattle.link.specs.declared.period.Period.TheVariants.{Fixed, Normal, Hurried, Emergency}
@@ -208,6 +208,7 @@ module _ (c : Configuration) where
     routed = λ link m n e. bounds-as n _ refl;
     noted = λ notice n e. bounds-as n _ refl;
     lost = λ notice n e. bounds-as n _ refl;
+    counted = λ messages broken n. bounds-as n _ refl;
   }
 
   bounds-rules : IsOfRules c any any Bounds
@@ -238,8 +239,10 @@ module _ (c : Configuration) where
     back = λ link n e may. bounds-as n _ refl;
     fails = λ link why n may up. bounds-kept n _ (turned-of n _ (fails-kept c (in_service n.parts link) link why n));
     orders = λ link number n falls ends. bounds-kept n _ (turned-of n _ (orders-kept c link number n));
-    acknowledges = λ link number n may. bounds-kept n _ (turned-of n _ (acknowledges-kept c (changeover_of n.parts link).awaited link number n));
-    expires = λ expiry link n may. bounds-kept n _ (turned-of n _ (kept-eased n _ (expired-eased c (is_link n.parts link) expiry link n)));
+    acknowledges = λ link number n may wait. bounds-kept n _ (turned-of n _ (acknowledges-kept c (changeover_of n.parts link).awaited link number n));
+    expires = λ expiry link n may wait. bounds-kept n _ (turned-of n _ (kept-eased n _ (expired-eased c (is_link n.parts link) expiry link n)));
+    releases = λ link n e wait. bounds-kept n _ (record { timers = λ its t x h. less-clear (name.T2 link) n.parts.timers its (link-waited its t) x h });
+    asks = λ link n e. bounds-kept n _ (turned-of n _ (asks-kept c link n));
     returns = λ before after code link other n e f. bounds-kept n _ (turned-of n _ (returns-kept c before after code link other n));
     frees = λ set code n may. bounds-kept n _ (record { timers = λ its t x h. less-clear (name.T4 set code) n.parts.timers its (link-waited its t) x h });
     reroutes = λ destination selections n. bounds-kept n _ (turned-of n _ (reroutes-kept c destination selections n));

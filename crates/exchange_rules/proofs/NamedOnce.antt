@@ -20,6 +20,7 @@ said link (notices.Failed other why) e = (why, ap (λ (l : ℕ). notices.Failed 
 said link (notices.Lost cause point sls) e = absurd cc
 said link (notices.Unsent cause point) e = absurd cc
 said link (notices.Expired timer other) e = absurd cc
+said link (notices.Unbarred by other) e = absurd cc
 said link (notices.Refused cause other) e = absurd cc
 said link (notices.Frame fault other) e = absurd cc
 said link (notices.Late timer number) e = absurd cc

@@ -23,7 +23,7 @@ counted-both (suc k) j times = same-count (suc k + j) (suc (k + j)) times (omega
 -- ---- reasons
 
 abbrev pub none : Reasons
-none = record { lost = []; unsent = []; expired = []; late = []; doubts = 0 }
+none = record { lost = []; unsent = []; expired = []; late = []; doubts = 0; breaks = 0 }
 
 abbrev pub both : Reasons → Reasons → Reasons
 both r s = record {
@@ -32,6 +32,7 @@ both r s = record {
   expired = r.expired ++ s.expired;
   late = r.late ++ s.late;
   doubts = r.doubts + s.doubts;
+  breaks = r.breaks + s.breaks;
 }
 
 same-length : (xs ys : List Notice) → xs ≡ ys → length xs ≡ length ys
@@ -56,11 +57,14 @@ module _ (r : Reasons) where
     few = omega (arith, l, a.few);
     times_lost = a.times_lost;
     times_late = a.times_late;
+    messages_lost = a.messages_lost;
+    times_broken = a.times_broken;
   }
 
   -- something before that notes nothing
-  pub after-same : (k : ℕ) (p q t : Parts) → q.notices ≡ p.notices → q.times_lost ≡ p.times_lost → q.times_late ≡ p.times_late → AreAccounted r k q t → AreAccounted r k p t
-  after-same k p q t e f g a = record {
+  pub after-same : (k : ℕ) (p q t : Parts) → q.notices ≡ p.notices → q.times_lost ≡ p.times_lost → q.times_late ≡ p.times_late
+      → q.messages_lost ≡ p.messages_lost → q.times_broken ≡ p.times_broken → AreAccounted r k q t → AreAccounted r k p t
+  after-same k p q t e f g h i a = record {
     made = a.made;
     noted = a.noted ∙ ap (noted_all a.made) e;
     names = a.names;
@@ -70,12 +74,14 @@ module _ (r : Reasons) where
     few = a.few;
     times_lost = a.times_lost ∙ ap (counted (losses r)) f;
     times_late = a.times_late ∙ ap (counted (latenesses r)) g;
+    messages_lost = a.messages_lost ∙ ap (counted (length r.lost)) h;
+    times_broken = a.times_broken ∙ ap (counted r.breaks) i;
   }
 
   -- the same reasons, in other words
-  pub accounted-as : (s : Reasons) (k j : ℕ) (p q : Parts) → r.lost ≡ s.lost → r.unsent ≡ s.unsent → r.expired ≡ s.expired → r.late ≡ s.late → r.doubts ≡ s.doubts → k ≤ j → AreAccounted r k p q
+  pub accounted-as : (s : Reasons) (k j : ℕ) (p q : Parts) → r.lost ≡ s.lost → r.unsent ≡ s.unsent → r.expired ≡ s.expired → r.late ≡ s.late → r.doubts ≡ s.doubts → r.breaks ≡ s.breaks → k ≤ j → AreAccounted r k p q
       → AreAccounted s j p q
-  accounted-as s k j p q e f g h d l a = record {
+  accounted-as s k j p q e f g h d b l a = record {
     made = a.made;
     noted = a.noted;
     names = a.names ∙ e;
@@ -85,6 +91,8 @@ module _ (r : Reasons) where
     few = omega (arith, l, a.few);
     times_lost = a.times_lost ∙ same-count (losses r) (losses s) p.times_lost (losses-as r s e f g d);
     times_late = a.times_late ∙ same-count (latenesses r) (latenesses s) p.times_late (same-length r.late s.late h);
+    messages_lost = a.messages_lost ∙ same-count (length r.lost) (length s.lost) p.messages_lost (same-length r.lost s.lost e);
+    times_broken = a.times_broken ∙ same-count r.breaks s.breaks p.times_broken b;
   }
 
 both-filter : (p : Notice → Bool) (xs ys us vs : List Notice) → filter p xs ≡ us → filter p ys ≡ vs → filter p (xs ++ ys) ≡ us ++ vs
@@ -105,6 +113,10 @@ both-accounted r s k j p q t a b = record {
   times_late =
       b.times_late ∙ ap (counted (latenesses s)) a.times_late ∙ sym (counted-both (latenesses r) (latenesses s) p.times_late)
       ∙ same-count (latenesses r + latenesses s) (latenesses (both r s)) p.times_late (sym (length-append r.late s.late));
+  messages_lost =
+      b.messages_lost ∙ ap (counted (length s.lost)) a.messages_lost ∙ sym (counted-both (length r.lost) (length s.lost) p.messages_lost)
+      ∙ same-count (length r.lost + length s.lost) (length (r.lost ++ s.lost)) p.messages_lost (sym (length-append r.lost s.lost));
+  times_broken = b.times_broken ∙ ap (counted s.breaks) a.times_broken ∙ sym (counted-both r.breaks s.breaks p.times_broken);
 }
 
 -- ---- what a rule does, for these reasons
@@ -118,7 +130,7 @@ Quiet most n m = Does none most n m
 
 -- it sends management in vain, and raises no flag for another reason
 abbrev pub sending : List Notice → Reasons
-sending us = record { lost = []; unsent = us; expired = []; late = []; doubts = 0 }
+sending us = record { lost = []; unsent = us; expired = []; late = []; doubts = 0; breaks = 0 }
 
 abbrev pub Sends : (us : List Notice) (most : ℕ) (n m : Node WholeQueues) → Type 0
 Sends us most n m = Does (sending us) most n m
@@ -130,25 +142,28 @@ most-one p x = by (p x)
     by true = omega arith
     by false = omega arith
 
-pub same-quiet : (n m : Node WholeQueues) → m.parts.notices ≡ n.parts.notices → m.parts.times_lost ≡ n.parts.times_lost → m.parts.times_late ≡ n.parts.times_late → Quiet 0 n m
-same-quiet n m e f g = record {
-  is = record { made = []; noted = e; names = refl; unsent = refl; expired = refl; lates = refl; few = omega arith; times_lost = f; times_late = g };
+pub same-quiet : (n m : Node WholeQueues) → m.parts.notices ≡ n.parts.notices → m.parts.times_lost ≡ n.parts.times_lost → m.parts.times_late ≡ n.parts.times_late
+    → m.parts.messages_lost ≡ n.parts.messages_lost → m.parts.times_broken ≡ n.parts.times_broken → Quiet 0 n m
+same-quiet n m e f g h i = record {
+  is = record { made = []; noted = e; names = refl; unsent = refl; expired = refl; lates = refl; few = omega arith; times_lost = f; times_late = g; messages_lost = h; times_broken = i };
 }
 
 -- one notice
 pub one-does : (r : Reasons) (notice : Notice) (n m : Node WholeQueues) → filter names_a_message (notice ∷ []) ≡ r.lost → filter tells_unsent (notice ∷ []) ≡ r.unsent
     → filter tells_of_t2 (notice ∷ []) ≡ r.expired → filter tells_of_lateness (notice ∷ []) ≡ r.late → m.parts.notices ≡ (note notice n.parts).notices
-    → m.parts.times_lost ≡ counted (losses r) n.parts.times_lost → m.parts.times_late ≡ counted (latenesses r) n.parts.times_late → Does r 1 n m
-one-does r notice n m e u x l f g h = record {
-  is = record { made = notice ∷ []; noted = f; names = e; unsent = u; expired = x; lates = l; few = most-one names_none notice; times_lost = g; times_late = h };
+    → m.parts.times_lost ≡ counted (losses r) n.parts.times_lost → m.parts.times_late ≡ counted (latenesses r) n.parts.times_late
+    → m.parts.messages_lost ≡ counted (length r.lost) n.parts.messages_lost → m.parts.times_broken ≡ counted r.breaks n.parts.times_broken → Does r 1 n m
+one-does r notice n m e u x l f g h i j = record {
+  is = record { made = notice ∷ []; noted = f; names = e; unsent = u; expired = x; lates = l; few = most-one names_none notice; times_lost = g; times_late = h; messages_lost = i; times_broken = j };
 }
 
 module _ (r : Reasons) where
   pub more-does : (k j : ℕ) (n m : Node WholeQueues) → k ≤ j → Does r k n m → Does r j n m
   more-does k j n m l a = record { is = fewer r k j n.parts m.parts l a.is }
 
-  pub same-first : (k : ℕ) (n m o : Node WholeQueues) → m.parts.notices ≡ n.parts.notices → m.parts.times_lost ≡ n.parts.times_lost → m.parts.times_late ≡ n.parts.times_late → Does r k m o → Does r k n o
-  same-first k n m o e f g a = record { is = after-same r k n.parts m.parts o.parts e f g a.is }
+  pub same-first : (k : ℕ) (n m o : Node WholeQueues) → m.parts.notices ≡ n.parts.notices → m.parts.times_lost ≡ n.parts.times_lost → m.parts.times_late ≡ n.parts.times_late
+      → m.parts.messages_lost ≡ n.parts.messages_lost → m.parts.times_broken ≡ n.parts.times_broken → Does r k m o → Does r k n o
+  same-first k n m o e f g h i a = record { is = after-same r k n.parts m.parts o.parts e f g h i a.is }
 
   pub both-does : (s : Reasons) (k j : ℕ) (n m o : Node WholeQueues) → Does r k n m → Does s j m o → Does (both r s) (k + j) n o
   both-does s k j n m o a b = record { is = both-accounted r s k j n.parts m.parts o.parts a.is b.is }
@@ -160,7 +175,7 @@ pub more-quiet : (k j : ℕ) (n m : Node WholeQueues) → k ≤ j → Quiet k n 
 more-quiet = more-does none
 
 pub any-quiet : (k : ℕ) (n : Node WholeQueues) → Quiet k n n
-any-quiet k n = more-quiet 0 k n n (omega arith) (same-quiet n n refl refl refl)
+any-quiet k n = more-quiet 0 k n n (omega arith) (same-quiet n n refl refl refl refl refl)
 
 -- ---- management is sent in vain
 
@@ -172,7 +187,7 @@ quiet-first us = both-does none (sending us)
 
 pub quiet-then : (us : List Notice) (k j : ℕ) (n m o : Node WholeQueues) → Sends us k n m → Quiet j m o → Sends us (k + j) n o
 quiet-then us k j n m o a b = record {
-  is = accounted-as (sending (us ++ [])) (sending us) (k + j) (k + j) n.parts o.parts refl (append-nil us) refl refl refl (omega arith)
+  is = accounted-as (sending (us ++ [])) (sending us) (k + j) (k + j) n.parts o.parts refl (append-nil us) refl refl refl refl (omega arith)
       (both-does (sending us) none k j n m o a b).is;
 }
 

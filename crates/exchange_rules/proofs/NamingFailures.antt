@@ -33,6 +33,7 @@ deed_of (notices.Failed link why) = LinkFails link why
 deed_of (notices.Lost cause point sls) = LinkFails 0 reasons.Operator
 deed_of (notices.Unsent cause point) = LinkFails 0 reasons.Operator
 deed_of (notices.Expired timer link) = LinkFails 0 reasons.Operator
+deed_of (notices.Unbarred by link) = LinkFails 0 reasons.Operator
 deed_of (notices.Refused cause link) = LinkFails 0 reasons.Operator
 deed_of (notices.Frame fault link) = LinkFails 0 reasons.Operator
 deed_of (notices.Late timer number) = LinkFails 0 reasons.Operator
@@ -42,6 +43,7 @@ link_of_notice (notices.Failed link why) = link
 link_of_notice (notices.Lost cause point sls) = 0
 link_of_notice (notices.Unsent cause point) = 0
 link_of_notice (notices.Expired timer link) = 0
+link_of_notice (notices.Unbarred by link) = 0
 link_of_notice (notices.Refused cause link) = 0
 link_of_notice (notices.Frame fault link) = 0
 link_of_notice (notices.Late timer number) = 0
@@ -68,7 +70,7 @@ stepped-up period a input step e = led-up step.state (kind_of input) (state_numb
 -- ---- links that go down
 
 -- none does, and none comes up
-abbrev Stays : (n m : Node WholeQueues) → Type 0
+abbrev pub Stays : (n m : Node WholeQueues) → Type 0
 Stays n m = (link : ℕ) → down m.parts link ≡ down n.parts link
 
 module _ (link : ℕ) (x : Link) (n m : Node WholeQueues) (e : m.parts.links ≡ links_with n.parts link x) where
@@ -79,7 +81,7 @@ module _ (link : ℕ) (x : Link) (n m : Node WholeQueues) (e : m.parts.links ≡
   others l apart = its l ∙ ap (λ (y : Link). is_down y.alignment) (get_or-set_other n.parts.links link l x down_link apart)
 
   -- a link with the same alignment
-  alike-stays : is_down x.alignment ≡ down n.parts link → Stays n m
+  pub alike-stays : is_down x.alignment ≡ down n.parts link → Stays n m
   alike-stays same l = its l ∙ alike-at (λ (y : Link). is_down y.alignment) n.parts.links link l x down_link same
 
   -- one that is down now

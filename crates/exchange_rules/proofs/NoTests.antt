@@ -8,7 +8,7 @@ use Rattle.exchange_rules.proofs.SteppingTimers.{ran-before}
 use Rattle.exchange_rules.proofs.SteppingEvents.{run_next-steps}
 use Rattle.exchange_rules.proofs.LinkTimers.{AreTimedFor, timed-for, timed_sending-for, timed_confirming-for, timed_busy-for, timed_busy_ended-for}
 use Rattle.exchange_rules.proofs.Eased.{expired-eased}
-use Rattle.exchange_rules.proofs.LinkTimes.{Kept, kept-eased, fails-kept, orders-kept, acknowledges-kept, returns-kept, reroutes-kept}
+use Rattle.exchange_rules.proofs.LinkTimes.{Kept, kept-eased, fails-kept, orders-kept, acknowledges-kept, asks-kept, returns-kept, reroutes-kept}
 
 -- from one node to another no timer of a test starts
 record NoneStarts (n m : Node WholeQueues) : Type 0 where
@@ -54,6 +54,7 @@ module _ (c : Configuration) (off : tests_links c ≡ false) where
     routed = λ link m n e. same-none n _ refl;
     noted = λ notice n e. same-none n _ refl;
     lost = λ notice n e. same-none n _ refl;
+    counted = λ messages broken n. same-none n _ refl;
   }
 
   none-rules : IsOfRules c any any NoneStarts
@@ -83,8 +84,10 @@ module _ (c : Configuration) (off : tests_links c ≡ false) where
     back = λ link n out may. same-none n _ refl;
     fails = λ link why n may up. kept-none n _ (fails-kept c (in_service n.parts link) link why n);
     orders = λ link number n falls ends. kept-none n _ (orders-kept c link number n);
-    acknowledges = λ link number n may. kept-none n _ (acknowledges-kept c (changeover_of n.parts link).awaited link number n);
-    expires = λ expiry link n may. kept-none n _ (kept-eased n _ (expired-eased c (is_link n.parts link) expiry link n));
+    acknowledges = λ link number n may wait. kept-none n _ (acknowledges-kept c (changeover_of n.parts link).awaited link number n);
+    expires = λ expiry link n may wait. kept-none n _ (kept-eased n _ (expired-eased c (is_link n.parts link) expiry link n));
+    releases = λ link n e wait. record { runs = λ timer of runs. ran-before (name.T2 link) timer n.parts.timers runs };
+    asks = λ link n e. kept-none n _ (asks-kept c link n);
     returns = λ before after code link other n e f. kept-none n _ (returns-kept c before after code link other n);
     frees = λ set code n may. record { runs = λ timer of runs. ran-before (name.T4 set code) timer n.parts.timers runs };
     reroutes = λ destination selections n. kept-none n _ (reroutes-kept c destination selections n);

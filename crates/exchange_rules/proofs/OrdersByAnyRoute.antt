@@ -25,7 +25,7 @@ module _ (c : Configuration) where
   send-changeovers None None m n = refl
   send-changeovers None (Some link) m n = refl
 
-  send-timers : (room : Option Cause) (way : Option ℕ) (m : Message) (n : Node WholeQueues) → (send whole c room way m n).parts.timers ≡ n.parts.timers
+  pub send-timers : (room : Option Cause) (way : Option ℕ) (m : Message) (n : Node WholeQueues) → (send whole c room way m n).parts.timers ≡ n.parts.timers
   send-timers (Some cause) way m n = refl
   send-timers None None m n = refl
   send-timers None (Some link) m n = refl
@@ -63,7 +63,7 @@ module _ (c : Configuration) where
     order-flow : flow_of (order_about c link n) ≡ record { point = peer_of c link; sls = (entry_of c link).slc }
     order-flow = ap (λ (l : Label). record { point = l.dpc; sls = l.sls }) order-label
 
-    way-is : (p : Parts) → has_way c link p ≡ is_some (link_of c p (flow_of (order_about c link n)))
+    pub way-is : (p : Parts) → has_way c link p ≡ is_some (link_of c p (flow_of (order_about c link n)))
     way-is p = ap (λ (flow : Flow). is_some (link_of c p flow)) (sym order-flow)
 
 -- ---- a link in service fails

@@ -44,6 +44,8 @@ module _ (c : Configuration) (l : ℕ) where
     taken_out = λ n. same-keeps l n _ refl;
     noted = λ notice n e. same-keeps l n _ refl;
     lost = λ n. same-keeps l n _ refl;
+    counted = λ messages broken n. same-keeps l n _ refl;
+    asked = λ link n e. same-keeps l n _ refl;
     late = λ n. same-keeps l n _ refl;
     timed = λ r n e. same-keeps l n _ refl;
     holding = λ h n e. same-keeps l n _ refl;

@@ -1,6 +1,6 @@
 -- A link is proved before it enters service, whatever happens.
 use Rattle.exchange_rules.proofs.Basics.{◌≡◌, ◌≢◌, ◌<◌, ◌⊎◌, inl, inr, ℕ, Bool, true, false, List, Result, Ok, Err, refl, ap, sym, subst, ◌∙◌, arith, nat_tests, ⊎_elim, cases_eq, is_some, length, nat_lt, get_or-set_same, if◌then◌else◌}
-use Rattle.exchange_rules.proofs.Definitions.{period_of, Configuration, Alignment, UserData, acts_on, LinkStatus, FrameFault, FrameValue, EmptyFrame, MessageFrame, StatusFrame, read_frame, Link, down_link, opened_by, Node, answer, refuse, Ignored, Handled, is_link, link_at, down, changeover_of, may_restart, may_open, open_link, is_due, ticked, due_count, empty_data, message_data, data_of, act_by_data, leave_aside, read, with_timers, tick, Happening, CameUp, WentDown, FrameCame, Ticked, Submitted, Activated, Deactivated, TitleAdded, TitleRemoved, apply, release, tell_owed, WholeQueues, whole, tells_outage, tells_recovery, on_link_status}
+use Rattle.exchange_rules.proofs.Definitions.{period_of, Configuration, Alignment, UserData, acts_on, LinkStatus, FrameFault, FrameValue, EmptyFrame, MessageFrame, StatusFrame, read_frame, Link, down_link, opened_by, Node, answer, refuse, Ignored, Handled, is_link, link_at, down, changeover_of, may_restart, may_open, open_link, is_due, ticked, due_count, empty_data, message_data, data_of, act_by_data, leave_aside, read, with_timers, tick, Happening, CameUp, WentDown, FrameCame, Ticked, Submitted, Activated, Deactivated, TitleAdded, TitleRemoved, apply, release, tell_owed, WholeQueues, whole, tells_outage, tells_recovery, on_link_status, Released, Done, late_by}
 use Rattle.signalling_types.specs.declared.cause.Cause.TheVariants as causes
 use Rattle.m2pa_codec.specs.Frames.{status_number}
 use Rattle.m2pa_codec.specs.declared.status.LinkStatus.TheVariants as says
@@ -12,6 +12,7 @@ use Rattle.exchange_rules.proofs.SteppingEvents.{IsOf, apply-steps, leave_aside-
 use Rattle.exchange_rules.proofs.ProvedFirst.{Climbs, both-climb, no-data, status-numbered}
 use Rattle.exchange_rules.proofs.ProvedKeeps.{Keeps, both-keep, keeps-climbs}
 use Rattle.exchange_rules.proofs.ProvedAll.{Climbing, Hearing, keeps, times-climb, keeps-hears, told-hears, data-hears}
+use Rattle.exchange_rules.proofs.SteppingLate.{late_by-steps}
 
 -- a frame that was read as a link status says that
 pub says-of : (l : ℕ) (text : List ℕ) (bsn fsn : ℕ) (status its : LinkStatus) → read_frame text ≡ Ok (StatusFrame bsn fsn status) → status_number status ≡ status_number its
@@ -38,6 +39,14 @@ module _ (c : Configuration) (l : ℕ) (n : Node WholeQueues) where
 
   settled : Node WholeQueues → Node WholeQueues
   settled m = tell_owed whole c (release whole c m)
+
+  -- so after a frame or a tick, where orders may go out late
+  ended : Done WholeQueues → Node WholeQueues
+  ended d = tell_owed whole c (release whole c (late_by whole c d.outcome d.left))
+
+  ended-keeps : (d : Done WholeQueues) → Keeps l d.left (ended d)
+  unfolding ended
+  ended-keeps d = both-keep l d.left (late_by whole c d.outcome d.left) (ended d) (late_by-steps (keeps c l) d.outcome d.left) (settled-steps (keeps c l) (late_by whole c d.outcome d.left))
 
   -- ---- a frame of the link
 
@@ -72,45 +81,43 @@ module _ (c : Configuration) (l : ℕ) (n : Node WholeQueues) where
       enters = λ f no. ⊎_elim (λ k. absurd (no k)) (λ k. inr (inr (record { text = text; frame = frame; came = refl; reads = e; carries = carries }), k.1)) (h.serves f);
     }
 
-    read-first : (r : Result FrameValue FrameFault) → read_frame text ≡ r → down n.parts l ≡ false → First (settled (read whole c l r n).left)
-    unfolding settled
+    read-first : (r : Result FrameValue FrameFault) → read_frame text ≡ r → down n.parts l ≡ false → First (ended (read whole c l r n))
     read-first (Ok (EmptyFrame bsn fsn)) e up =
-        let m : Node WholeQueues = (act_by_data whole c (acts_on (link_at n.parts l) UserData) l (empty_data bsn fsn) n).left in
-        data-first (EmptyFrame bsn fsn) e refl (settled m)
-        (keeps-hears c l 0 n m (settled m) (data-hears c l (acts_on (link_at n.parts l) UserData) (empty_data bsn fsn) n refl) (settled-steps (keeps c l) m))
+        let d : Done WholeQueues = act_by_data whole c (acts_on (link_at n.parts l) UserData) l (empty_data bsn fsn) n in
+        data-first (EmptyFrame bsn fsn) e refl (ended d)
+        (keeps-hears c l 0 n d.left (ended d) (data-hears c l (acts_on (link_at n.parts l) UserData) (empty_data bsn fsn) n refl) (ended-keeps d))
     read-first (Ok (MessageFrame bsn fsn sio sif)) e up =
-        let m : Node WholeQueues = (act_by_data whole c (acts_on (link_at n.parts l) UserData) l (message_data bsn fsn sio sif) n).left in
-        data-first (MessageFrame bsn fsn sio sif) e refl (settled m)
-        (keeps-hears c l 0 n m (settled m) (data-hears c l (acts_on (link_at n.parts l) UserData) (message_data bsn fsn sio sif) n refl) (settled-steps (keeps c l) m))
+        let d : Done WholeQueues = act_by_data whole c (acts_on (link_at n.parts l) UserData) l (message_data bsn fsn sio sif) n in
+        data-first (MessageFrame bsn fsn sio sif) e refl (ended d)
+        (keeps-hears c l 0 n d.left (ended d) (data-hears c l (acts_on (link_at n.parts l) UserData) (message_data bsn fsn sio sif) n refl) (ended-keeps d))
     read-first (Ok (StatusFrame bsn fsn status)) e up =
-        let m : Node WholeQueues = (on_link_status whole c l status n).left in
-        status-first bsn fsn status e (settled m)
-        (keeps-hears c l (status_number status) n m (settled m) (told-hears c l (tells_outage c l status n.parts) (tells_recovery l status n.parts) status n) (settled-steps (keeps c l) m))
+        let d : Done WholeQueues = on_link_status whole c l status n in
+        status-first bsn fsn status e (ended d)
+        (keeps-hears c l (status_number status) n d.left (ended d) (told-hears c l (tells_outage c l status n.parts) (tells_recovery l status n.parts) status n) (ended-keeps d))
     read-first (Err fault) e up =
-        let m : Node WholeQueues = (leave_aside whole c l fault n).left in
-        kept-first (FrameCame l text) (settled m) (both-keep l n m (settled m) (leave_aside-steps (keeps c l) l fault n up) (settled-steps (keeps c l) m))
+        let d : Done WholeQueues = leave_aside whole c l fault n in
+        kept-first (FrameCame l text) (ended d) (both-keep l n d.left (ended d) (leave_aside-steps (keeps c l) l fault n up) (ended-keeps d))
 
     receive-first : (is_there is_down : Bool) (r : Result FrameValue FrameFault) → read_frame text ≡ r → down n.parts l ≡ is_down
-        → First (settled (if is_there then (if is_down then answer Ignored n else read whole c l r n) else refuse causes.NoSuchName n).left)
-    unfolding settled
-    receive-first false is_down r e f = kept-first (FrameCame l text) (settled n) (settled-steps (keeps c l) n)
-    receive-first true true r e f = kept-first (FrameCame l text) (settled n) (settled-steps (keeps c l) n)
+        → First (ended (if is_there then (if is_down then answer Ignored n else read whole c l r n) else refuse causes.NoSuchName n))
+    receive-first false is_down r e f = kept-first (FrameCame l text) (ended (refuse causes.NoSuchName n)) (ended-keeps (refuse causes.NoSuchName n))
+    receive-first true true r e f = kept-first (FrameCame l text) (ended (answer Ignored n)) (ended-keeps (answer Ignored n))
     receive-first true false r e f = read-first r e f
 
     frame-first : First (apply whole c (FrameCame l text) n).left
-    unfolding apply settled
+    unfolding apply ended
     frame-first = receive-first (is_link n.parts l) (down n.parts l) (read_frame text) refl refl
 
   -- ---- other events
 
   tick-first : IsProvedFirst Ticked l n.parts (state_of (apply whole c Ticked n).left.parts l)
-  unfolding apply settled
+  unfolding apply ended
   tick-first =
       let begun : Node WholeQueues = with_timers n (ticked n.parts.timers) in
-      let m : Node WholeQueues = (tick whole c n).left in
-      let h : Climbing c l (is_due (ticked n.parts.timers) (name.L4 l) ≡ true) n (settled m) =
-      both-climb _ (state_of n.parts l) (state_of m.parts l) (state_of (settled m).parts l)
-      (times-climb c l (ticked n.parts.timers) (due_count (ticked n.parts.timers)) begun (λ its e. e)) (keeps-climbs _ l m (settled m) (settled-steps (keeps c l) m)) in
+      let d : Done WholeQueues = tick whole c n in
+      let h : Climbing c l (is_due (ticked n.parts.timers) (name.L4 l) ≡ true) n (ended d) =
+      both-climb _ (state_of n.parts l) (state_of d.left.parts l) (state_of (ended d).parts l)
+      (times-climb c l (ticked n.parts.timers) (due_count (ticked n.parts.timers)) begun (λ its e. e)) (keeps-climbs _ l d.left (ended d) (ended-keeps d)) in
       record {
         begins = λ f no. absurd (no (h.begins f));
         aligns = λ f no. absurd (no (h.aligned f));
@@ -167,6 +174,7 @@ module _ (c : Configuration) (l : ℕ) (n : Node WholeQueues) where
   event-first (Submitted m) = other-first (Submitted m) (λ k is. absurd is) (λ no. absurd cc)
   event-first (Activated link emergency) = other-first (Activated link emergency) (λ k is. absurd is) (λ no. absurd cc)
   event-first (Deactivated link) = other-first (Deactivated link) (λ k is. absurd is) (λ no. absurd cc)
+  event-first (Released link) = other-first (Released link) (λ k is. absurd is) (λ no. absurd cc)
   event-first (TitleAdded row refused) = other-first (TitleAdded row refused) (λ k is. absurd is) (λ no. absurd cc)
   event-first (TitleRemoved key digits) = other-first (TitleRemoved key digits) (λ k is. absurd is) (λ no. absurd cc)
 

@@ -22,20 +22,20 @@ module _ (c : Configuration) where
 
   vain-sends : (cause : Cause) (m : Message) (n o : Node WholeQueues) → o.parts ≡ telling.unsent cause m n.parts → Sends (notices.Unsent cause (dpc_of m) ∷ []) 1 n o
   vain-sends cause m n o e = one-does (sending (notices.Unsent cause (dpc_of m) ∷ [])) (notices.Unsent cause (dpc_of m)) n o refl refl refl refl
-      (ap (λ (p : Parts). p.notices) e) (ap (λ (p : Parts). p.times_lost) e) (ap (λ (p : Parts). p.times_late) e)
+      (ap (λ (p : Parts). p.notices) e) (ap (λ (p : Parts). p.times_lost) e) (ap (λ (p : Parts). p.times_late) e) (ap (λ (p : Parts). p.messages_lost) e) (ap (λ (p : Parts). p.times_broken) e)
 
   pub send-sends : (room : Option Cause) (link : Option ℕ) (m : Message) (n : Node WholeQueues) → Sends (given_up room link m) 1 n (send whole c room link m n)
   send-sends (Some cause) link m n = vain-sends cause m n _ refl
   send-sends None None m n = vain-sends causes.NoRoute m n _ refl
-  send-sends None (Some link) m n = quiet-sends 0 1 n _ (omega arith) (same-quiet n _ refl refl refl)
+  send-sends None (Some link) m n = quiet-sends 0 1 n _ (omega arith) (same-quiet n _ refl refl refl refl refl)
 
   pub routed-sends : (m : Message) (n : Node WholeQueues) → Sends (unsent c m n) 1 n (send_routed whole c m n)
   routed-sends m n = send-sends (no_room whole c m n.queues) (link_of c n.parts (flow_of m)) m n
 
   -- after a change of parts that notes nothing
   pub changed-sends : (us : List Notice) (p : Parts) (n o : Node WholeQueues) → p.notices ≡ n.parts.notices → p.times_lost ≡ n.parts.times_lost → p.times_late ≡ n.parts.times_late
-      → Sends us 1 (with_parts n p) o → Sends us 1 n o
-  changed-sends us p n o e f g a = same-first (sending us) 1 n (with_parts n p) o e f g a
+      → p.messages_lost ≡ n.parts.messages_lost → p.times_broken ≡ n.parts.times_broken → Sends us 1 (with_parts n p) o → Sends us 1 n o
+  changed-sends us p n o e f g h i a = same-first (sending us) 1 n (with_parts n p) o e f g h i a
 
   pub anew-sends : (ms : List Message) (n : Node WholeQueues) → Sends (unsent_anew c ms n) (length ms) n (send_each whole c ms n)
   anew-sends [] n = any-quiet 0 n
@@ -48,7 +48,7 @@ module _ (c : Configuration) where
   -- ---- what adjacent points are told
 
   tell-sends : (o : Owed) (n : Node WholeQueues) → Sends (unsent c (route_message c o.set o.destination o.status) (with_parts n (told_parts c o n.parts))) 1 n (telling.tell whole c o n)
-  tell-sends o n = changed-sends _ (told_parts c o n.parts) n _ refl refl refl (routed-sends (route_message c o.set o.destination o.status) (with_parts n (told_parts c o n.parts)))
+  tell-sends o n = changed-sends _ (told_parts c o n.parts) n _ refl refl refl refl refl (routed-sends (route_message c o.set o.destination o.status) (with_parts n (told_parts c o n.parts)))
 
   tell_each-sends : (os : List Owed) (n : Node WholeQueues) → Sends (unsent_telling c os n) (length os) n (tell_each whole c os n)
   tell_each-sends [] n = any-quiet 0 n
@@ -65,7 +65,7 @@ module _ (c : Configuration) where
 
   prohibit-sends : (set destination : ℕ) (n : Node WholeQueues)
       → Sends (unsent c (route_message c set destination Prohibited) (with_parts n (inhibited c set destination n.parts))) 1 n (prohibit whole c set destination n)
-  prohibit-sends set destination n = changed-sends _ (inhibited c set destination n.parts) n _ refl refl refl (routed-sends (route_message c set destination Prohibited) (with_parts n (inhibited c set destination n.parts)))
+  prohibit-sends set destination n = changed-sends _ (inhibited c set destination n.parts) n _ refl refl refl refl refl (routed-sends (route_message c set destination Prohibited) (with_parts n (inhibited c set destination n.parts)))
 
   without_route-sends : (destination : Option ℕ) (link : ℕ) (n : Node WholeQueues) → Sends (unsent_without_route c destination link n) 1 n (answer_no_route whole c (Some link) destination n)
   without_route-sends (Some destination) link n =
@@ -76,7 +76,7 @@ module _ (c : Configuration) where
   tell_unavailable-sends : (origin : ℕ) (m : Message) (n : Node WholeQueues) → Sends (unsent_unavailable c origin m n) 1 n (tell_unavailable whole c origin m n)
   tell_unavailable-sends origin m n =
       let next : Node WholeQueues = with_parts n (unequipped_counted origin n.parts) in
-      changed-sends _ (unequipped_counted origin n.parts) n _ refl refl refl
+      changed-sends _ (unequipped_counted origin n.parts) n _ refl refl refl refl refl
       (either-sends (unsent c (unavailable c m) next) [] 1 (is_unequipped_told whole c origin m n) next (send_routed whole c (unavailable c m) next) next (routed-sends (unavailable c m) next) (any-quiet 1 next))
 
   without_user-sends : (origin : Option ℕ) (link : ℕ) (m : Message) (n : Node WholeQueues) → Sends (unsent_without_user c origin m n) 1 n (answer_no_user_part whole c (Some link) origin m n)
@@ -89,7 +89,7 @@ module _ (c : Configuration) where
       let m : Message = route_message c set destination status in
       let next : Node WholeQueues = with_parts n (answered_parts set destination status n.parts) in
       either-sends (unsent c m next) [] 1 (is_led c m n.parts) n (send_routed whole c m next) n
-      (changed-sends _ (answered_parts set destination status n.parts) n _ refl refl refl (routed-sends m next)) (any-quiet 1 n)
+      (changed-sends _ (answered_parts set destination status n.parts) n _ refl refl refl refl refl (routed-sends m next)) (any-quiet 1 n)
   status-sends None set destination n = any-quiet 1 n
 
   pub on_route_test-sends : (test : RouteTest) (route : Result (ℕ × ℕ) Outcome) (n : Node WholeQueues) → Sends (unsent_by_route_test c test route n) 1 n (on_route_test whole c test route n).left
@@ -100,20 +100,20 @@ module _ (c : Configuration) where
   on_route_test-sends test (Err outcome) n = any-quiet 1 n
 
   rerouting-quiet : (destination : ℕ) (selections : List ℕ) (n : Node WholeQueues) (p : Parts) → p.notices ≡ n.parts.notices → p.times_lost ≡ n.parts.times_lost → p.times_late ≡ n.parts.times_late
-      → Quiet 0 n (with_parts n (held_by_rerouting c destination selections p))
-  rerouting-quiet destination [] n p e f g = same-quiet n _ e f g
-  rerouting-quiet destination (sls ∷ others) n p e f g = same-quiet n _ e f g
+      → p.messages_lost ≡ n.parts.messages_lost → p.times_broken ≡ n.parts.times_broken → Quiet 0 n (with_parts n (held_by_rerouting c destination selections p))
+  rerouting-quiet destination [] n p e f g h i = same-quiet n _ e f g h i
+  rerouting-quiet destination (sls ∷ others) n p e f g h i = same-quiet n _ e f g h i
 
   heard-quiet : (status : RouteStatus) (set destination : ℕ) (n : Node WholeQueues) → Quiet 0 n (with_parts n (with_status_heard c set destination status n.parts))
-  heard-quiet Prohibited set destination n = same-quiet n _ refl refl refl
+  heard-quiet Prohibited set destination n = same-quiet n _ refl refl refl refl refl
   heard-quiet Restricted set destination n =
       let timed : Parts = record n.parts { timers = timed_status c set destination Restricted n.parts.timers } in
       let next : Parts = forced c set destination Restricted timed in
-      rerouting-quiet destination (rerouted (facts c timed) (facts c next) destination) n next refl refl refl
+      rerouting-quiet destination (rerouted (facts c timed) (facts c next) destination) n next refl refl refl refl refl
   heard-quiet Allowed set destination n =
       let timed : Parts = record n.parts { timers = timed_status c set destination Allowed n.parts.timers } in
       let next : Parts = forced c set destination Allowed timed in
-      rerouting-quiet destination (rerouted (facts c timed) (facts c next) destination) n next refl refl refl
+      rerouting-quiet destination (rerouted (facts c timed) (facts c next) destination) n next refl refl refl refl refl
 
   apply_route_status-quiet : (x : Heard) (set destination : ℕ) (status : RouteStatus) (n : Node WholeQueues) → Quiet 0 n (apply_route_status whole c x set destination status n).left
   apply_route_status-quiet hears.Ignored set destination status n = any-quiet 0 n
@@ -128,7 +128,7 @@ module _ (c : Configuration) where
   ask-sends : (m : Message) (set destination : ℕ) (n : Node WholeQueues) → Sends (unsent_route_test c m set destination n) 1 n (ask whole c m set destination n)
   ask-sends m set destination n =
       let next : Node WholeQueues = with_parts n (with_next_test whole c set destination n.parts) in
-      changed-sends _ (with_next_test whole c set destination n.parts) n _ refl refl refl
+      changed-sends _ (with_next_test whole c set destination n.parts) n _ refl refl refl refl refl
       (either-sends (unsent c m next) [] 1 (is_led c m n.parts) next (send_routed whole c m next) next (routed-sends m next) (any-quiet 1 next))
 
   ask_by-sends : (status : Option RouteStatus) (set destination : ℕ) (n : Node WholeQueues) → Sends (unsent_asking c status set destination n) 1 n (ask_by whole c status set destination n)
@@ -159,16 +159,16 @@ module _ (c : Configuration) where
 
   pub answered_back-quiet : (set : Option ℕ) (code : ℕ) (n : Node WholeQueues) → Quiet 0 n (on_changeback_acknowledgement whole c set code n).left
   answered_back-quiet (Some set) code n =
-      either_done-quiet 0 (is_outstanding n.parts.codes set code) n (answer Handled (with_parts n (freed set code n.parts))) (answer Ignored n) (same-quiet n _ refl refl refl) (any-quiet 0 n)
+      either_done-quiet 0 (is_outstanding n.parts.codes set code) n (answer Handled (with_parts n (freed set code n.parts))) (answer Ignored n) (same-quiet n _ refl refl refl refl refl) (any-quiet 0 n)
   answered_back-quiet None code n = any-quiet 0 n
 
   -- ---- messages for other points, and for SCCP
 
   offer-sends : (room : Option Cause) (waiting : Bool) (its : Option ℕ) (link : ℕ) (m : Message) (n : Node WholeQueues) → Sends (unsent_offering c room waiting its link m n) 1 n (offer whole c room waiting its (Some link) m n).left
   offer-sends (Some cause) waiting its link m n = any-quiet 1 n
-  offer-sends None true its link m n = quiet-sends 0 1 n _ (omega arith) (same-quiet n _ refl refl refl)
+  offer-sends None true its link m n = quiet-sends 0 1 n _ (omega arith) (same-quiet n _ refl refl refl refl refl)
   offer-sends None false None link m n = without_route-sends (destination_place c (dpc_of m)) link n
-  offer-sends None false (Some its) link m n = quiet-sends 0 1 n _ (omega arith) (same-quiet n _ refl refl refl)
+  offer-sends None false (Some its) link m n = quiet-sends 0 1 n _ (omega arith) (same-quiet n _ refl refl refl refl refl)
 
   pub transfer-sends : (link : ℕ) (m : Message) (n : Node WholeQueues) → Sends (unsent_transferring c link m n) 1 n (transfer whole c (Some link) m n).left
   transfer-sends link m n =
@@ -180,9 +180,9 @@ module _ (c : Configuration) where
   -- one that came by no link is answered by nothing
   offer-quiet : (room : Option Cause) (waiting : Bool) (link : Option ℕ) (m : Message) (n : Node WholeQueues) → Quiet 1 n (offer whole c room waiting link None m n).left
   offer-quiet (Some cause) waiting link m n = any-quiet 1 n
-  offer-quiet None true link m n = more-quiet 0 1 n _ (omega arith) (same-quiet n _ refl refl refl)
+  offer-quiet None true link m n = more-quiet 0 1 n _ (omega arith) (same-quiet n _ refl refl refl refl refl)
   offer-quiet None false None m n = any-quiet 1 n
-  offer-quiet None false (Some link) m n = more-quiet 0 1 n _ (omega arith) (same-quiet n _ refl refl refl)
+  offer-quiet None false (Some link) m n = more-quiet 0 1 n _ (omega arith) (same-quiet n _ refl refl refl refl refl)
 
   transfer-quiet : (m : Message) (n : Node WholeQueues) → Quiet 1 n (transfer whole c None m n).left
   transfer-quiet m n =
@@ -194,7 +194,7 @@ module _ (c : Configuration) where
   relay-quiet : (v : RelayedValue) (m : Message) (n : Node WholeQueues) → Quiet 1 n (relay_by whole c v m n).left
   relay-quiet relays.Delivered m n = any-quiet 1 n
   relay-quiet (relays.Onward sif) m n = transfer-quiet (in_place_of m sif) n
-  relay-quiet (relays.Heard news) m n = more-quiet 0 1 n _ (omega arith) (same-quiet n _ refl refl refl)
+  relay-quiet (relays.Heard news) m n = more-quiet 0 1 n _ (omega arith) (same-quiet n _ refl refl refl refl refl)
   relay-quiet (relays.Refused cause) m n = any-quiet 1 n
 
   udts-quiet : (udts : Option (List ℕ)) (m : Message) (n : Node WholeQueues) → Quiet 1 n (send_udts whole c udts m n)

@@ -5,8 +5,8 @@ use Rattle.exchange_rules.proofs.Naming.{Quiet, any-quiet, both-quiet, either-qu
 
 module _ (c : Configuration) where
   hold_flows-quiet : (before after : Facts) (code : Option ℕ) (link other : ℕ) (n : Node WholeQueues) → Quiet 0 n (hold_flows whole c before after code link other n)
-  hold_flows-quiet before after (Some code) link other n = same-quiet n _ refl refl refl
-  hold_flows-quiet before after None link other n = same-quiet n _ refl refl refl
+  hold_flows-quiet before after (Some code) link other n = same-quiet n _ refl refl refl refl refl
+  hold_flows-quiet before after None link other n = same-quiet n _ refl refl refl refl refl
 
   take_back_each-quiet : (before after : Facts) (link many : ℕ) (n : Node WholeQueues) → Quiet 0 n (take_back_each whole c before after link many n)
   unfolding take_back_each
@@ -28,5 +28,5 @@ module _ (c : Configuration) where
       both-quiet 0 0 n passed _ (by first) (return-quiet (is_first_test link n.parts) link (facts c n.parts) passed)
     where
       by : (first : Bool) → Quiet 0 n (with_parts n (begun_anew_if first c link (test_passed c link n.parts)))
-      by true = same-quiet n _ refl refl refl
-      by false = same-quiet n _ refl refl refl
+      by true = same-quiet n _ refl refl refl refl refl
+      by false = same-quiet n _ refl refl refl refl refl

@@ -1,6 +1,6 @@
 -- A frame on a link raises what was received there by one exactly when it newly carries a message; no other event does.
 use Rattle.exchange_rules.proofs.Basics.{◌≡◌, ◌≢◌, ◌<◌, ◌+◌, ℕ, Bool, true, false, ◌&&◌, not, List, length, nat_eq, Option, Some, None, Result, Ok, Err, refl, ap, sym, subst, ◌∙◌, arith, if◌then◌else◌, is_some, nat_tests, get_or-set_same}
-use Rattle.exchange_rules.proofs.Definitions.{Message, Ignored, FrameFault, Configuration, FrameValue, EmptyFrame, MessageFrame, StatusFrame, read_frame, LinkStatus, Action, Status, UserData, acts_on, Queue, first_queue, after_answer, SeqFault, Node, answer, refuse, is_link, link_at, down, in_service, advance, act_by_status, Carrying, carries, empty_data, message_data, timed_parts, numbers, accept, carry, handle_by, act_by_data, receive_data, leave_aside, read, receive, Happening, CameUp, WentDown, FrameCame, Ticked, Submitted, Activated, Deactivated, TitleAdded, TitleRemoved, apply, WholeQueues, queue_at, whole, Abstract, HasAllPlaces, new_by, new_at, new_in, new_of, new_message, received, received_is_counted, takes_receive_nothing, is_idle, nothing_new_is_delivered, Handled, tells_outage, tells_recovery, hear_outage, end_outage}
+use Rattle.exchange_rules.proofs.Definitions.{Message, Ignored, FrameFault, Configuration, FrameValue, EmptyFrame, MessageFrame, StatusFrame, read_frame, LinkStatus, Action, Status, UserData, acts_on, Queue, first_queue, after_answer, SeqFault, Node, answer, refuse, is_link, link_at, down, in_service, advance, act_by_status, Carrying, carries, empty_data, message_data, timed_parts, numbers, accept, carry, handle_by, act_by_data, receive_data, leave_aside, read, receive, Happening, CameUp, WentDown, FrameCame, Ticked, Submitted, Activated, Deactivated, TitleAdded, TitleRemoved, apply, WholeQueues, queue_at, whole, Abstract, HasAllPlaces, new_by, new_at, new_in, new_of, new_message, received, received_is_counted, takes_receive_nothing, is_idle, nothing_new_is_delivered, Handled, tells_outage, tells_recovery, hear_outage, end_outage, Released, Done, late_by}
 use Rattle.signalling_types.specs.declared.cause.Cause.TheVariants as causes
 use Rattle.signalling_types.specs.declared.notice.FrameFault.TheVariants as faults
 use Rattle.signalling_types.specs.declared.notice.FailureReason.TheVariants as reasons
@@ -14,6 +14,7 @@ use Rattle.exchange_rules.proofs.SteppingFailures.{fail-steps}
 use Rattle.exchange_rules.proofs.SteppingLinks.{advance-serves, advance-steps, on_link_status-steps}
 use Rattle.exchange_rules.proofs.SteppingEvents.{IsOf, owing-serves, owing-steps, carry-steps, leave_aside-steps, settled-steps, tick-steps, run_next-steps, take-steps, apply-steps}
 use Rattle.exchange_rules.proofs.Rules.{rules-of}
+use Rattle.exchange_rules.proofs.SteppingLate.{late_by-steps}
 
 -- as many as there are
 abbrev one_if : Bool → ℕ
@@ -83,7 +84,9 @@ module _ (c : Configuration) (link : ℕ) where
       ≡ received n link + one_if (is_some (if is_link n.parts link && not (down n.parts link) then new_of (read_frame text) link c n else None))
   unfolding apply
   own-frame text n h =
-      (settled-steps (rules-of (same-steps link c)) (receive whole c link text n).left).same
+      let d : Done WholeQueues = receive whole c link text n in
+      (settled-steps (rules-of (same-steps link c)) (late_by whole c d.outcome d.left)).same
+      ∙ (late_by-steps (rules-of (same-steps link c)) d.outcome d.left).same
       ∙ receive-count (is_link n.parts link) (down n.parts link) (read_frame text) n h
       (λ e. let known : link < length n.parts.links = grind (arith, nat_tests, e) in omega (arith, known, h.parts.links)) refl
 
@@ -115,6 +118,7 @@ received-counted Ticked a l h e = other-event a.settings Ticked a.node l (λ lin
 received-counted (Submitted message) a l h e = other-event a.settings (Submitted message) a.node l (λ link of same. of)
 received-counted (Activated its emergency) a l h e = other-event a.settings (Activated its emergency) a.node l (λ link of same. of)
 received-counted (Deactivated its) a l h e = other-event a.settings (Deactivated its) a.node l (λ link of same. of)
+received-counted (Released its) a l h e = other-event a.settings (Released its) a.node l (λ link of same. of)
 received-counted (TitleAdded row refused) a l h e = other-event a.settings (TitleAdded row refused) a.node l (λ link of same. of)
 received-counted (TitleRemoved key digits) a l h e = other-event a.settings (TitleRemoved key digits) a.node l (λ link of same. of)
 

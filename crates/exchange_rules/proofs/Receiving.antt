@@ -49,6 +49,8 @@ module _ (l : ℕ) where
     taken_out = λ n. same-queues n _ refl;
     noted = λ notice n e. same-queues n _ refl;
     lost = λ n. same-queues n _ refl;
+    counted = λ messages broken n. same-queues n _ refl;
+    asked = λ link n e. same-queues n _ refl;
     late = λ n. same-queues n _ refl;
     timed = λ r n e. same-queues n _ refl;
     holding = λ h n e. same-queues n _ refl;

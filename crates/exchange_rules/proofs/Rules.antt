@@ -6,7 +6,7 @@ use Rattle.timers.specs.declared.name.TimerName.TheVariants as name
 use Rattle.exchange_rules.proofs.Places.{held_for-fits, lifted-fits}
 use Rattle.exchange_rules.proofs.Steps.{IsOfSteps, IsOfRules, sends-of, not-both, lateness-other, outed, recovering}
 use Rattle.exchange_rules.proofs.SteppingTimers.{set-timed}
-use Rattle.exchange_rules.proofs.SteppingFailures.{suspended-steps, fail-steps, on_changeover_order-steps, on_changeover_acknowledgement-steps, on_changeover_timer-steps}
+use Rattle.exchange_rules.proofs.SteppingFailures.{suspended-steps, fail-steps, on_changeover_order-steps, on_changeover_acknowledgement-steps, on_changeover_timer-steps, unbarred-steps, asks-steps}
 use Rattle.exchange_rules.proofs.SteppingReturns.{freed-steps, hold_flows-steps}
 
 module _ {c : Configuration} {Own Counts : ℕ → Type 0} {R : Node WholeQueues → Node WholeQueues → Type 0} (s : IsOfSteps c Own Counts R) where
@@ -52,8 +52,10 @@ module _ {c : Configuration} {Own Counts : ℕ → Type 0} {R : Node WholeQueues
         s.both _ _ _ (back-steps link n) (s.holding _ (with_parts n (recovering link n.parts)) (record { fits = lifted-fits c n.parts.holds (Changeover link) }));
     fails = λ link why n may up. fail-steps s link why n;
     orders = λ link number n falls ends. on_changeover_order-steps s link number n;
-    acknowledges = λ link number n may. on_changeover_acknowledgement-steps s link number n;
-    expires = λ timer link n may. on_changeover_timer-steps s timer link n;
+    acknowledges = λ link number n may wait. on_changeover_acknowledgement-steps s link number n;
+    expires = λ timer link n may wait. on_changeover_timer-steps s timer link n;
+    releases = λ link n e wait. unbarred-steps s link n e;
+    asks = asks-steps s;
     returns = hold_flows-steps s;
     frees = λ set code n may. freed-steps s set code n;
     reroutes = reroutes-steps;

@@ -1,17 +1,18 @@
 -- Whatever happens, timers are set to the values in the settings.
 use Rattle.exchange_rules.proofs.Basics.{◌≡◌, ◌≤◌, inl, inr, ℕ, zero, suc, ◌-◌, Bool, true, false, List, [], ◌∷◌, Option, Some, None, refl, sym, subst, ◌∙◌, arith, max, if◌then◌else◌}
-use Rattle.exchange_rules.proofs.Definitions.{Period, paced, period_of, apply, Configuration, FailureReason, ChangeoverTimer, Facts, opening, carries, completed, TimerName, one_less, ticked, due_name, after_due, after-clear, after-none, left-ticked, left-none, Found, Parts, Node, with_parts, link_at, in_service, down, is_link, set_of, has_other, is_ordered, suspended, fail_link, without_tests, make_unavailable, changing, begin, change_over, begin_by_peer, fail_by_peer, fail_by_order, complete_by_order, complete_if, concluded, lose_each, judged, changeover_of, with_changeover, changeover_order, changeover_acknowledgement, on_changeover_order, with_changeover_acknowledged, with_expiry, hold_flows, held_by_rerouting, answer, Handled, Ignored, with_timers, run_next, run_times, due_count, tick, Asking, Happens, Takes, AsksWants, Happening, CameUp, WentDown, FrameCame, Ticked, Submitted, Activated, Deactivated, TitleAdded, TitleRemoved, first_state, after_asking, after_each, Abstract, WholeQueues, whole, run_all}
+use Rattle.exchange_rules.proofs.Definitions.{Period, paced, period_of, apply, Configuration, FailureReason, ChangeoverTimer, Facts, opening, carries, completed, TimerName, one_less, ticked, due_name, after_due, after-clear, after-none, left-ticked, left-none, Found, Parts, Node, with_parts, link_at, in_service, down, is_link, set_of, has_other, is_ordered, suspended, fail_link, without_tests, make_unavailable, changing, begin, change_over, begin_by_peer, fail_by_peer, fail_by_order, complete_by_order, complete_if, concluded, lose_each, judged, changeover_of, with_changeover, changeover_order, changeover_acknowledgement, on_changeover_order, with_changeover_acknowledged, with_expiry, hold_flows, held_by_rerouting, answer, Handled, Ignored, with_timers, run_next, run_times, due_count, tick, Asking, Happens, Takes, AsksWants, Happening, CameUp, WentDown, FrameCame, Ticked, Submitted, Activated, Deactivated, TitleAdded, TitleRemoved, first_state, after_asking, after_each, Abstract, WholeQueues, whole, run_all, Released, bar, barred, timed_bar, awaits_incomplete, asking, clear_timer, Running, order_all}
 use Rattle.timers.specs.declared.name.TimerName.TheVariants as name
 use Rattle.timers.specs.declared.name.RouteTimer.TheVariants as of_set
 use Rattle.signalling_types.specs.declared.notice.FailureReason.TheVariants as reasons
 use Rattle.signalling_types.specs.declared.notice.ChangeoverTimer.TheVariants as which
-use Rattle.exchange_rules.specs.TimerSettings.{setting_of, RunsBy, left_by, events_set_timers_to_their_settings, takes_set_timers_to_their_settings, timers_keep_their_settings, only_l4_is_paced}
-use Rattle.exchange_rules.proofs.TimerSettings.{AreSet, wider-set, same-set, both-set, set-set, clear-set, clear_set-set, without_timers-set, timed-set, timed_sending-set, timed_confirming-set, timed_busy-set, timed_busy_ended-set}
+use Rattle.exchange_rules.specs.TimerSettings.{setting_of, RunsBy, left_by, events_set_timers_to_their_settings, takes_set_timers_to_their_settings, timers_keep_their_settings, only_l4_is_paced, barring, only_t2_is_barred}
+use Rattle.exchange_rules.proofs.TimerSettings.{AreSet, wider-set, same-set, both-set, set-set, clear-set, clear_set-set, without_timers-set, timed-set, timed_sending-set, timed_confirming-set, timed_busy-set, timed_busy_ended-set, bar-set}
 use Rattle.exchange_rules.proofs.Eased.{losses-timers, judged-timers}
 use Rattle.exchange_rules.proofs.Steps.{IsOfSends, Deed, IsOfDeeds, anything, IsOfRules, MayReturn}
 use Rattle.exchange_rules.proofs.Asked.{any, settings-stay}
 use Rattle.exchange_rules.proofs.SteppingMessages.{send_routed-steps, send_each-steps}
 use Rattle.exchange_rules.proofs.SteppingEvents.{run_next-steps, settled-steps, apply-steps, take-steps}
+use Rattle.exchange_rules.proofs.SteppingLate.{order_all-steps}
 
 -- from one node to another timers are set to their settings, and T8 stops only of the sets of E
 pub record Sets (c : Configuration) (E : ℕ → Type 0) (n m : Node WholeQueues) : Type 0 where
@@ -31,6 +32,7 @@ module _ (c : Configuration) (E : ℕ → Type 0) where
     routed = λ link m n e. same n _ refl;
     noted = λ notice n e. same n _ refl;
     lost = λ notice n e. same n _ refl;
+    counted = λ messages broken n. same n _ refl;
   }
 
   -- ---- a link fails
@@ -79,12 +81,21 @@ module _ (c : Configuration) (E : ℕ → Type 0) where
       both n lost _ (same n lost (judged-timers found.is_reasonable (lose_each found.lost n.parts) ∙ losses-timers found.lost n.parts))
       (both lost done _ (record { timers = clear-set c E (name.T1 link) lost.parts.timers (λ s d e. absurd cc) }) (send_each-steps sets-sends found.queued_anew done))
 
+  bar-sets : (link : ℕ) (n : Node WholeQueues) → Sets c E n (bar whole c link n)
+  bar-sets link n = record { timers = by c.timers.t2_bar (awaits_incomplete (changeover_of n.parts link)) refl }
+    where
+      by : (ticks : Option ℕ) (is_barred : Bool) → c.timers.t2_bar ≡ ticks → AreSet c E n.parts.timers (timed_bar ticks is_barred link n.parts.timers)
+      by (Some ticks) true e = bar-set c E link ticks n.parts.timers e
+      by (Some ticks) false e = same-set c E n.parts.timers n.parts.timers refl
+      by None is_barred e = same-set c E n.parts.timers n.parts.timers refl
+
   orders-sets : (link : ℕ) (number : Option ℕ) (n : Node WholeQueues) → Sets c E n (on_changeover_order whole c link number n).left
   orders-sets link number n =
-      let one : Node WholeQueues = fail_by_order whole c link n in
+      let fallen : Node WholeQueues = fail_by_order whole c link n in
+      let one : Node WholeQueues = bar whole c link fallen in
       let standing : Node WholeQueues = with_parts one (with_changeover link (completed (changeover_of one.parts link)) one.parts) in
       let two : Node WholeQueues = complete_by_order whole c link number one in
-      both n one _ (ordered-sets (down n.parts link) link n)
+      both n one _ (both n fallen one (ordered-sets (down n.parts link) link n) (bar-sets link fallen))
       (both one two _ (both one standing two (same one standing refl) (complete-sets (changeover_of one.parts link).incomplete link number standing))
       (send_routed-steps sets-sends (changeover_acknowledgement c link (whole.last_accepted two.queues link)) two))
 
@@ -96,16 +107,16 @@ module _ (c : Configuration) (E : ℕ → Type 0) where
       let next : Node WholeQueues = with_parts n (with_changeover_acknowledged link n.parts) in
       both n next _ (record { timers = clear-set c E (name.T2 link) n.parts.timers (λ s d e. absurd cc) }) (complete-sets (changeover_of n.parts link).incomplete link number next)
 
-  expiry-sets : (timer : ChangeoverTimer) (link : ℕ) (n : Node WholeQueues) → Sets c E n (with_parts n (with_expiry timer link n.parts))
-  expiry-sets which.T1 link n = same n _ refl
-  expiry-sets which.T2 link n = same n _ refl
+  expiry-sets : (timer : ChangeoverTimer) (link : ℕ) (n : Node WholeQueues) → Sets c E n (with_parts n (with_expiry c timer link (barred c link n.parts)))
+  expiry-sets which.T1 link n = both n (bar whole c link n) _ (bar-sets link n) (same (bar whole c link n) _ refl)
+  expiry-sets which.T2 link n = both n (bar whole c link n) _ (bar-sets link n) (same (bar whole c link n) _ refl)
 
   expires-sets : (is_there : Bool) (timer : ChangeoverTimer) (link : ℕ) (n : Node WholeQueues)
-      → Sets c E n (if is_there then complete_if whole c (changeover_of n.parts link).incomplete link None (with_parts n (with_expiry timer link n.parts)) else n)
+      → Sets c E n (if is_there then complete_if whole c (changeover_of n.parts link).incomplete link None (with_parts n (with_expiry c timer link (barred c link n.parts))) else n)
   expires-sets false timer link n = same n n refl
   expires-sets true timer link n =
-      both n (with_parts n (with_expiry timer link n.parts)) _ (expiry-sets timer link n)
-      (complete-sets (changeover_of n.parts link).incomplete link None (with_parts n (with_expiry timer link n.parts)))
+      let ran : Node WholeQueues = with_parts n (with_expiry c timer link (barred c link n.parts)) in
+      both n ran _ (expiry-sets timer link n) (complete-sets (changeover_of n.parts link).incomplete link None ran)
 
   -- ---- flows are held
 
@@ -148,8 +159,15 @@ module _ (c : Configuration) (E : ℕ → Type 0) where
       back = λ link n e may. same n _ refl;
       fails = λ link why n may up. fails-sets (in_service n.parts link) link why n;
       orders = λ link number n falls ends. orders-sets link number n;
-      acknowledges = λ link number n may. acknowledges-sets (changeover_of n.parts link).awaited link number n;
-      expires = λ timer link n may. expires-sets (is_link n.parts link) timer link n;
+      acknowledges = λ link number n may wait. acknowledges-sets (changeover_of n.parts link).awaited link number n;
+      expires = λ timer link n may wait. expires-sets (is_link n.parts link) timer link n;
+      releases = λ link n e wait. record { timers = clear-set c E (name.T2 link) n.parts.timers (λ s d e. absurd cc) };
+      asks = λ link n e.
+          let stopped : Running = clear_timer (name.T1 link) n.parts.timers in
+          let asks : Node WholeQueues = with_parts n (asking c link n.parts) in
+          both n asks _
+          (record { timers = both-set c E n.parts.timers stopped asks.parts.timers (clear-set c E (name.T1 link) n.parts.timers (λ s d f. absurd cc)) (set-set c E (name.T2 link) c.timers.t2 stopped refl) })
+          (send_routed-steps sets-sends (changeover_order c link (whole.last_accepted n.queues link)) asks);
       returns = λ before after code link other n e f. returns-sets before after code link other n;
       frees = λ set code n may. record { timers = clear-set c E (name.T4 set code) n.parts.timers (λ s d e. absurd cc) };
       reroutes = reroutes-sets;
@@ -187,9 +205,13 @@ module _ (c : Configuration) where
   unfolding apply
   ticked-sets n =
       let ran : Node WholeQueues = run_all whole c (begun n) in
-      both c any (begun n) (tick whole c n).left _
-      (both c any (begun n) ran _ (times-sets (due_count (ticked n.parts.timers)) (begun n)) (same c any ran (tick whole c n).left refl))
-      (settled-steps free-rules (tick whole c n).left)
+      let counted : Node WholeQueues = (tick whole c n).left in
+      let ordered : Node WholeQueues = order_all whole c counted in
+      both c any (begun n) ordered _
+      (both c any (begun n) counted ordered
+      (both c any (begun n) ran counted (times-sets (due_count (ticked n.parts.timers)) (begun n)) (same c any ran counted refl))
+      (order_all-steps free-rules counted))
+      (settled-steps free-rules ordered)
 
 pub events-set : events_set_timers_to_their_settings
 events-set Ticked a timer =
@@ -201,6 +223,7 @@ events-set (FrameCame link text) a timer = (quiet-sets a.settings (FrameCame lin
 events-set (Submitted message) a timer = (quiet-sets a.settings (Submitted message) a.node (λ e. cc)).timers.each timer
 events-set (Activated link emergency) a timer = (quiet-sets a.settings (Activated link emergency) a.node (λ e. cc)).timers.each timer
 events-set (Deactivated link) a timer = (quiet-sets a.settings (Deactivated link) a.node (λ e. cc)).timers.each timer
+events-set (Released link) a timer = (quiet-sets a.settings (Released link) a.node (λ e. cc)).timers.each timer
 events-set (TitleAdded row refused) a timer = (quiet-sets a.settings (TitleAdded row refused) a.node (λ e. cc)).timers.each timer
 events-set (TitleRemoved key digits) a timer = (quiet-sets a.settings (TitleRemoved key digits) a.node (λ e. cc)).timers.each timer
 
@@ -210,7 +233,7 @@ takes-set a link timer = (take-steps (free-rules a.settings) link a.node tt).tim
 -- ---- so none has more ticks left
 
 abbrev IsAtMost : (c : Configuration) → TimerName → ℕ → Type 0
-IsAtMost c timer left = (period : Period) × (left ≤ max 1 (setting_of (paced period c.timers) timer))
+IsAtMost c timer left = (period : Period) × (is_bar : Bool) × (left ≤ max 1 (setting_of (paced period (barring is_bar c.timers)) timer))
 
 abbrev IsWithin : (c : Configuration) → TimerName → Option ℕ → Type 0
 IsWithin c timer o = (left : ℕ) → o ≡ Some left → IsAtMost c timer left
@@ -221,15 +244,15 @@ same-left k l e = cc
 runs-within : (c : Configuration) (timer : TimerName) (x y : Option ℕ) → RunsBy c.timers timer x y → IsWithin c timer x → IsWithin c timer y
 runs-within c timer x y (inl e) h left f = h left (sym e ∙ f)
 runs-within c timer x y (inr (inl e)) h left f =
-    let same : max 1 (setting_of (paced e.0 c.timers) timer) ≡ left = same-left _ _ (sym e.1 ∙ f) in
-    (e.0, omega (arith, same))
+    let same : max 1 (setting_of (paced e.0 (barring e.1 c.timers)) timer) ≡ left = same-left _ _ (sym e.2 ∙ f) in
+    (e.0, e.1, omega (arith, same))
 runs-within c timer x y (inr (inr e)) h left f = (let no : None ≡ Some left = sym e ∙ f in absurd cc)
 
 lowered-within : (c : Configuration) (timer : TimerName) (x : Option ℕ) → IsWithin c timer x → IsWithin c timer (one_less x)
 lowered-within c timer None h left e = absurd cc
 lowered-within c timer (Some k) h left e =
     let most : IsAtMost c timer k = h k refl in
-    (most.0, omega (arith, most.1, same-left (k - 1) left e))
+    (most.0, most.1, omega (arith, most.2, same-left (k - 1) left e))
 
 begun-within : (c : Configuration) (timer : TimerName) (what : Happening) (x : Option ℕ) → IsWithin c timer x → IsWithin c timer (left_by what x)
 begun-within c timer Ticked x h = lowered-within c timer x h
@@ -239,6 +262,7 @@ begun-within c timer (FrameCame link text) x h = h
 begun-within c timer (Submitted message) x h = h
 begun-within c timer (Activated link emergency) x h = h
 begun-within c timer (Deactivated link) x h = h
+begun-within c timer (Released link) x h = h
 begun-within c timer (TitleAdded row refused) x h = h
 begun-within c timer (TitleRemoved key digits) x h = h
 
@@ -264,3 +288,6 @@ timers-keep c asked timer =
 
 pub paced-is : only_l4_is_paced
 paced-is ticks = record { fixed = refl; normal = refl; hurried = refl; emergency = λ link. refl; rest = refl }
+
+pub barred-is : only_t2_is_barred
+barred-is ticks = record { without = refl; bar = λ link. refl; rest = refl }

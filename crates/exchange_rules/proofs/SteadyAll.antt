@@ -13,7 +13,7 @@ use Rattle.exchange_rules.proofs.WatchedLink.{l7-timed, l7-confirming, l7-sendin
 use Rattle.exchange_rules.proofs.OnLink.{opened-on, accepted-on, sent-on}
 use Rattle.exchange_rules.proofs.SteadyLinks.{exact-idle, run-out, stands-opened}
 use Rattle.exchange_rules.proofs.SteadyChanges.{stands-accepted, stands-sent}
-use Rattle.exchange_rules.proofs.SteadySteps.{At, Keeps, stands-as, on-link, queued-keeps, failed-keeps, dropped-keeps, completed-keeps, answered-keeps, linked-keeps, parted-keeps, passed-keeps, stepped-keeps, busied-keeps, resumed-keeps}
+use Rattle.exchange_rules.proofs.SteadySteps.{At, Keeps, stands-as, on-link, queued-keeps, failed-keeps, dropped-keeps, completed-keeps, answered-keeps, linked-keeps, parted-keeps, passed-keeps, stepped-keeps, busied-keeps, resumed-keeps, asked-keeps}
 use Rattle.exchange_rules.proofs.Steps.{confirming, IsOfSteps}
 use Rattle.exchange_rules.proofs.Asked.{any}
 use Rattle.exchange_rules.proofs.SteppingFailures.{fail-links, fail-steps}
@@ -92,6 +92,8 @@ module _ (exact : Bool) (c : Configuration) (l : ℕ) where
     taken_out = λ n. alike n _ refl refl refl refl refl;
     noted = λ notice n e. alike n _ refl refl refl refl refl;
     lost = λ n. alike n _ refl refl refl refl refl;
+    counted = λ messages broken n. alike n _ refl refl refl refl refl;
+    asked = λ link n e. asked-keeps exact c l link n e;
     late = λ n. alike n _ refl refl refl refl refl;
     timed = λ r n e. alike n _ refl refl refl e.counts (e.watching l);
     holding = λ h n e. alike n _ refl refl refl refl refl;

@@ -1,6 +1,6 @@
 -- A link by its state, its changeover, its queue and its L7: what each step does to these leaves it steady.
-use Rattle.exchange_rules.proofs.Basics.{◌≡◌, ℕ, ◌-◌, Bool, true, false, ◌&&◌, not, [], nat_lt, refl, ap, sym, ◌∙◌}
-use Rattle.exchange_rules.proofs.Definitions.{Period, Message, Alignment, Queue, IsQueue, first_queue, appended, emptied, sound-first, sound-appended, sound-emptied, Link, is_down, is_in_service, opened, after_failure, Standing, may_restart, may_send, IsSteady}
+use Rattle.exchange_rules.proofs.Basics.{and_parts, ◌≡◌, ℕ, ◌-◌, Bool, true, false, ◌&&◌, not, [], nat_lt, refl, ap, sym, ◌∙◌}
+use Rattle.exchange_rules.proofs.Definitions.{Period, Message, Alignment, Queue, IsQueue, first_queue, appended, emptied, sound-first, sound-appended, sound-emptied, Link, is_down, is_in_service, opened, after_failure, Standing, may_restart, may_send, IsSteady, with_order, is_unasked}
 use Rattle.exchange_rules.proofs.Serving.{down-is}
 
 -- a link is steady, but where its L7 has just run out (then it isn't exact whether that runs): out of service it
@@ -139,6 +139,18 @@ module _ (exact : Bool) (w : ℕ) (l : Link) (s : Standing) (q : Queue) (b : Boo
     changing = λ g. absurd (no-way t.incomplete f g);
     awaiting = λ g. h.awaiting (waits g);
     moved = λ g k. h.moved g i;
+    idle = h.idle;
+    watched = h.watched;
+  }
+
+  -- an order goes out late: the link is down as long as its changeover isn't complete
+  pub stands-asked : is_unasked s ≡ true → Stands exact w l (with_order s) q b
+  stands-asked e = record {
+    queue = h.queue;
+    associated = h.associated;
+    changing = λ g. h.changing g;
+    awaiting = λ g. h.changing (and_parts s.incomplete (not s.awaited) e).0;
+    moved = λ g k. h.moved g k;
     idle = h.idle;
     watched = h.watched;
   }

@@ -1,12 +1,12 @@
 -- Each step leaves each link steady.
 use Rattle.exchange_rules.proofs.Basics.{◌≡◌, ◌≢◌, ◌<◌, ℕ, Bool, true, false, length, Option, refl, sym, subst, arith, slice_set, ⊎_elim, cases_eq}
-use Rattle.exchange_rules.proofs.Definitions.{with_test_passed, Configuration, Message, FailureReason, Input, Go, Transition, acts_on, Queue, emptied, NodeCounts, L7, Running, is_running, Link, stepped, after_failure, Standing, Node, with_parts, link_at, with_link, down, in_service, queue_on, changeover_of, with_changeover, fail_link, without_association, step_on, WholeQueues, queue_at, whole, is_l7_running}
+use Rattle.exchange_rules.proofs.Definitions.{with_test_passed, Configuration, Message, FailureReason, Input, Go, Transition, acts_on, Queue, emptied, NodeCounts, L7, Running, is_running, Link, stepped, after_failure, Standing, Node, with_parts, link_at, with_link, down, in_service, queue_on, changeover_of, with_changeover, fail_link, without_association, step_on, WholeQueues, queue_at, whole, is_l7_running, with_order, is_unasked}
 use Rattle.link.specs.Queue as queue
 use Rattle.exchange_rules.proofs.Serving.{IsStep, each-step}
 use Rattle.exchange_rules.proofs.LinkTimers.{AreTimedFor, same-for, timed-for, timed_busy-for, timed_busy_ended-for}
 use Rattle.exchange_rules.proofs.WatchedLink.{l7-without_timers, l7-timed, l7-busy, l7-busy_ended}
 use Rattle.exchange_rules.proofs.OnLink.{OnLink, queued-on, failed-on, dropped-on, completed-on, answered-on, link-on}
-use Rattle.exchange_rules.proofs.SteadyLinks.{Stands, stands-appended, stands-failed, stands-dropped, stands-completed, stands-answered, stands-linked, stands-parted}
+use Rattle.exchange_rules.proofs.SteadyLinks.{Stands, stands-appended, stands-failed, stands-dropped, stands-completed, stands-answered, stands-linked, stands-parted, stands-asked}
 use Rattle.exchange_rules.proofs.SteadyChanges.{stands-stepped, stands-busied, stands-resumed}
 use Rattle.exchange_rules.proofs.Steps.{IsSameLink, with_busy, without_busy}
 
@@ -98,6 +98,12 @@ module _ (exact : Bool) (c : Configuration) where
       on-link l k (link_at n.parts k) s (queue_at n.queues k) n (with_parts n (with_changeover k s n.parts))
       (answered-on k s n)
       (λ h. stands-answered exact c.window _ _ _ _ h.stands s e f w)
+
+  pub asked-keeps : (l k : ℕ) (n : Node WholeQueues) → is_unasked (changeover_of n.parts k) ≡ true → Keeps exact c l n (with_parts n (with_changeover k (with_order (changeover_of n.parts k)) n.parts))
+  asked-keeps l k n e =
+      on-link l k (link_at n.parts k) (with_order (changeover_of n.parts k)) (queue_at n.queues k) n (with_parts n (with_changeover k (with_order (changeover_of n.parts k)) n.parts))
+      (answered-on k (with_order (changeover_of n.parts k)) n)
+      (λ h. stands-asked exact c.window _ _ _ _ h.stands e)
 
   -- ---- a link changes, and its timers with it
 

@@ -1,6 +1,6 @@
 -- Frames, ticks, releases, whole events, and what goes out: each is made of steps.
 use Rattle.exchange_rules.proofs.Basics.{◌≡◌, inl, inr, ℕ, zero, suc, Bool, true, false, List, [], ◌∷◌, Option, Some, None, Result, Ok, Err, refl, ap, ◌∙◌, if◌then◌else◌, slice_get, drop, ◌&&◌, not, sym}
-use Rattle.exchange_rules.proofs.Definitions.{Message, flow_of, Configuration, Ignored, FrameFault, FrameValue, EmptyFrame, MessageFrame, StatusFrame, read_frame, LinkStatus, Action, UserData, LinkTimer, timer_name, acts_on, Sending, SeqFault, TimerName, ticked, due_name, after_due, due_count, Link, down_link, is_in_service, Time, Code, Reroute, Parts, Node, with_parts, answer, refuse, is_link, link_at, down, in_service, link_of, waits, late_time, late_code, tell_owed, advance, Carrying, empty_data, message_data, owing, timed_parts, numbers, accept, carry, handle_by, act_by_data, receive_data, leave_aside, read, with_timers, run_timer, run_due, run_next, run_times, tick, go_on, go_by, go, go_each, release, Outgoing, if_owed, message_first, status_first, without_owed, next_message, after_sending, after_take, Happening, CameUp, WentDown, FrameCame, Ticked, Submitted, Activated, Deactivated, TitleAdded, TitleRemoved, handle_event, apply, WholeQueues, whole, new_by, new_at, new_in, new_of, Procedure, Changeover, run_all, subsystems_ticked, Facts, is_first_test, has_other, set_of, network_of}
+use Rattle.exchange_rules.proofs.Definitions.{Message, flow_of, Configuration, Ignored, FrameFault, FrameValue, EmptyFrame, MessageFrame, StatusFrame, read_frame, LinkStatus, Action, UserData, LinkTimer, timer_name, acts_on, Sending, SeqFault, TimerName, ticked, due_name, after_due, due_count, Link, down_link, is_in_service, Time, Code, Reroute, Parts, Node, with_parts, answer, refuse, is_link, link_at, down, in_service, link_of, waits, late_time, late_code, tell_owed, advance, Carrying, empty_data, message_data, owing, timed_parts, numbers, accept, carry, handle_by, act_by_data, receive_data, leave_aside, read, with_timers, run_timer, run_due, run_next, run_times, tick, go_on, go_by, go, go_each, release, Outgoing, if_owed, message_first, status_first, without_owed, next_message, after_sending, after_take, Happening, CameUp, WentDown, FrameCame, Ticked, Submitted, Activated, Deactivated, TitleAdded, TitleRemoved, handle_event, apply, WholeQueues, whole, new_by, new_at, new_in, new_of, Procedure, Changeover, run_all, subsystems_ticked, Facts, is_first_test, has_other, set_of, network_of, once_more, Released, Done, receive}
 use Rattle.signalling_types.specs.declared.cause.Cause.TheVariants as causes
 use Rattle.signalling_types.specs.declared.notice.Notice.TheVariants as notices
 use Rattle.signalling_types.specs.declared.notice.LateTimer.TheVariants as late_timer
@@ -15,11 +15,12 @@ use Rattle.node_links.proofs.Serving.{facts_alike}
 use Rattle.exchange_rules.proofs.Lists.{alike-at}
 use Rattle.exchange_rules.proofs.Serving.{data-serves, fails-up, serves-up}
 use Rattle.exchange_rules.proofs.SteppingTests.{begin_test-steps, test_unanswered-steps}
-use Rattle.exchange_rules.proofs.Steps.{confirming, Deed, IsOfDeeds, LinkFails, HoldsEnd, Lacking, anything, IsOfRules, LinkOpens, TitlesChange, brings_back, SetReturns}
+use Rattle.exchange_rules.proofs.Steps.{confirming, Deed, IsOfDeeds, LinkFails, HoldsEnd, Lacking, anything, IsOfRules, LinkOpens, TitlesChange, brings_back, SetReturns, WaitEnds}
 use Rattle.exchange_rules.proofs.SteppingMessages.{ask_again-steps, tell_owed-steps}
 use Rattle.exchange_rules.proofs.SteppingRelaying.{add_title-steps, remove_title-steps}
-use Rattle.exchange_rules.proofs.SteppingLinks.{AllowsStatus, advance-serves, advance-steps, on_link_status-steps, run_out-steps, association_up-steps, association_down-steps, activate-steps, deactivate-steps}
+use Rattle.exchange_rules.proofs.SteppingLinks.{AllowsStatus, advance-serves, advance-steps, on_link_status-steps, run_out-steps, association_up-steps, association_down-steps, activate-steps, deactivate-steps, release_bar-steps}
 use Rattle.exchange_rules.proofs.SteppingLocal.{Allows, AllowsMessage, deliver-steps, submit-steps}
+use Rattle.exchange_rules.proofs.SteppingLate.{late_by-steps, order_all-steps}
 use Rattle.exchange_rules.specs.LawsOfUserParts.{brings_lacking}
 use Rattle.exchange_rules.specs.LawsOfCauses.{Word, ended_by_timer, fails_by, is_misplaced, is_misplaced_at, is_misplaced_in, is_wrong, word_heard}
 use Rattle.exchange_rules.specs.LawsOfSubsystems.{changes_titles}
@@ -46,6 +47,7 @@ IsOf Ticked l = ⊥
 IsOf (Submitted message) l = ⊥
 IsOf (Activated link emergency) l = ⊥
 IsOf (Deactivated link) l = ⊥
+IsOf (Released link) l = ⊥
 IsOf (TitleAdded row is_memory_refused) l = ⊥
 IsOf (TitleRemoved key digits) l = ⊥
 
@@ -61,12 +63,14 @@ pub record AllowsTimer (May : Deed → Type 0) (timer : TimerName) : Type 0 wher
   pub ends : (procedure : Procedure) → ended_by_timer timer ≡ Some procedure → May (HoldsEnd procedure)
   pub fails : (link : ℕ) (its : LinkTimer) → timer ≡ timer_name link its → fails_by its ≡ true → May (LinkFails link reasons.Timer)
   pub tests : (link : ℕ) → timer ≡ name.Slt1 link → May (LinkFails link reasons.Test)
+  pub waits : (link : ℕ) → timer ≡ name.T2 link → May (WaitEnds link)
 
 -- what an event may do, but for a tick
 pub record AllowsEvent (c : Configuration) (May : Deed → Type 0) (what : Happening) (n : Node WholeQueues) : Type 0 where
   pub opens : (link : ℕ) → what ≡ CameUp link → May (LinkOpens link)
   pub lost : (link : ℕ) → what ≡ WentDown link → May (LinkFails link reasons.Association)
   pub ordered : (link : ℕ) → what ≡ Deactivated link → May (LinkFails link reasons.Operator)
+  pub released : (link : ℕ) → what ≡ Released link → May (WaitEnds link)
   pub frame : (link : ℕ) (text : List ℕ) → what ≡ FrameCame link text → AllowsFrame c May link (read_frame text) n
   pub words : (word : Word) → word_heard what (record { settings = c; node = n }) ≡ Some word → Allows c May word
   pub lacking : brings_lacking what (record { settings = c; node = n }) ≡ true → May Lacking
@@ -144,8 +148,8 @@ module _ {c : Configuration} {Own Counts : ℕ → Type 0} {May : Deed → Type 
   run_timer-deeds (name.L4 link) n own may = run_out-steps s link timer.L4 n (own link timer.L4 refl) (may.fails link timer.L4 refl)
   run_timer-deeds (name.L6 link) n own may = run_out-steps s link timer.L6 n (own link timer.L6 refl) (may.fails link timer.L6 refl)
   run_timer-deeds (name.L7 link) n own may = run_out-steps s link timer.L7 n (own link timer.L7 refl) (may.fails link timer.L7 refl)
-  run_timer-deeds (name.T1 link) n own may = s.expires changeover.T1 link n (may.ends (Changeover link) refl)
-  run_timer-deeds (name.T2 link) n own may = s.expires changeover.T2 link n (may.ends (Changeover link) refl)
+  run_timer-deeds (name.T1 link) n own may = s.expires changeover.T1 link n (may.ends (Changeover link) refl) (λ e. absurd cc)
+  run_timer-deeds (name.T2 link) n own may = s.expires changeover.T2 link n (may.ends (Changeover link) refl) (λ e. may.waits link refl)
   run_timer-deeds (name.T3 link) n own may = late_time-steps link n (may.ends (Time link) refl)
   run_timer-deeds (name.T4 set code) n own may = late_code-steps set code n (may.ends (Code set code) refl)
   run_timer-deeds (name.T6 destination) n own may = s.lifts (Reroute destination) n (may.ends (Reroute destination) refl)
@@ -163,7 +167,9 @@ module _ {c : Configuration} {Own Counts : ℕ → Type 0} {May : Deed → Type 
 
   go_on-steps : (link : Option ℕ) (m : Message) (n : Node WholeQueues) → link_of c n.parts (flow_of m) ≡ link → R n (go_on whole c link m n)
   go_on-steps (Some link) m n e = s.sends.routed link m n e
-  go_on-steps None m n e = s.sends.lost (notices.Lost causes.NoRoute (flow_of m).point (flow_of m).sls) n refl
+  go_on-steps None m n e =
+      s.sends.both _ _ _ (s.sends.lost (notices.Lost causes.NoRoute (flow_of m).point (flow_of m).sls) n refl)
+      (s.sends.counted (once_more n.parts.messages_lost) n.parts.times_broken _)
 
   pub go_by-steps : (waiting : Bool) (m : Message) (n : Node WholeQueues) → waits c n.parts.holds m ≡ waiting → R n (go_by whole c waiting m n)
   go_by-steps true m n e = s.held m n e
@@ -211,11 +217,15 @@ module _ {c : Configuration} {Own Counts : ℕ → Type 0} {May : Deed → Type 
   handle_event-deeds (CameUp link) n own counts may ticks = association_up-steps s link n (counts link refl) (may.opens link refl)
   handle_event-deeds (WentDown link) n own counts may ticks = association_down-steps s link n (may.lost link refl)
   handle_event-deeds (FrameCame link text) n own counts may ticks =
-      receive-deeds (is_link n.parts link) (down n.parts link) link (read_frame text) n (own link refl) (counts link refl) refl (may.frame link text refl) (record { words = may.words; lacking = may.lacking; hears = may.titles })
-  handle_event-deeds Ticked n own counts may ticks = ticks refl
+      let d : Done WholeQueues = receive whole c link text n in
+      s.sends.both _ _ _
+      (receive-deeds (is_link n.parts link) (down n.parts link) link (read_frame text) n (own link refl) (counts link refl) refl (may.frame link text refl) (record { words = may.words; lacking = may.lacking; hears = may.titles }))
+      (late_by-steps s d.outcome d.left)
+  handle_event-deeds Ticked n own counts may ticks = s.sends.both _ _ _ (ticks refl) (order_all-steps s (tick whole c n).left)
   handle_event-deeds (Submitted message) n own counts may ticks = submit-steps s message n may.titles
   handle_event-deeds (Activated link emergency) n own counts may ticks = activate-steps s emergency link n
   handle_event-deeds (Deactivated link) n own counts may ticks = deactivate-steps s link n (may.ordered link refl)
+  handle_event-deeds (Released link) n own counts may ticks = release_bar-steps s link n (may.released link refl)
   handle_event-deeds (TitleAdded row is_memory_refused) n own counts may ticks = add_title-steps s row is_memory_refused n (may.titles refl)
   handle_event-deeds (TitleRemoved key digits) n own counts may ticks = remove_title-steps s key digits n (may.titles refl)
 
@@ -231,16 +241,17 @@ module _ {c : Configuration} {Own Counts : ℕ → Type 0} {May : Deed → Type 
 
 module _ {c : Configuration} {Own Counts : ℕ → Type 0} {R : Node WholeQueues → Node WholeQueues → Type 0} (s : IsOfRules c Own Counts R) where
   any_word : (word : Word) → Allows c anything word
-  any_word word = record { ends = λ procedure e. tt; fails = λ link e. tt }
+  any_word word = record { ends = λ procedure e. tt; fails = λ link e. tt; answers = λ link e. tt }
 
   any_timer : (timer : TimerName) → AllowsTimer anything timer
-  any_timer timer = record { ends = λ procedure e. tt; fails = λ link its e f. tt; tests = λ link e. tt }
+  any_timer timer = record { ends = λ procedure e. tt; fails = λ link its e f. tt; tests = λ link e. tt; waits = λ link e. tt }
 
   any_event : (what : Happening) (n : Node WholeQueues) → AllowsEvent c anything what n
   any_event what n = record {
     opens = λ link e. tt;
     lost = λ link e. tt;
     ordered = λ link e. tt;
+    released = λ link e. tt;
     frame = λ link text e. record { wrong = λ f. tt; length = λ f. tt; status = λ bsn fsn status f. record { fails = λ e g. tt; recovers = λ e. tt }; returns = tt };
     words = λ word e. any_word word;
     lacking = λ e. tt;

@@ -1,15 +1,17 @@
 -- A link fails, and its changeover goes on and ends: each rule is made of steps.
-use Rattle.exchange_rules.proofs.Basics.{◌≡◌, ℕ, Bool, true, false, List, [], ◌∷◌, Option, Some, None, refl, ◌∙◌, if◌then◌else◌}
-use Rattle.exchange_rules.proofs.Definitions.{Message, flow_of, Cause, LostUnconfirmed, after_failure, Handled, Ignored, FailureReason, ChangeoverTimer, Configuration, Running, Standing, completed, acknowledged, failed, begun_by_peer, Changeover, Parts, Node, Found, with_parts, answer, is_link, link_at, links_with, down, in_service, facts, link_of, no_room, send, set_of, is_failed, suspended, without_tests, fail_link, changeover_order, changeover_of, with_changeover, has_other, is_ordered, timed_changeover, changing, make_unavailable, begin, change_over, fail, begin_by_peer, fail_by_peer, lose, lose_each, judged, lifted_parts, concluded, changeover_acknowledgement, with_expiry, with_changeover_acknowledged, complete_if, fail_by_order, complete_by_order, on_changeover_order, on_changeover_acknowledgement, on_changeover_timer, WholeQueues, whole}
+use Rattle.exchange_rules.proofs.Basics.{◌≡◌, ℕ, Bool, true, false, ◌&&◌, not, List, [], ◌∷◌, Option, Some, None, refl, ◌∙◌, if◌then◌else◌, and_parts}
+use Rattle.exchange_rules.proofs.Definitions.{Message, flow_of, Cause, LostUnconfirmed, after_failure, Handled, Ignored, FailureReason, ChangeoverTimer, Configuration, Running, Standing, completed, acknowledged, failed, begun_by_peer, Changeover, Parts, Node, Found, with_parts, answer, is_link, link_at, links_with, down, in_service, facts, link_of, no_room, send, set_of, is_failed, suspended, without_tests, fail_link, changeover_order, changeover_of, with_changeover, has_other, is_ordered, timed_changeover, changing, make_unavailable, begin, change_over, fail, begin_by_peer, fail_by_peer, lose, lose_each, judged, lifted_parts, concluded, changeover_acknowledgement, with_expiry, with_changeover_acknowledged, complete_if, fail_by_order, complete_by_order, on_changeover_order, on_changeover_acknowledgement, on_changeover_timer, WholeQueues, whole, bar, barred, timed_bar, bars, expiry_notice, ends_wait, unbarred, broken_if, once_more, note, flagged, Notice, is_barred, awaits_incomplete, stays_awaited, expired, lost_any, clear_timer, with_order, is_late, order_late, asking, is_unasked, has_way}
 use Rattle.signalling_types.specs.declared.notice.Notice.TheVariants as notices
+use Rattle.signalling_types.specs.declared.notice.Unbarring.TheVariants as unbarring
 use Rattle.signalling_types.specs.declared.notice.FailureReason.TheVariants as reasons
 use Rattle.signalling_types.specs.declared.notice.ChangeoverTimer.TheVariants as which
 use Rattle.timers.specs.declared.name.TimerName.TheVariants as name
 use Rattle.timers.specs.declared.name.RouteTimer.TheVariants as of_set
 use Rattle.exchange_rules.proofs.Places.{with_flows-fits, lifted-fits}
-use Rattle.exchange_rules.proofs.Steps.{AreTimed, AreHeld, IsOfSteps, sends-of, either-steps, either_done-steps}
-use Rattle.exchange_rules.proofs.SteppingTimers.{set-timed, clear-timed, clear_set-timed}
+use Rattle.exchange_rules.proofs.Steps.{AreTimed, AreHeld, IsTold, IsOfSteps, sends-of, either-steps, either_done-steps}
+use Rattle.exchange_rules.proofs.SteppingTimers.{same-timed, set-timed, clear-timed, clear_set-timed}
 use Rattle.exchange_rules.proofs.SteppingMessages.{send_routed-steps, send_each-steps}
+use Rattle.std.proofs.lemmas.Bool.{not-true}
 
 -- ---- the flows that a changeover holds
 
@@ -49,6 +51,38 @@ fail-links c link why n = failed-links c (in_service n.parts link) link why n
 pub timed_changeover-timed : (c : Configuration) (ordered : Bool) (link : ℕ) (r : Running) → AreTimed r (timed_changeover c ordered link r)
 timed_changeover-timed c true link r = set-timed (name.T2 link) c.timers.t2 r (λ l e. cc)
 timed_changeover-timed c false link r = set-timed (name.T1 link) c.timers.t1 r (λ l e. cc)
+
+-- ---- a link that is barred, and the end of the wait for its answer
+
+pub timed_bar-timed : (ticks : Option ℕ) (is_barred : Bool) (link : ℕ) (r : Running) → AreTimed r (timed_bar ticks is_barred link r)
+timed_bar-timed (Some ticks) true link r = set-timed (name.T2 link) ticks r (λ l e. cc)
+timed_bar-timed (Some ticks) false link r = same-timed r
+timed_bar-timed None is_barred link r = same-timed r
+
+-- the changeover is complete, and an answer isn't awaited that wasn't
+pub expired-complete : (bars : Bool) (st : Standing) → (expired bars which.T2 st).incomplete ≡ false
+expired-complete bars st = by (stays_awaited bars st)
+  where
+    by : (b : Bool) → (if b then completed st else acknowledged st).incomplete ≡ false
+    by true = refl
+    by false = refl
+
+pub expired-awaited : (bars : Bool) (st : Standing) → (expired bars which.T2 st).awaited ≡ true → st.awaited ≡ true
+expired-awaited bars st = by (stays_awaited bars st)
+  where
+    by : (b : Bool) → (if b then completed st else acknowledged st).awaited ≡ true → st.awaited ≡ true
+    by true e = e
+    by false e = absurd cc
+
+pub expiry-told : (c : Configuration) (st : Standing) (link : ℕ) (p : Parts) → lost_any p ≡ true → IsTold (expiry_notice c which.T2 st link) p
+expiry-told c st link p lost = by (bars c && not st.incomplete)
+  where
+    by : (b : Bool) → IsTold (if b then notices.Unbarred unbarring.T2 link else notices.Expired which.T2 link) p
+    by true = record { other = refl; lost = λ f. lost; late = λ f. absurd cc }
+    by false = record { other = refl; lost = λ f. lost; late = λ f. absurd cc }
+
+pub barred-complete : (st : Standing) → is_barred st ≡ true → st.incomplete ≡ false
+barred-complete st e = not-true st.incomplete (and_parts (not st.incomplete) st.awaited e).0
 
 module _ {c : Configuration} {Own Counts : ℕ → Type 0} {R : Node WholeQueues → Node WholeQueues → Type 0} (s : IsOfSteps c Own Counts R) where
   -- ---- a link fails
@@ -104,7 +138,9 @@ module _ {c : Configuration} {Own Counts : ℕ → Type 0} {R : Node WholeQueues
   -- ---- a changeover ends
 
   lose-steps : (m : Message) (n : Node WholeQueues) → R n (with_parts n (lose LostUnconfirmed m n.parts))
-  lose-steps m n = s.both _ _ _ (s.lost n) (s.noted (notices.Lost LostUnconfirmed (flow_of m).point (flow_of m).sls) _ (record { other = refl; lost = λ f. refl; late = λ f. absurd cc }))
+  lose-steps m n =
+      s.both _ _ _ (s.both _ _ _ (s.lost n) (s.noted (notices.Lost LostUnconfirmed (flow_of m).point (flow_of m).sls) _ (record { other = refl; lost = λ f. refl; late = λ f. absurd cc })))
+      (s.counted (once_more n.parts.messages_lost) n.parts.times_broken _)
 
   lose_each-steps : (ms : List Message) (n : Node WholeQueues) → R n (with_parts n (lose_each ms n.parts))
   lose_each-steps [] n = s.none n
@@ -114,6 +150,12 @@ module _ {c : Configuration} {Own Counts : ℕ → Type 0} {R : Node WholeQueues
   judged-steps true n = s.none n
   judged-steps false n = s.lost n
 
+  broken-steps : (breaks : Bool) (n : Node WholeQueues) → R n (with_parts n (broken_if breaks n.parts))
+  broken-steps breaks n = s.counted n.parts.messages_lost (if breaks then once_more n.parts.times_broken else n.parts.times_broken) n
+
+  pub bar-steps : (link : ℕ) (n : Node WholeQueues) → R n (bar whole c link n)
+  bar-steps link n = s.timed _ n (timed_bar-timed c.timers.t2_bar (awaits_incomplete (changeover_of n.parts link)) link n.parts.timers)
+
   lifted-steps : (link : ℕ) (n : Node WholeQueues) → R n (with_parts n (lifted_parts link n.parts))
   lifted-steps link n =
       s.both _ _ _ (s.holding _ n (record { fits = lifted-fits c n.parts.holds (Changeover link) }))
@@ -122,8 +164,10 @@ module _ {c : Configuration} {Own Counts : ℕ → Type 0} {R : Node WholeQueues
   pub concluded-steps : (link : ℕ) (found : Found) (n : Node WholeQueues) → R n (with_parts n (concluded link found n.parts))
   concluded-steps link found n =
       let loses : Node WholeQueues = with_parts n (lose_each found.lost n.parts) in
+      let judges : Node WholeQueues = with_parts loses (judged found.is_reasonable loses.parts) in
       s.both _ _ _ (lose_each-steps found.lost n)
-      (s.both _ _ _ (judged-steps found.is_reasonable loses) (lifted-steps link (with_parts loses (judged found.is_reasonable loses.parts))))
+      (s.both _ _ _ (judged-steps found.is_reasonable loses)
+      (s.both _ _ _ (broken-steps found.is_wrong judges) (lifted-steps link (with_parts judges (broken_if found.is_wrong judges.parts)))))
 
   -- a changeover ends that wasn't complete, or was
   pub ended-steps : (incomplete : Bool) (link : ℕ) (number : Option ℕ) (st : Standing) (n : Node WholeQueues) → (changeover_of n.parts link).incomplete ≡ incomplete
@@ -145,9 +189,10 @@ module _ {c : Configuration} {Own Counts : ℕ → Type 0} {R : Node WholeQueues
 
   pub on_changeover_order-steps : (link : ℕ) (number : Option ℕ) (n : Node WholeQueues) → R n (on_changeover_order whole c link number n).left
   on_changeover_order-steps link number n =
-      let one : Node WholeQueues = fail_by_order whole c link n in
+      let fallen : Node WholeQueues = fail_by_order whole c link n in
+      let one : Node WholeQueues = bar whole c link fallen in
       let two : Node WholeQueues = complete_by_order whole c link number one in
-      s.both _ _ _ (fail_by_order-steps link n)
+      s.both _ _ _ (s.both _ _ _ (fail_by_order-steps link n) (bar-steps link fallen))
       (s.both _ _ _ (complete_by_order-steps link number one) (send_routed-steps (sends-of s) (changeover_acknowledgement c link (whole.last_accepted two.queues link)) two))
 
   acknowledged-steps : (link : ℕ) (number : Option ℕ) (n : Node WholeQueues)
@@ -165,17 +210,52 @@ module _ {c : Configuration} {Own Counts : ℕ → Type 0} {R : Node WholeQueues
   -- ---- a timer of the changeover ran out
 
   expired-steps : (timer : ChangeoverTimer) (link : ℕ) (n : Node WholeQueues)
-      → R n (complete_if whole c (changeover_of n.parts link).incomplete link None (with_parts n (with_expiry timer link n.parts)))
+      → R n (complete_if whole c (changeover_of n.parts link).incomplete link None (with_parts n (with_expiry c timer link (barred c link n.parts))))
   expired-steps which.T1 link n =
-      let noted : Node WholeQueues = with_parts n (record n.parts { notices = (with_expiry which.T1 link n.parts).notices }) in
-      s.both _ _ _ (s.noted (notices.Expired which.T1 link) n (record { other = refl; lost = λ f. absurd cc; late = λ f. absurd cc }))
-      (ended-steps (changeover_of n.parts link).incomplete link None (completed (changeover_of n.parts link)) noted refl refl (λ a. a))
+      let first : Node WholeQueues = bar whole c link n in
+      let noted : Node WholeQueues = with_parts first (note (notices.Expired which.T1 link) first.parts) in
+      s.both _ _ _ (bar-steps link n)
+      (s.both _ _ _ (s.noted (notices.Expired which.T1 link) first (record { other = refl; lost = λ f. absurd cc; late = λ f. absurd cc }))
+      (ended-steps (changeover_of n.parts link).incomplete link None (completed (changeover_of n.parts link)) noted refl refl (λ a. a)))
   expired-steps which.T2 link n =
-      let noted : Node WholeQueues = with_parts n (record n.parts { notices = (with_expiry which.T2 link n.parts).notices; times_lost = (with_expiry which.T2 link n.parts).times_lost }) in
-      s.both _ _ _ (s.both _ _ _ (s.lost n) (s.noted (notices.Expired which.T2 link) _ (record { other = refl; lost = λ f. refl; late = λ f. absurd cc })))
-      (ended-steps (changeover_of n.parts link).incomplete link None (acknowledged (changeover_of n.parts link)) noted refl refl (λ a. absurd cc))
+      let st : Standing = changeover_of n.parts link in
+      let first : Node WholeQueues = bar whole c link n in
+      let loses : Node WholeQueues = with_parts first (flagged first.parts) in
+      let noted : Node WholeQueues = with_parts loses (note (expiry_notice c which.T2 st link) loses.parts) in
+      let breaks : Node WholeQueues = with_parts noted (broken_if (ends_wait c which.T2 st) noted.parts) in
+      s.both _ _ _ (bar-steps link n)
+      (s.both _ _ _ (s.lost first)
+      (s.both _ _ _ (s.noted (expiry_notice c which.T2 st link) loses (expiry-told c st link loses.parts refl))
+      (s.both _ _ _ (broken-steps (ends_wait c which.T2 st) noted)
+      (ended-steps st.incomplete link None (expired (bars c) which.T2 st) breaks refl (expired-complete (bars c) st) (expired-awaited (bars c) st)))))
 
   pub on_changeover_timer-steps : (timer : ChangeoverTimer) (link : ℕ) (n : Node WholeQueues) → R n (on_changeover_timer whole c timer link n)
   on_changeover_timer-steps timer link n =
-      let done : Node WholeQueues = complete_if whole c (changeover_of n.parts link).incomplete link None (with_parts n (with_expiry timer link n.parts)) in
+      let done : Node WholeQueues = complete_if whole c (changeover_of n.parts link).incomplete link None (with_parts n (with_expiry c timer link (barred c link n.parts))) in
       either-steps (sends-of s) (is_link n.parts link) n done n (expired-steps timer link n) (s.none n)
+
+  -- ---- the operator lets a link open
+
+  pub unbarred-steps : (link : ℕ) (n : Node WholeQueues) → is_barred (changeover_of n.parts link) ≡ true → R n (with_parts n (unbarred link n.parts))
+  unbarred-steps link n barred =
+      let notice : Notice = notices.Unbarred unbarring.Operator link in
+      let loses : Node WholeQueues = with_parts n (flagged n.parts) in
+      let noted : Node WholeQueues = with_parts loses (note notice loses.parts) in
+      let breaks : Node WholeQueues = with_parts noted (broken_if true noted.parts) in
+      let stopped : Node WholeQueues = with_parts breaks (record breaks.parts { timers = clear_timer (name.T2 link) breaks.parts.timers }) in
+      s.both _ _ _ (s.lost n)
+      (s.both _ _ _ (s.noted notice loses (record { other = refl; lost = λ f. refl; late = λ f. absurd cc }))
+      (s.both _ _ _ (broken-steps true noted)
+      (s.both _ _ _ (s.timed _ breaks (clear-timed (name.T2 link) n.parts.timers (λ l e. cc)))
+      (s.answered link (acknowledged (changeover_of n.parts link)) stopped (barred-complete (changeover_of n.parts link) barred) refl (λ a. absurd cc)))))
+
+  -- ---- an order goes out late
+
+  pub asks-steps : (link : ℕ) (n : Node WholeQueues) → is_late c link n.parts ≡ true → R n (order_late whole c link n)
+  asks-steps link n late =
+      let stands : Node WholeQueues = with_parts n (with_changeover link (with_order (changeover_of n.parts link)) n.parts) in
+      let stops : Node WholeQueues = with_parts stands (record stands.parts { timers = clear_timer (name.T1 link) stands.parts.timers }) in
+      s.both _ _ _ (s.asked link n (and_parts (is_unasked (changeover_of n.parts link)) (has_way c link n.parts) late).0)
+      (s.both _ _ _ (s.timed _ stands (clear-timed (name.T1 link) n.parts.timers (λ l e. cc)))
+      (s.both _ _ _ (s.timed _ stops (set-timed (name.T2 link) c.timers.t2 stops.parts.timers (λ l e. cc)))
+      (send_routed-steps (sends-of s) (changeover_order c link (whole.last_accepted n.queues link)) (with_parts n (asking c link n.parts)))))

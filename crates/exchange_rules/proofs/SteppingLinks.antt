@@ -1,6 +1,6 @@
 -- Links that open, align, fail and go, and a tick: each rule is made of steps.
 use Rattle.exchange_rules.proofs.Basics.{◌≡◌, ◌≢◌, ◌<◌, ◌≤◌, ℕ, Bool, true, false, ◌&&◌, not, List, length, refl, ap, ◌∙◌, arith, if◌then◌else◌, ⊎_elim, cases_lt, get_or_past, get_or-set_same, get_or-set_other, length-set, inl, sym, subst}
-use Rattle.exchange_rules.proofs.Definitions.{Configuration, Handled, Ignored, FailureReason, LinkStatus, Action, Input, Status, Expiry, LinkTimer, Transition, acts_on, Link, down_link, is_down, is_in_service, stepped, after_failure, may_restart, may_open, open_link, association_up, fail_if_up, end_association, association_down, set_active, activate, deactivate, Parts, Node, Done, with_parts, answer, refuse, is_link, link_at, links_with, down, in_service, facts, set_of, with_set_reset, has_other, changeover_of, fail, step_on, enters, enters_traffic, begun_anew_if, moved_on, advance, serve_status, act_by_status, on_link_status, act_by_timer, run_out, WholeQueues, whole, become_busy, end_busy, in_outage, tells_outage, tells_recovery, let_back, begin_outage, hear_outage, end_outage, Changeover, take_step, test_if}
+use Rattle.exchange_rules.proofs.Definitions.{Configuration, Handled, Ignored, FailureReason, LinkStatus, Action, Input, Status, Expiry, LinkTimer, Transition, acts_on, Link, down_link, is_down, is_in_service, stepped, after_failure, may_restart, may_open, open_link, association_up, fail_if_up, end_association, association_down, set_active, activate, deactivate, Parts, Node, Done, with_parts, answer, refuse, is_link, link_at, links_with, down, in_service, facts, set_of, with_set_reset, has_other, changeover_of, fail, step_on, enters, enters_traffic, begun_anew_if, moved_on, advance, serve_status, act_by_status, on_link_status, act_by_timer, run_out, WholeQueues, whole, become_busy, end_busy, in_outage, tells_outage, tells_recovery, let_back, begin_outage, hear_outage, end_outage, Changeover, take_step, test_if, release_bar, is_barred, unbarred}
 use Rattle.signalling_types.specs.declared.cause.Cause.TheVariants as causes
 use Rattle.signalling_types.specs.declared.notice.FailureReason.TheVariants as reasons
 use Rattle.m2pa_codec.specs.declared.status.LinkStatus.TheVariants as says
@@ -8,7 +8,7 @@ use Rattle.link.specs.declared.action.Action.TheVariants as act
 use Rattle.node_links.specs.NodeLinks.{link_in}
 use Rattle.exchange_rules.specs.LawsOfCauses.{fails_by}
 use Rattle.exchange_rules.proofs.Serving.{serves-in, fails-up, failing-timer}
-use Rattle.exchange_rules.proofs.Steps.{with_busy, without_busy, either_done-steps, Deed, IsOfDeeds, LinkFails, LinkOpens, HoldsEnd}
+use Rattle.exchange_rules.proofs.Steps.{with_busy, without_busy, either_done-steps, Deed, IsOfDeeds, LinkFails, LinkOpens, HoldsEnd, WaitEnds}
 use Rattle.exchange_rules.proofs.Outages.{ended-serves, begun-serves, becomes-busy, back-serves, back-in, outage-set, outage-serves, recovery-out, out-serves}
 use Rattle.exchange_rules.proofs.OwnRoutes.{reset-sure}
 use Rattle.exchange_rules.proofs.ResetFirst.{reset-first}
@@ -253,6 +253,18 @@ module _ {c : Configuration} {Own Counts : ℕ → Type 0} {May : Deed → Type 
   pub activate-steps : (emergency : Bool) (link : ℕ) (n : Node WholeQueues) → R n (activate whole c emergency link n).left
   activate-steps emergency link n =
       either_done-steps s.sends (is_link n.parts link) n (answer Handled (set_active whole c true emergency link n)) (refuse causes.NoSuchName n) (set_active-steps true emergency link n) (s.sends.none n)
+
+  pub release_bar-steps : (link : ℕ) (n : Node WholeQueues) → May (WaitEnds link) → R n (release_bar whole c link n).left
+  release_bar-steps link n may =
+      either_done-steps s.sends (is_link n.parts link) n (if is_barred (changeover_of n.parts link) then freed else answer Ignored n) (refuse causes.NoSuchName n)
+      (by (is_barred (changeover_of n.parts link)) refl) (s.sends.none n)
+    where
+      freed : Done WholeQueues
+      freed = answer Handled (with_parts n (unbarred link n.parts))
+
+      by : (barred : Bool) → is_barred (changeover_of n.parts link) ≡ barred → R n (if barred then freed else answer Ignored n).left
+      by true e = s.releases link n e may
+      by false e = s.sends.none n
 
   pub deactivate-steps : (link : ℕ) (n : Node WholeQueues) → May (LinkFails link reasons.Operator) → R n (deactivate whole c link n).left
   deactivate-steps link n may =

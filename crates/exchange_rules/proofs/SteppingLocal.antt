@@ -12,15 +12,17 @@ use Rattle.exchange_rules.specs.Conserving.{is_word}
 use Rattle.exchange_rules.specs.LawsOfCauses.{Word, word_read, word_to, word_of, ended_by, ordered_by}
 use Rattle.exchange_rules.specs.LawsOfMessages.{goes_here, is_heard, is_heard_here}
 use Rattle.exchange_rules.specs.LawsOfUserParts.{is_lacking, lacks_part}
-use Rattle.exchange_rules.proofs.Steps.{either_done-steps, Deed, LinkFails, HoldsEnd, Lacking, IsOfDeeds, TitlesChange, brings_back, SetReturns}
+use Rattle.exchange_rules.proofs.Steps.{either_done-steps, Deed, LinkFails, HoldsEnd, Lacking, IsOfDeeds, TitlesChange, brings_back, SetReturns, WaitEnds}
 use Rattle.exchange_rules.proofs.SteppingMessages.{answer_no_user_part-steps, send_routed-steps, on_route_test-steps, on_route_status-steps, transfer-steps}
 use Rattle.exchange_rules.proofs.SteppingRelaying.{on_unitdata-steps, says_here}
 use Rattle.exchange_rules.proofs.SteppingTests.{on_test_answer-steps}
+use Rattle.exchange_rules.specs.LawsOfWaits.{answered_by}
 
 -- what a word may do
 pub record Allows (c : Configuration) (May : Deed → Type 0) (word : Word) : Type 0 where
   pub ends : (procedure : Procedure) → ended_by c word.point word.says ≡ Some procedure → May (HoldsEnd procedure)
   pub fails : (link : ℕ) → ordered_by c word.point word.says ≡ Some link → May (LinkFails link reasons.Changeover)
+  pub answers : (link : ℕ) → answered_by c word.point word.says ≡ Some link → May (WaitEnds link)
 
 -- what a message may do, if one came
 pub record AllowsMessage (c : Configuration) (May : Deed → Type 0) (m : Option Message) : Type 0 where
@@ -67,9 +69,9 @@ module _ {c : Configuration} {Own Counts : ℕ → Type 0} {May : Deed → Type 
   do_order-steps None number n fails ends = s.sends.none n
 
   do_acknowledgement-steps : (link number : Option ℕ) (n : Node WholeQueues) → ((procedure : Procedure) → option_map Changeover link ≡ Some procedure → May (HoldsEnd procedure))
-      → R n (do_acknowledgement whole c link number n).left
-  do_acknowledgement-steps (Some link) number n ends = s.acknowledges link number n (ends (Changeover link) refl)
-  do_acknowledgement-steps None number n ends = s.sends.none n
+      → ((its : ℕ) → link ≡ Some its → May (WaitEnds its)) → R n (do_acknowledgement whole c link number n).left
+  do_acknowledgement-steps (Some link) number n ends waits = s.acknowledges link number n (ends (Changeover link) refl) (waits link refl)
+  do_acknowledgement-steps None number n ends waits = s.sends.none n
 
   on_changeback_acknowledgement-steps : (set : Option ℕ) (code : ℕ) (n : Node WholeQueues)
       → ((procedure : Procedure) → option_map (λ (its : ℕ). Code its code) set ≡ Some procedure → May (HoldsEnd procedure)) → R n (on_changeback_acknowledgement whole c set code n).left
@@ -86,12 +88,14 @@ module _ {c : Configuration} {Own Counts : ℕ → Type 0} {May : Deed → Type 
       let may_it : Allows c May (record { point = point; says = ExtendedChangeoverOrder slc number }) = may _ refl in
       do_order-steps (link_with_code c point slc) (Some number) n may_it.fails may_it.ends
   do_management-steps (Ok (ExtendedChangeoverAcknowledgement slc number)) point n may =
-      do_acknowledgement-steps (link_with_code c point slc) (Some number) n (may (record { point = point; says = ExtendedChangeoverAcknowledgement slc number }) refl).ends
+      let may_it : Allows c May (record { point = point; says = ExtendedChangeoverAcknowledgement slc number }) = may _ refl in
+      do_acknowledgement-steps (link_with_code c point slc) (Some number) n may_it.ends may_it.answers
   do_management-steps (Ok (EmergencyChangeoverOrder slc)) point n may =
       let may_it : Allows c May (record { point = point; says = EmergencyChangeoverOrder slc }) = may _ refl in
       do_order-steps (link_with_code c point slc) None n may_it.fails may_it.ends
   do_management-steps (Ok (EmergencyChangeoverAcknowledgement slc)) point n may =
-      do_acknowledgement-steps (link_with_code c point slc) None n (may (record { point = point; says = EmergencyChangeoverAcknowledgement slc }) refl).ends
+      let may_it : Allows c May (record { point = point; says = EmergencyChangeoverAcknowledgement slc }) = may _ refl in
+      do_acknowledgement-steps (link_with_code c point slc) None n may_it.ends may_it.answers
   do_management-steps (Ok (ChangebackDeclaration slc code)) point n may = send_routed-steps s.sends (changeback_acknowledgement c point slc code) n
   do_management-steps (Ok (ChangebackAcknowledgement slc code)) point n may =
       on_changeback_acknowledgement-steps (set_place c point) code n (may (record { point = point; says = ChangebackAcknowledgement slc code }) refl).ends

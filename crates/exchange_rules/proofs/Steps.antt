@@ -2,13 +2,14 @@
 -- relation between two nodes that holds of each step, and of one after another, holds of every rule, every event and
 -- every take (`Stepping..`, `Rules`).
 use Rattle.exchange_rules.proofs.Basics.{◌≡◌, ◌⊎◌, ◌&&◌, not, ℕ, Bool, true, false, refl, List, [], length, Option, Some, find, if◌then◌else◌, slice_index_or, option_map}
-use Rattle.exchange_rules.proofs.Definitions.{set_timer, has_other, set_of, Message, flow_of, Notice, FailureReason, Configuration, Input, Go, Transition, acts_on, Sending, LinkTestValue, TimerName, L7, Running, is_running, is_due, Route, RouteStatus, Allowed, leads_by, ToldTable, is_own_point, shape_of, Link, Standing, may_restart, with_code, HoldSet, Parts, Node, Done, with_parts, lost_any, late_any, is_link, link_at, links_with, with_link, down, in_service, recovered, with_ready, LinkStatus, note, flagged, flagged_late, link_of, queue_on, waits, hold, is_adjacent, test_answer, changeover_of, with_changeover, fail_link, declaration, with_titles, step_on, timed_busy, timed_busy_ended, may_open, without_association, open_link, Carrying, carries, numbers, timed_parts, SendsMessage, next_message, after_sending, WholeQueues, whole, HasHoldsFor, tells_of_loss, tells_of_lateness, ChangeoverTimer, Facts, Procedure, Changeover, Code, lifted, fail, on_changeover_order, on_changeover_acknowledgement, on_changeover_timer, hold_flows, freed, held_by_rerouting, TitlesValue, in_outage, put_out, let_back, tests_links, link_test, enters_traffic, is_first_test, with_test_passed}
+use Rattle.exchange_rules.proofs.Definitions.{set_timer, has_other, set_of, Message, flow_of, Notice, FailureReason, Configuration, Input, Go, Transition, acts_on, Sending, LinkTestValue, TimerName, L7, Running, is_running, is_due, Route, RouteStatus, Allowed, leads_by, ToldTable, is_own_point, shape_of, Link, Standing, may_restart, with_code, HoldSet, Parts, Node, Done, with_parts, lost_any, late_any, is_link, link_at, links_with, with_link, down, in_service, recovered, with_ready, LinkStatus, note, flagged, flagged_late, link_of, queue_on, waits, hold, is_adjacent, test_answer, changeover_of, with_changeover, fail_link, declaration, with_titles, step_on, timed_busy, timed_busy_ended, may_open, without_association, open_link, Carrying, carries, numbers, timed_parts, SendsMessage, next_message, after_sending, WholeQueues, whole, HasHoldsFor, tells_of_loss, tells_of_lateness, ChangeoverTimer, Facts, Procedure, Changeover, Code, lifted, fail, on_changeover_order, on_changeover_acknowledgement, on_changeover_timer, is_barred, unbarred, hold_flows, freed, held_by_rerouting, TitlesValue, in_outage, put_out, let_back, tests_links, link_test, enters_traffic, is_first_test, with_test_passed, is_unasked, with_order, is_late, order_late}
 use Rattle.std.specs.Prelude.{drop, map, Ok}
 use Rattle.timers.specs.declared.name.TimerName.TheVariants as name
 use Rattle.exchange_rules.proofs.TimerSettings.{AreSet}
 use Rattle.exchange_rules.specs.Testing.{is_unsure}
 use Rattle.signalling_types.specs.declared.notice.Notice.TheVariants as notices
 use Rattle.signalling_types.specs.declared.notice.FailureReason.TheVariants as reasons
+use Rattle.signalling_types.specs.declared.notice.ChangeoverTimer.TheVariants as which
 
 -- timers change, but none that watches a link: the same names exist, each L7 runs that ran, and no timer becomes due
 pub record AreTimed (r s : Running) : Type 0 where
@@ -26,6 +27,7 @@ is_failure (notices.Failed link why) = true
 is_failure (notices.Lost cause point sls) = false
 is_failure (notices.Unsent cause point) = false
 is_failure (notices.Expired timer link) = false
+is_failure (notices.Unbarred by link) = false
 is_failure (notices.Refused cause link) = false
 is_failure (notices.Frame fault link) = false
 is_failure (notices.Late timer number) = false
@@ -125,6 +127,7 @@ pub record IsOfSteps (c : Configuration) (Own Counts : ℕ → Type 0) (R : Node
   -- ---- parts that concern no link
   pub noted : (notice : Notice) (n : Node WholeQueues) → IsTold notice n.parts → R n (with_parts n (note notice n.parts))
   pub lost : (n : Node WholeQueues) → R n (with_parts n (flagged n.parts))
+  pub counted : (messages broken : ℕ) (n : Node WholeQueues) → R n (with_parts n (record n.parts { messages_lost = messages; times_broken = broken }))
   pub late : (n : Node WholeQueues) → R n (with_parts n (flagged_late n.parts))
   pub timed : (r : Running) (n : Node WholeQueues) → AreTimed n.parts.timers r → R n (with_parts n (record n.parts { timers = r }))
   pub holding : (h : HoldSet) (n : Node WholeQueues) → AreHeld c n.parts.holds h → R n (with_parts n (record n.parts { holds = h }))
@@ -142,6 +145,9 @@ pub record IsOfSteps (c : Configuration) (Own Counts : ℕ → Type 0) (R : Node
       → R n (record { queues = whole.completed n.queues link number; parts = with_changeover link s n.parts })
   pub answered : (link : ℕ) (s : Standing) (n : Node WholeQueues) → (changeover_of n.parts link).incomplete ≡ false → s.incomplete ≡ false
       → (s.awaited ≡ true → (changeover_of n.parts link).awaited ≡ true) → R n (with_parts n (with_changeover link s n.parts))
+  -- an order about it goes out late, that didn't before
+  pub asked : (link : ℕ) (n : Node WholeQueues) → is_unasked (changeover_of n.parts link) ≡ true
+      → R n (with_parts n (with_changeover link (with_order (changeover_of n.parts link)) n.parts))
   -- ---- a link loses its association, opens, takes a step of its alignment, hears that its peer is busy and that it
   -- isn't, accepts User Data, and sends
   pub linked : (link : ℕ) (x : Link) (n : Node WholeQueues) → IsSameLink (link_at n.parts link) x → MayBeOut c (link_at n.parts link) x
@@ -216,6 +222,7 @@ pub not-both : (notice : Notice) → tells_of_loss notice ≡ true → tells_of_
 not-both (notices.Lost cause point sls) e f = absurd cc
 not-both (notices.Unsent cause point) e f = absurd cc
 not-both (notices.Expired timer link) e f = absurd cc
+not-both (notices.Unbarred by link) e f = absurd cc
 not-both (notices.Refused cause link) e f = absurd cc
 not-both (notices.Frame fault link) e f = absurd cc
 not-both (notices.Failed link why) e f = absurd cc
@@ -226,6 +233,7 @@ loss-other (notices.Failed link why) e = absurd cc
 loss-other (notices.Lost cause point sls) e = refl
 loss-other (notices.Unsent cause point) e = refl
 loss-other (notices.Expired timer link) e = refl
+loss-other (notices.Unbarred by link) e = refl
 loss-other (notices.Refused cause link) e = refl
 loss-other (notices.Frame fault link) e = refl
 loss-other (notices.Late timer number) e = refl
@@ -235,6 +243,7 @@ lateness-other (notices.Late timer number) e = refl
 lateness-other (notices.Lost cause point sls) e = absurd cc
 lateness-other (notices.Unsent cause point) e = absurd cc
 lateness-other (notices.Expired timer link) e = absurd cc
+lateness-other (notices.Unbarred by link) e = absurd cc
 lateness-other (notices.Refused cause link) e = absurd cc
 lateness-other (notices.Frame fault link) e = absurd cc
 lateness-other (notices.Failed link why) e = absurd cc
@@ -247,6 +256,7 @@ pub record IsOfSends (c : Configuration) (R : Node WholeQueues → Node WholeQue
   pub routed : (link : ℕ) (m : Message) (n : Node WholeQueues) → link_of c n.parts (flow_of m) ≡ Some link → R n (queue_on whole c link m n)
   pub noted : (notice : Notice) (n : Node WholeQueues) → IsTold notice n.parts → R n (with_parts n (note notice n.parts))
   pub lost : (notice : Notice) (n : Node WholeQueues) → tells_of_loss notice ≡ true → R n (with_parts n (flagged (note notice n.parts)))
+  pub counted : (messages broken : ℕ) (n : Node WholeQueues) → R n (with_parts n (record n.parts { messages_lost = messages; times_broken = broken }))
 
 abbrev pub sends-of : {c : Configuration} {Own Counts : ℕ → Type 0} {R : Node WholeQueues → Node WholeQueues → Type 0} → IsOfSteps c Own Counts R → IsOfSends c R
 sends-of s = record {
@@ -255,16 +265,18 @@ sends-of s = record {
   routed = s.routed;
   noted = s.noted;
   lost = λ notice n e. s.both _ _ _ (s.lost n) (s.noted notice _ (record { other = loss-other notice e; lost = λ f. refl; late = λ f. absurd (not-both notice e f) }));
+  counted = s.counted;
 }
 
 -- what not every event may do: a link opens, or fails for a reason, a set comes back by a test, the holds of a
--- procedure end, a message for a user part that isn't here is counted, and translation rows or prohibited subsystems
+-- procedure end, the answer to an order isn't awaited any more, a message for a user part that isn't here is counted, and translation rows or prohibited subsystems
 -- change
 pub data Deed : Type 0 where
   LinkOpens : (link : ℕ) → Deed
   SetReturns : (set : ℕ) → Deed
   LinkFails : (link : ℕ) (why : FailureReason) → Deed
   HoldsEnd : (procedure : Procedure) → Deed
+  WaitEnds : (link : ℕ) → Deed
   Lacking : Deed
   TitlesChange : Deed
 
@@ -340,8 +352,10 @@ pub record IsOfDeeds (c : Configuration) (Own Counts : ℕ → Type 0) (May : De
   -- ---- a link fails, and its changeover goes on and ends
   pub fails : (link : ℕ) (why : FailureReason) (n : Node WholeQueues) → May (LinkFails link why) → down n.parts link ≡ false → R n (fail whole c link why n)
   pub orders : (link : ℕ) (number : Option ℕ) (n : Node WholeQueues) → May (LinkFails link reasons.Changeover) → May (HoldsEnd (Changeover link)) → R n (on_changeover_order whole c link number n).left
-  pub acknowledges : (link : ℕ) (number : Option ℕ) (n : Node WholeQueues) → May (HoldsEnd (Changeover link)) → R n (on_changeover_acknowledgement whole c link number n).left
-  pub expires : (timer : ChangeoverTimer) (link : ℕ) (n : Node WholeQueues) → May (HoldsEnd (Changeover link)) → R n (on_changeover_timer whole c timer link n)
+  pub acknowledges : (link : ℕ) (number : Option ℕ) (n : Node WholeQueues) → May (HoldsEnd (Changeover link)) → May (WaitEnds link) → R n (on_changeover_acknowledgement whole c link number n).left
+  pub expires : (timer : ChangeoverTimer) (link : ℕ) (n : Node WholeQueues) → May (HoldsEnd (Changeover link)) → (timer ≡ which.T2 → May (WaitEnds link)) → R n (on_changeover_timer whole c timer link n)
+  pub releases : (link : ℕ) (n : Node WholeQueues) → is_barred (changeover_of n.parts link) ≡ true → May (WaitEnds link) → R n (with_parts n (unbarred link n.parts))
+  pub asks : (link : ℕ) (n : Node WholeQueues) → is_late c link n.parts ≡ true → R n (order_late whole c link n)
   -- ---- flows that return are held, a code is free again, flows are rerouted, and a procedure ends all its holds
   pub returns : (before after : Facts) (code : Option ℕ) (link other : ℕ) (n : Node WholeQueues) → in_service n.parts link ≡ true → in_service n.parts other ≡ true
       → R n (hold_flows whole c before after code link other n)

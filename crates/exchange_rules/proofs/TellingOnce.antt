@@ -1,6 +1,6 @@
 -- Within T8 a point is told at most once that messages find no route; and it is told nothing without a link.
 use Rattle.exchange_rules.proofs.Basics.{◌≡◌, ◌<◌, inl, inr, ℕ, Bool, true, false, ◌&&◌, ◌||◌, not, nat_lt, length, Option, Some, None, is_some, refl, ap, sym, subst, ◌∙◌, arith, max, if◌then◌else◌, nat_tests, and_from}
-use Rattle.exchange_rules.proofs.Definitions.{RouteStatus, Done, answer, Handled, Ignored, facts, send_routed, send_route_status, answered_parts, Configuration, Message, dpc_of, flow_of, Cause, Refused, NoRoute, destination_place, Running, is_running, left-set, Prohibited, Node, with_parts, refuse, set_of, link_of, no_room, no_room_for, waits, is_destination, offer, may_tell, inhibited, is_led, prohibit, answer_no_route, send, route_message, HasAllPlaces, WholeQueues, whole}
+use Rattle.exchange_rules.proofs.Definitions.{RouteStatus, answer, Handled, Ignored, facts, send_routed, send_route_status, answered_parts, Configuration, Message, dpc_of, flow_of, Cause, Refused, NoRoute, destination_place, Running, is_running, left-set, Prohibited, Node, with_parts, refuse, set_of, link_of, no_room, no_room_for, waits, is_destination, offer, may_tell, inhibited, is_led, prohibit, answer_no_route, send, route_message, HasAllPlaces, WholeQueues, whole}
 use Rattle.signalling_types.specs.declared.cause.Cause.TheVariants as causes
 use Rattle.timers.specs.declared.name.TimerName.TheVariants.{T8}
 use Rattle.route_management.specs.Told.{answer_to_test, is_own_point}

@@ -135,6 +135,7 @@ module _ (c : Configuration) where
     routed = λ link m n e. same n _ refl refl refl;
     noted = λ notice n e. same n _ refl refl refl;
     lost = λ notice n e. same n _ refl refl refl;
+    counted = λ messages broken n. same n _ refl refl refl;
   }
 
   -- ---- one link changes, with timers of it

@@ -1,6 +1,6 @@
 -- Through all rules T10 runs for each route over a set in service that isn't allowed.
 use Rattle.exchange_rules.proofs.Basics.{◌≡◌, ◌≢◌, ◌<◌, ℕ, Bool, true, false, ◌&&◌, not, nat_lt, length, List, [], ◌∷◌, Option, Some, None, refl, ap, sym, ◌∙◌, arith, ⊎_elim, if◌then◌else◌, is_some, nat_tests, and_from}
-use Rattle.exchange_rules.proofs.Definitions.{period_of, Configuration, Message, FailureReason, ChangeoverTimer, Facts, opening, carries, completed, opened_by, is_in_service, Alignment, TimerName, NodeCounts, Running, is_running, set_timer, clear_timer, left-set, counts-set, counts-clear, Route, Parts, Node, with_parts, link_at, in_service, down, is_link, set_of, is_ordered, make_unavailable, changing, begin, change_over, begin_by_peer, fail_by_peer, fail_by_order, complete_by_order, complete_if, concluded, lose_each, judged, changeover_of, with_changeover, changeover_order, changeover_acknowledgement, on_changeover_order, with_changeover_acknowledged, with_expiry, hold_flows, held_by_rerouting, answer, Handled, Ignored, Found, WholeQueues, whole}
+use Rattle.exchange_rules.proofs.Definitions.{period_of, Configuration, Message, FailureReason, ChangeoverTimer, Facts, opening, carries, completed, opened_by, is_in_service, Alignment, TimerName, NodeCounts, Running, is_running, set_timer, clear_timer, left-set, counts-set, counts-clear, Route, Parts, Node, with_parts, link_at, in_service, down, is_link, set_of, is_ordered, make_unavailable, changing, begin, change_over, begin_by_peer, fail_by_peer, fail_by_order, complete_by_order, complete_if, concluded, lose_each, judged, changeover_of, with_changeover, changeover_order, changeover_acknowledgement, on_changeover_order, with_changeover_acknowledged, with_expiry, hold_flows, held_by_rerouting, answer, Handled, Ignored, Found, WholeQueues, whole, bar, barred, timed_bar, awaits_incomplete, asking}
 use Rattle.timers.specs.declared.name.TimerName.TheVariants as name
 use Rattle.signalling_types.specs.declared.notice.FailureReason.TheVariants as reasons
 use Rattle.signalling_types.specs.declared.notice.ChangeoverTimer.TheVariants as which
@@ -85,12 +85,21 @@ module _ (c : Configuration) where
       (both c lost stops _ (cleared (name.T1 link) lost (λ set destination e. cc))
       (both c stops done _ (same c stops done refl refl refl) (send_each-steps (sends c) found.queued_anew done)))
 
+  bar-tests : (link : ℕ) (n : Node WholeQueues) → Tests c n (bar whole c link n)
+  bar-tests link n = by c.timers.t2_bar (awaits_incomplete (changeover_of n.parts link))
+    where
+      by : (ticks : Option ℕ) (is_barred : Bool) → Tests c n (with_parts n (record n.parts { timers = timed_bar ticks is_barred link n.parts.timers }))
+      by (Some ticks) true = set-test c (name.T2 link) ticks n
+      by (Some ticks) false = same c n n refl refl refl
+      by None is_barred = same c n n refl refl refl
+
   orders-tests : (link : ℕ) (number : Option ℕ) (n : Node WholeQueues) → Tests c n (on_changeover_order whole c link number n).left
   orders-tests link number n =
-      let one : Node WholeQueues = fail_by_order whole c link n in
+      let fallen : Node WholeQueues = fail_by_order whole c link n in
+      let one : Node WholeQueues = bar whole c link fallen in
       let standing : Node WholeQueues = with_parts one (with_changeover link (completed (changeover_of one.parts link)) one.parts) in
       let two : Node WholeQueues = complete_by_order whole c link number one in
-      both c n one _ (ordered-tests (down n.parts link) link n)
+      both c n one _ (both c n fallen one (ordered-tests (down n.parts link) link n) (bar-tests link fallen))
       (both c one two _ (both c one standing two (same c one standing refl refl refl) (complete-tests (changeover_of one.parts link).incomplete link number standing))
       (send_routed-steps (sends c) (changeover_acknowledgement c link (whole.last_accepted two.queues link)) two))
 
@@ -104,16 +113,16 @@ module _ (c : Configuration) where
       both c n stops _ (cleared (name.T2 link) n (λ set destination e. cc))
       (both c stops next _ (same c stops next refl refl refl) (complete-tests (changeover_of n.parts link).incomplete link number next))
 
-  expiry-tests : (its : ChangeoverTimer) (link : ℕ) (n : Node WholeQueues) → Tests c n (with_parts n (with_expiry its link n.parts))
-  expiry-tests which.T1 link n = same c n _ refl refl refl
-  expiry-tests which.T2 link n = same c n _ refl refl refl
+  expiry-tests : (its : ChangeoverTimer) (link : ℕ) (n : Node WholeQueues) → Tests c n (with_parts n (with_expiry c its link (barred c link n.parts)))
+  expiry-tests which.T1 link n = both c n (bar whole c link n) _ (bar-tests link n) (same c (bar whole c link n) _ refl refl refl)
+  expiry-tests which.T2 link n = both c n (bar whole c link n) _ (bar-tests link n) (same c (bar whole c link n) _ refl refl refl)
 
   expires-tests : (is_there : Bool) (its : ChangeoverTimer) (link : ℕ) (n : Node WholeQueues)
-      → Tests c n (if is_there then complete_if whole c (changeover_of n.parts link).incomplete link None (with_parts n (with_expiry its link n.parts)) else n)
+      → Tests c n (if is_there then complete_if whole c (changeover_of n.parts link).incomplete link None (with_parts n (with_expiry c its link (barred c link n.parts))) else n)
   expires-tests false its link n = same c n n refl refl refl
   expires-tests true its link n =
-      both c n (with_parts n (with_expiry its link n.parts)) _ (expiry-tests its link n)
-      (complete-tests (changeover_of n.parts link).incomplete link None (with_parts n (with_expiry its link n.parts)))
+      let ran : Node WholeQueues = with_parts n (with_expiry c its link (barred c link n.parts)) in
+      both c n ran _ (expiry-tests its link n) (complete-tests (changeover_of n.parts link).incomplete link None ran)
 
   -- ---- flows are held
 
@@ -203,8 +212,18 @@ module _ (c : Configuration) where
     back = λ link n e may. both c n (with_parts n (recovering link n.parts)) _ (on-link c link _ n.parts.timers n (same-for link n.parts.timers) (λ h. h)) (same c _ _ refl refl refl);
     fails = λ link why n may up. fails-tests (in_service n.parts link) link why n;
     orders = λ link number n falls ends. orders-tests link number n;
-    acknowledges = λ link number n may. acknowledges-tests (changeover_of n.parts link).awaited link number n;
-    expires = λ its link n may. expires-tests (is_link n.parts link) its link n;
+    acknowledges = λ link number n may wait. acknowledges-tests (changeover_of n.parts link).awaited link number n;
+    expires = λ its link n may wait. expires-tests (is_link n.parts link) its link n;
+    releases = λ link n e wait.
+        let stops : Node WholeQueues = with_parts n (record n.parts { timers = clear_timer (name.T2 link) n.parts.timers }) in
+        both c n stops _ (cleared (name.T2 link) n (λ set destination f. cc)) (same c stops _ refl refl refl);
+    asks = λ link n e.
+        let stops : Node WholeQueues = with_parts n (record n.parts { timers = clear_timer (name.T1 link) n.parts.timers }) in
+        let times : Node WholeQueues = with_parts stops (record stops.parts { timers = set_timer (name.T2 link) c.timers.t2 stops.parts.timers }) in
+        let asks : Node WholeQueues = with_parts n (asking c link n.parts) in
+        both c n asks _
+        (both c n stops asks (cleared (name.T1 link) n (λ set destination f. cc)) (both c stops times asks (set-test c (name.T2 link) c.timers.t2 stops) (same c times asks refl refl refl)))
+        (send_routed-steps (sends c) (changeover_order c link (whole.last_accepted n.queues link)) asks);
     returns = λ before after code link other n e f. returns-tests before after code link other n;
     frees = λ set code n may.
         let stops : Node WholeQueues = with_parts n (record n.parts { timers = clear_timer (name.T4 set code) n.parts.timers }) in

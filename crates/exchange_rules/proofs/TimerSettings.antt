@@ -6,11 +6,12 @@ use Rattle.timers.specs.Timers.{is_same}
 use Rattle.timers.proofs.Same.{same_is, is_itself}
 use Rattle.timers.specs.declared.name.RouteTimer.{RouteTimer}
 use Rattle.timers.specs.declared.name.RouteTimer.TheVariants as of_set
-use Rattle.timers.specs.declared.name.TimerName.TheVariants.{T8, Slt1, Slt2}
+use Rattle.timers.specs.declared.name.TimerName.TheVariants.{T2, T8, Slt1, Slt2}
 use Rattle.link.specs.declared.action.LinkTimer.TheVariants as timer
 use Rattle.settings_rows.specs.declared.timer_ticks.TimerTicks.{TimerTicks}
 use Rattle.link.specs.declared.period.Period.TheVariants.{Fixed}
-use Rattle.exchange_rules.specs.TimerSettings.{setting_of, RunsBy}
+use Rattle.exchange_rules.specs.TimerSettings.{setting_of, barring, RunsBy}
+use Rattle.std.specs.Prelude.{unwrap_or}
 
 pub cases-name : (one other : TimerName) → (one ≡ other) ⊎ (one ≢ other)
 cases-name one other = by (is_same one other) refl
@@ -26,7 +27,7 @@ runs-both ticks its x y z e (inl f) = by e
   where
     by : RunsBy ticks its x y → RunsBy ticks its x z
     by (inl g) = inl (f ∙ g)
-    by (inr (inl g)) = inr (inl (g.0, f ∙ g.1))
+    by (inr (inl g)) = inr (inl (g.0, g.1, f ∙ g.2))
     by (inr (inr g)) = inr (inr (f ∙ g))
 runs-both ticks its x y z e (inr f) = inr f
 
@@ -69,19 +70,25 @@ module _ (c : Configuration) (E : ℕ → Type 0) where
   either-set true r s t e f = e
   either-set false r s t e f = f
 
-  -- one is set, if there is one of its name, by the ticks of a period
-  pub paced-set : (period : Period) (its : TimerName) (ticks : ℕ) (r : Running) → ticks ≡ setting_of (paced period c.timers) its → AreSet c E r (set_timer its ticks r)
-  paced-set period its ticks r e = record {
+  -- one is set, if there is one of its name, by the ticks of a period, or by the bar
+  chosen-set : (period : Period) (is_bar : Bool) (its : TimerName) (ticks : ℕ) (r : Running) → ticks ≡ setting_of (paced period (barring is_bar c.timers)) its → AreSet c E r (set_timer its ticks r)
+  chosen-set period is_bar its ticks r e = record {
     each = λ other. ⊎_elim (same other) (λ (apart : its ≢ other). inl (left-set_other its other ticks r apart)) (cases-name its other);
     inhibits = λ set destination h. inl (set-still its ticks r (T8 set destination) h);
   }
     where
       there : (has : Bool) → has_name r.counts its ≡ has → RunsBy c.timers its (r.left its) ((set_timer its ticks r).left its)
-      there true h = inr (inl (period, left-set its ticks r h ∙ ap (λ (n : ℕ). Some (max 1 n)) e))
+      there true h = inr (inl (period, is_bar, left-set its ticks r h ∙ ap (λ (n : ℕ). Some (max 1 n)) e))
       there false h = inr (inr ((set_timer its ticks r).only its (ap (λ (n : NodeCounts). has_name n its) (counts-set its ticks r) ∙ h)))
 
       same : (other : TimerName) → its ≡ other → RunsBy c.timers other (r.left other) ((set_timer its ticks r).left other)
       same other f = subst (λ (x : TimerName). RunsBy c.timers x (r.left x) ((set_timer its ticks r).left x)) f (there (has_name r.counts its) refl)
+
+  pub paced-set : (period : Period) (its : TimerName) (ticks : ℕ) (r : Running) → ticks ≡ setting_of (paced period c.timers) its → AreSet c E r (set_timer its ticks r)
+  paced-set period its ticks r e = chosen-set period false its ticks r e
+
+  pub bar-set : (link ticks : ℕ) (r : Running) → c.timers.t2_bar ≡ Some ticks → AreSet c E r (set_timer (T2 link) ticks r)
+  bar-set link ticks r e = chosen-set Fixed true (T2 link) ticks r (sym (ap (λ (bar : Option ℕ). unwrap_or bar c.timers.t2) e))
 
   pub set-set : (its : TimerName) (ticks : ℕ) (r : Running) → ticks ≡ setting_of c.timers its → AreSet c E r (set_timer its ticks r)
   set-set its ticks r e = paced-set Fixed its ticks r e

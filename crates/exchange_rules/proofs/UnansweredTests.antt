@@ -1,7 +1,7 @@
 -- Where nothing but ticks happens no link test goes on for ever: one that isn't answered is repeated once, and then its
 -- link fails.
 use Rattle.exchange_rules.proofs.Basics.{◌≡◌, ◌≢◌, ◌⊎◌, inl, inr, ◌≤◌, ◌<◌, ◌-◌, ◌+◌, ℕ, zero, suc, Bool, true, false, ◌&&◌, Option, Some, None, refl, ap, sym, ◌∙◌, subst, arith, max, ⊎_elim, cases_eq, cases_lt, length, nat_lt, if◌then◌else◌, get_or-set_same, get_or-set_other, get_or_past}
-use Rattle.exchange_rules.proofs.Definitions.{Configuration, Cause, Action, link_test, answer_ticks, tests_links, awaiting_test, with_test_failed, queue_if, send_test, repeat_test, Link, down_link, is_in_service, TimerName, Running, key_of, has_name, set_timer, counts-set, left-set, left-set_other, due_name, NodeCounts, after_due, due-left, left-ticked, one_less, ticked, Parts, Node, with_parts, is_link, link_at, in_service, no_room, tell_owed, release, act_by_timer, run_timer, run_due, run_next, run_times, with_timers, WholeQueues, whole, count_subsystems}
+use Rattle.exchange_rules.proofs.Definitions.{Configuration, Cause, Action, link_test, answer_ticks, tests_links, awaiting_test, with_test_failed, queue_if, send_test, repeat_test, Link, down_link, is_in_service, TimerName, Running, key_of, has_name, set_timer, counts-set, left-set, left-set_other, due_name, NodeCounts, after_due, due-left, left-ticked, one_less, ticked, Parts, Node, with_parts, is_link, link_at, in_service, no_room, tell_owed, release, act_by_timer, run_timer, run_due, run_next, run_times, with_timers, WholeQueues, whole, count_subsystems, order_all}
 use Rattle.std.specs.Prelude.{unwrap_or}
 use Rattle.timers.specs.declared.name.TimerName.TheVariants as name
 use Rattle.signalling_types.specs.declared.notice.ChangeoverTimer.TheVariants as which
@@ -13,7 +13,7 @@ use Rattle.exchange_rules.proofs.Eased.{ran-eased, idle-l1, idle-l2, idle-l3, ea
 use Rattle.exchange_rules.proofs.WithinTimes.{handed_out-eased}
 use Rattle.exchange_rules.proofs.LinkTimes.{kept-same, kept-eased, Turned}
 use Rattle.exchange_rules.proofs.LinkTurns.{times-kept}
-use Rattle.exchange_rules.proofs.CalmTests.{calms-of, none-some, expired-links, asks-links, settled-calms, fail-calms, Calms}
+use Rattle.exchange_rules.proofs.CalmTests.{calms-of, none-some, expired-links, asks-links, settled-calms, late_all-calms, fail-calms, Calms}
 
 module _ (c : Configuration) where
   -- ---- a timer that runs out, but those by which a link enters service or leaves it
@@ -190,19 +190,22 @@ module _ (c : Configuration) where
 
   -- a whole tick, of a node where nothing is due
   pub tick-unanswered : (most : ℕ) (n : Node WholeQueues) → ((timer : TimerName) → n.parts.timers.left timer ≢ Some 0) → Still n.parts.timers → Unanswered most n.parts
-      → Unanswered (most - 1) (tell_owed whole c (release whole c (count_subsystems c (run_times whole c (due_count (ticked n.parts.timers)) (with_timers n (ticked n.parts.timers)))))).parts
+      → Unanswered (most - 1)
+      (tell_owed whole c (release whole c (order_all whole c (count_subsystems c (run_times whole c (due_count (ticked n.parts.timers)) (with_timers n (ticked n.parts.timers))))))).parts
   tick-unanswered most n rested still u =
       let began : Node WholeQueues = with_timers n (ticked n.parts.timers) in
       let timed : Node WholeQueues = run_times whole c (due_count (ticked n.parts.timers)) began in
       let ran : Node WholeQueues = count_subsystems c timed in
-      calmed (most - 1) ran _ (settled-calms c ran)
-      (calmed (most - 1) timed ran (calms-of timed ran refl (kept-eased timed ran (eased-same timed ran refl)))
+      let ordered : Node WholeQueues = order_all whole c ran in
+      calmed (most - 1) ordered _ (settled-calms c ordered)
+      (calmed (most - 1) ran ordered (late_all-calms c ran)
+      (calmed (most - 1) timed ran (calms-of timed ran refl (kept-eased timed ran (eased-same timed ran refl refl (λ d. refl))))
       (times (most - 1) (due_count (ticked n.parts.timers)) began
       (record { none = λ timer takes x h. was-running (n.parts.timers.left timer) x (sym (left-ticked timer n.parts.timers) ∙ h) (still.none timer takes) })
       (record {
         first = λ link x h. lowered-by (n.parts.timers.left (name.Slt1 link)) x most (again (link_at n.parts link).test_failed) (u.first link) (rested (name.Slt1 link)) (sym (left-ticked (name.Slt1 link) n.parts.timers) ∙ h);
         second = λ link x h. lowered-by (n.parts.timers.left (name.Slt2 link)) x most (awaits + awaits) (u.second link) (rested (name.Slt2 link)) (sym (left-ticked (name.Slt2 link) n.parts.timers) ∙ h);
-      })))
+      }))))
     where
       was-running : (o : Option ℕ) (x : ℕ) → one_less o ≡ Some x → ((y : ℕ) → o ≡ Some y → ⊥) → ⊥
       was-running None x e none = absurd cc

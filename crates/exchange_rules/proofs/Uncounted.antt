@@ -1,6 +1,6 @@
 -- Only a message for a user part that isn't here is counted.
 use Rattle.exchange_rules.proofs.Basics.{◌≡◌, ℕ, Bool, true, false, List, [], ◌∷◌, Option, Some, None, refl, ◌∙◌, if◌then◌else◌}
-use Rattle.exchange_rules.proofs.Definitions.{Configuration, Message, FailureReason, ChangeoverTimer, LostUnconfirmed, Facts, completed, Parts, Node, with_parts, in_service, is_link, down, has_other, is_ordered, set_of, suspended, Found, fail_link, make_unavailable, change_over, begin, changing, changeover_order, begin_by_peer, fail, fail_by_peer, fail_by_order, complete_if, concluded, lose, lose_each, judged, complete_by_order, on_changeover_order, on_changeover_acknowledgement, on_changeover_timer, changeover_acknowledgement, changeover_of, with_changeover, with_changeover_acknowledged, with_expiry, without_tests, answer, Handled, Ignored, hold_flows, held_by_rerouting, WholeQueues, whole}
+use Rattle.exchange_rules.proofs.Definitions.{Configuration, Message, FailureReason, ChangeoverTimer, LostUnconfirmed, Facts, completed, Parts, Node, with_parts, in_service, is_link, down, has_other, is_ordered, set_of, suspended, Found, fail_link, make_unavailable, change_over, begin, changing, changeover_order, begin_by_peer, fail, fail_by_peer, fail_by_order, complete_if, concluded, lose, lose_each, judged, complete_by_order, on_changeover_order, on_changeover_acknowledgement, on_changeover_timer, changeover_acknowledgement, changeover_of, with_changeover, with_changeover_acknowledged, with_expiry, without_tests, answer, Handled, Ignored, hold_flows, held_by_rerouting, WholeQueues, whole, bar, barred, asking}
 use Rattle.signalling_types.specs.declared.notice.FailureReason.TheVariants as reasons
 use Rattle.signalling_types.specs.declared.notice.ChangeoverTimer.TheVariants as which
 use Rattle.exchange_rules.specs.LawsOfUserParts.{brings_lacking, nothing_else_is_counted}
@@ -30,6 +30,7 @@ module _ (c : Configuration) where
     routed = λ link m n e. refl;
     noted = λ notice n e. refl;
     lost = λ notice n e. refl;
+    counted = λ messages broken n. refl;
   }
 
   -- ---- a link fails
@@ -82,7 +83,7 @@ module _ (c : Configuration) where
 
   orders : (link : ℕ) (number : Option ℕ) (n : Node WholeQueues) → Stays n (on_changeover_order whole c link number n).left
   orders link number n =
-      let one : Node WholeQueues = fail_by_order whole c link n in
+      let one : Node WholeQueues = bar whole c link (fail_by_order whole c link n) in
       let marked : Node WholeQueues = with_parts one (with_changeover link (completed (changeover_of one.parts link)) one.parts) in
       let two : Node WholeQueues = complete_by_order whole c link number one in
       send_routed-steps sends (changeover_acknowledgement c link (whole.last_accepted two.queues link)) two
@@ -97,12 +98,12 @@ module _ (c : Configuration) where
 
   expires : (timer : ChangeoverTimer) (link : ℕ) (n : Node WholeQueues) → Stays n (on_changeover_timer whole c timer link n)
   expires timer link n =
-      let marked : Node WholeQueues = with_parts n (with_expiry timer link n.parts) in
+      let marked : Node WholeQueues = with_parts n (with_expiry c timer link (barred c link n.parts)) in
       let done : Node WholeQueues = complete_if whole c (changeover_of n.parts link).incomplete link None marked in
       either-steps sends (is_link n.parts link) n done n
       (completes (changeover_of n.parts link).incomplete link None marked ∙ expired timer) refl
     where
-      expired : (its : ChangeoverTimer) → (with_expiry its link n.parts).unequipped ≡ n.parts.unequipped
+      expired : (its : ChangeoverTimer) → (with_expiry c its link (barred c link n.parts)).unequipped ≡ n.parts.unequipped
       expired which.T1 = refl
       expired which.T2 = refl
 
@@ -142,8 +143,10 @@ module _ (c : Configuration) where
     back = λ link n e may. refl;
     fails = λ link why n may up. fails link why n;
     orders = λ link number n falls may. orders link number n;
-    acknowledges = λ link number n may. acknowledges link number n;
-    expires = λ timer link n may. expires timer link n;
+    acknowledges = λ link number n may wait. acknowledges link number n;
+    expires = λ timer link n may wait. expires timer link n;
+    releases = λ link n e wait. refl;
+    asks = λ link n e. send_routed-steps sends (changeover_order c link (whole.last_accepted n.queues link)) (with_parts n (asking c link n.parts));
     returns = λ before after code link other n e f. returns before after code link other n;
     frees = λ set code n may. refl;
     reroutes = reroutes;

@@ -153,6 +153,8 @@ module _ (c : Configuration) where
     taken_out = λ n. same n _ refl refl;
     noted = λ notice n e. same n _ refl refl;
     lost = λ n. same n _ refl refl;
+    counted = λ messages broken n. same n _ refl refl;
+    asked = λ link n e. same n _ refl refl;
     late = λ n. same n _ refl refl;
     timed = λ r n e. same n _ refl refl;
     holding = λ h n e. same n _ refl refl;

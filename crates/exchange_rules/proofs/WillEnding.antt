@@ -1,6 +1,6 @@
 -- What ends holds and completes changeovers, as single parts change.
 use Rattle.exchange_rules.proofs.Basics.{◌≡◌, ◌≢◌, ◌⊎◌, inl, inr, ◌<◌, ◌≤◌, ℕ, Bool, true, false, List, [], ◌∷◌, length, refl, ap, sym, ◌∙◌, subst, arith, ⊎_elim, cases_lt, cases_eq, get_or_past, get_or-set_same, get_or-set_other, length-set, is_some, and_parts, not, if◌then◌else◌}
-use Rattle.exchange_rules.proofs.Definitions.{Message, Configuration, Procedure, Changeover, Code, Time, Reroute, HoldSet, holds, lifted, Standing, no_changeover, failed, TimerName, Running, is_running, has_name, set_timer, key_of, left-set, left-set_other, left-clear_other, Parts, Found, changeover_of, with_changeover, timed_changeover, lose_each, lifted_parts, concluded, judged, without_tests, link_at, in_outage}
+use Rattle.exchange_rules.proofs.Definitions.{Message, Configuration, Procedure, Changeover, Code, Time, Reroute, HoldSet, holds, lifted, Standing, no_changeover, failed, TimerName, Running, is_running, has_name, set_timer, key_of, left-set, left-set_other, left-clear_other, Parts, Found, changeover_of, with_changeover, timed_changeover, lose_each, lifted_parts, concluded, judged, without_tests, link_at, in_outage, broken_if, asking, with_order, clear_timer}
 use Rattle.exchange_rules.specs.ChangingOver.{with_losses}
 use Rattle.flow_hold.specs.Holds.{is_same}
 use Rattle.flow_hold.proofs.Pairing.{contains-lifted, ends_its_own}
@@ -29,10 +29,10 @@ runs-as timer r s e f = ap is_some e ∙ f
 pub set-runs : (timer : TimerName) (ticks : ℕ) (r : Running) → has_name r.counts timer ≡ true → is_running timer (set_timer timer ticks r) ≡ true
 set-runs timer ticks r there = ap is_some (left-set timer ticks r there)
 
-its-own : (link other : ℕ) → other ≢ link → Its link (name.T1 other) → ⊥
+pub its-own : (link other : ℕ) → other ≢ link → Its link (name.T1 other) → ⊥
 its-own link other apart out = ⊎_elim (λ (e : name.T1 other ≡ name.T1 link). apart (ap (λ (x : TimerName). (key_of x).row) e)) (λ (e : name.T1 other ≡ name.T2 link). cc) out
 
-its-wait : (link other : ℕ) → other ≢ link → Its link (name.T2 other) → ⊥
+pub its-wait : (link other : ℕ) → other ≢ link → Its link (name.T2 other) → ⊥
 its-wait link other apart out = ⊎_elim (λ (e : name.T2 other ≡ name.T1 link). cc) (λ (e : name.T2 other ≡ name.T2 link). apart (ap (λ (x : TimerName). (key_of x).row) e)) out
 
 -- ---- parts that are alike in this
@@ -61,6 +61,9 @@ losses-alike (m ∷ ms) p = (let rest = losses-alike ms _ in record { links = re
 pub judged-alike : (reasonable : Bool) (p : Parts) → Alike p (judged reasonable p)
 judged-alike true p = alike-same p
 judged-alike false p = record { links = λ link. link-same (link_at p link); holds = refl; changeovers = refl; timers = λ timer h. refl }
+
+pub broken-alike : (breaks : Bool) (p : Parts) → Alike p (broken_if breaks p)
+broken-alike breaks p = record { links = λ link. link-same (link_at p link); holds = refl; changeovers = refl; timers = λ timer h. refl }
 
 pub untested-alike : (others : Bool) (set : ℕ) (p : Parts) → Alike p (if others then p else without_tests set p)
 untested-alike true set p = alike-same p
@@ -207,7 +210,10 @@ completes link found s p h done waits passes =
     q = lifted_parts link b
 
     same : Alike a b
-    same = alike-both a (lose_each found.lost a) b (losses-alike found.lost a) (judged-alike found.is_reasonable (lose_each found.lost a))
+    same =
+        (let lost : Parts = lose_each found.lost a in
+        let judges : Parts = judged found.is_reasonable lost in
+        alike-both a judges b (alike-both a lost judges (losses-alike found.lost a) (judged-alike found.is_reasonable lost)) (broken-alike found.is_wrong judges))
 
     standing : changeover_of q link ≡ changeover_of a link
     standing = ap (λ (all : List Standing). changeover_of (record p { changeovers = all }) link) same.changeovers
@@ -248,3 +254,29 @@ begins c ordered link p q h first second there passes = by ordered
         (λ other apart. link-same (link_at q other)) h)
         (λ destination sls e. inl (ap (λ (s : Standing). s.incomplete) (is b)))
         (still-completes (failed b (changeover_of q link)) (changeover_of (r b) link) _ _ _ _ (is b) (λ e. e) (λ e. e) (timed b)) passes
+
+-- its order goes out late: T1 stops, and T2 starts
+pub asks-late : (c : Configuration) (link : ℕ) (p : Parts) → But link p → (link < length p.changeovers → has_name (clear_timer (name.T1 link) p.timers).counts (name.T2 link) ≡ true)
+    → (changeover_of p link).incomplete ≡ true → WillPass (link_at p link) → AllWillEnd (asking c link p)
+asks-late c link p h named e passes = by (cases_lt link (length p.changeovers))
+  where
+    its : Standing
+    its = with_order (changeover_of p link)
+
+    q : Parts
+    q = asking c link p
+
+    others : SameBut (Its link) p.timers q.timers
+    others timer ends out =
+        left-set_other (name.T2 link) timer c.timers.t2 (clear_timer (name.T1 link) p.timers) (λ f. out (inr (sym f)))
+        ∙ left-clear_other (name.T1 link) timer p.timers (λ f. out (inl (sym f)))
+
+    by : (link < length p.changeovers) ⊎ (length p.changeovers ≤ link) → AllWillEnd q
+    by (inl there) =
+        let is : changeover_of q link ≡ its = get_or-set_same p.changeovers link its no_changeover there in
+        closed link q
+        (but-moved link p q (λ procedure destination sls apart f. f) (λ other apart. other-standing p.changeovers link other its p apart) others (λ other apart. link-same (link_at p other)) h)
+        (λ destination sls f. inl (ap (λ (s : Standing). s.incomplete) is ∙ e))
+        (still-completes its (changeover_of q link) _ _ _ _ is (λ f. f) (λ f. f)
+        (record { incomplete = λ f. inr refl; awaited = λ f. set-runs (name.T2 link) c.timers.t2 (clear_timer (name.T1 link) p.timers) (named there) })) passes
+    by (inr past) = (let no : false ≡ true = sym (ap (λ (s : Standing). s.incomplete) (get_or_past p.changeovers link no_changeover past)) ∙ e in absurd cc)

@@ -1,6 +1,6 @@
 -- TCOC, changeover control (Q.704 §5, with the numbers of Q.2210): the flows that a changeover holds, and how it
 -- begins, goes on and ends.
-use Rattle.std.specs.Prelude.{ℕ, Bool, ◌&&◌, ◌||◌, not, nat_eq, List, Some, is_some, true, false, if◌then◌else◌, [], ◌∷◌, Option, None}
+use Rattle.std.specs.Prelude.{ℕ, zero, suc, Bool, ◌&&◌, ◌||◌, not, nat_eq, List, length, Some, is_some, true, false, if◌then◌else◌, [], ◌∷◌, Option, None}
 use Rattle.std.specs.List.{list_any}
 use Rattle.std.specs.Option.{option_eq}
 use Rattle.signalling_types.specs.Message.{Message, flow_of, is_management}
@@ -9,15 +9,17 @@ use Rattle.settings.specs.Readings.{destination_place}
 use Rattle.routes.specs.Routes.{Facts, chosen_link, has_link, set_at}
 use Rattle.flow_hold.specs.declared.procedure.Procedure.TheVariants.{Changeover}
 use Rattle.flow_hold.specs.Holds.{with_flows, lifted}
-use Rattle.exchange_rules.specs.State.{Parts, ◌▷◌, QueueKind, Node, with_parts, link_at, links_with, in_service, note, unless◌then◌else◌, Done, Found, answer, is_link, down, flagged}
+use Rattle.exchange_rules.specs.State.{Parts, ◌▷◌, QueueKind, Node, with_parts, link_at, links_with, in_service, note, unless◌then◌else◌, Done, Found, answer, is_link, down, flagged, counted_lost, broken_if}
 use Rattle.exchange_rules.specs.Routing.{facts, goes_by, entry_of, set_of, peer_of, link_of}
 use Rattle.signalling_types.specs.declared.notice.FailureReason.{FailureReason}
 use Rattle.signalling_types.specs.declared.notice.FailureReason.TheVariants as reasons
+use Rattle.signalling_types.specs.declared.notice.Notice.{Notice}
 use Rattle.signalling_types.specs.declared.notice.Notice.TheVariants as notices
+use Rattle.signalling_types.specs.declared.notice.Unbarring.TheVariants as unbarring
 use Rattle.mtp3_codec.specs.declared.management.Management.TheVariants.{ExtendedChangeoverOrder, ExtendedChangeoverAcknowledgement}
 use Rattle.timers.specs.declared.name.TimerName.TheVariants.{T1, T2}
 use Rattle.timers.specs.Timers.{Running, set_timer, clear_timer}
-use Rattle.changeover.specs.Changeover.{Standing, standing_at, with_standing, failed, begun_by_peer, completed, acknowledged}
+use Rattle.changeover.specs.Changeover.{Standing, standing_at, with_standing, is_unasked, with_order, failed, begun_by_peer, completed, acknowledged, awaits_incomplete, stays_awaited}
 use Rattle.node_links.specs.NodeLinks.{after_failure}
 use Rattle.exchange_rules.specs.Timing.{without_timers}
 use Rattle.exchange_rules.specs.Telling.{management_to, send_routed, send_anew}
@@ -132,12 +134,43 @@ module _ {Q : Type 0} (q : QueueKind Q) (c : Configuration) where
       node ▷ make_unavailable (in_service node.parts link) link reasons.Changeover
       ▷ begin_by_peer (in_service node.parts link) link
 
+-- ---- An order that had no way goes out late, once there is one (Q.704 §5 has the order wherever there is a way).
+
+-- whether the order about a link goes out now: none did yet, and it has a way
+abbrev pub is_late : Configuration → ℕ → Parts → Bool
+is_late c link p = is_unasked (changeover_of p link) && has_way c link p
+
+-- T1 stops, T2 starts, and the answer is awaited
+abbrev pub asking : Configuration → ℕ → Parts → Parts
+asking c link p = record p {
+  changeovers = with_standing p.changeovers link (with_order (changeover_of p link));
+  timers = set_timer (T2 link) c.timers.t2 (clear_timer (T1 link) p.timers);
+}
+
+module _ {Q : Type 0} (q : QueueKind Q) (c : Configuration) where
+  abbrev pub order_late : ℕ → Node Q → Node Q
+  order_late link node =
+      send_routed q c (changeover_order c link (q.last_accepted node.queues link))
+      (with_parts node (asking c link node.parts))
+
+  abbrev pub order_if_late : ℕ → Node Q → Node Q
+  order_if_late link node = if is_late c link node.parts then order_late link node else node
+
+  -- about the first n links, in order
+  unfoldable pub order_each : (count : ℕ) → Node Q → Node Q
+  order_each zero node = node
+  order_each (suc link) node = node ▷ order_each link ▷ order_if_late link
+
+  -- about all links, where orders go by any route
+  abbrev pub order_all : Node Q → Node Q
+  order_all node = if c.changeover_by_any_route then order_each (length c.links) node else node
+
 -- ---- TCOC (Q.704 §5.4 to §5.7): a changeover goes on and ends, by an order or an acknowledgement of the peer, or by a
 -- timer.
 
 -- a user message is lost, and that is noted
 abbrev pub lose : Cause → Message → Parts → Parts
-lose cause m p = p ▷ note (notices.Lost cause (flow_of m).point (flow_of m).sls) ▷ flagged
+lose cause m p = p ▷ note (notices.Lost cause (flow_of m).point (flow_of m).sls) ▷ flagged ▷ counted_lost
 
 abbrev pub lose_each : List Message → Parts → Parts
 lose_each [] p = p
@@ -154,7 +187,7 @@ lifted_parts link p = record p { holds = lifted p.holds (Changeover link); timer
 
 -- what a completion loses is noted
 abbrev pub with_losses : Found → Parts → Parts
-with_losses found p = p ▷ lose_each found.lost ▷ judged found.is_reasonable
+with_losses found p = p ▷ lose_each found.lost ▷ judged found.is_reasonable ▷ broken_if found.is_wrong
 
 -- the parts after a completion that found this
 abbrev pub concluded : ℕ → Found → Parts → Parts
@@ -165,16 +198,46 @@ abbrev pub changeover_acknowledgement : Configuration → ℕ → ℕ → Messag
 changeover_acknowledgement c link number =
     management_to c (peer_of c link) (ExtendedChangeoverAcknowledgement (entry_of c link).slc number)
 
+-- whether the settings bar a link whose changeover is complete until its answer comes, or a longer time is over
+abbrev pub bars : Configuration → Bool
+bars c = is_some c.timers.t2_bar
+
+-- T2 of a link that is barred from now on is set anew
+abbrev pub timed_bar : (t2_bar : Option ℕ) → (is_barred : Bool) → ℕ → Running → Running
+timed_bar (Some ticks) true link r = set_timer (T2 link) ticks r
+timed_bar (Some ticks) false link r = r
+timed_bar None is_barred link r = r
+
+-- the changeover of a link is about to be completed: if its answer is awaited, the link is barred from now on
+abbrev pub barred : Configuration → ℕ → Parts → Parts
+barred c link p = record p {
+  timers = timed_bar c.timers.t2_bar (awaits_incomplete (changeover_of p link)) link p.timers;
+}
+
 -- if T2 ran out, something may be lost
 abbrev pub flagged_by : ChangeoverTimer → Parts → Parts
 flagged_by timer.T1 p = p
 flagged_by timer.T2 p = flagged p
 
+-- the notice of a timer that ran out: where links are barred, that of T2 of a changeover that was complete says that
+-- the bar is over
+abbrev pub expiry_notice : Configuration → ChangeoverTimer → Standing → ℕ → Notice
+expiry_notice c timer.T1 s link = notices.Expired timer.T1 link
+expiry_notice c timer.T2 s link =
+    if bars c && not s.incomplete then notices.Unbarred unbarring.T2 link else notices.Expired timer.T2 link
+
+-- whether a timer that runs out ends the wait for the answer
+abbrev pub ends_wait : Configuration → ChangeoverTimer → Standing → Bool
+ends_wait c timer.T1 s = false
+ends_wait c timer.T2 s = not (stays_awaited (bars c) s)
+
 -- a timer of the changeover ran out, and that is noted
-abbrev pub with_expiry : ChangeoverTimer → ℕ → Parts → Parts
-with_expiry which link p =
-    p ▷ note (notices.Expired which link) ▷ with_changeover link (standing.expired which (changeover_of p link))
+abbrev pub with_expiry : Configuration → ChangeoverTimer → ℕ → Parts → Parts
+with_expiry c which link p =
+    p ▷ note (expiry_notice c which (changeover_of p link) link)
+    ▷ with_changeover link (standing.expired (bars c) which (changeover_of p link))
     ▷ flagged_by which
+    ▷ broken_if (ends_wait c which (changeover_of p link))
 
 -- the answer came: T2 stops
 abbrev pub with_changeover_acknowledged : ℕ → Parts → Parts
@@ -183,6 +246,11 @@ with_changeover_acknowledged link p =
       changeovers = (with_changeover link (acknowledged (changeover_of p link)) p).changeovers;
       timers = clear_timer (T2 link) p.timers;
     }
+
+-- a link is no longer barred, by an order of the operator: something may be lost
+abbrev pub unbarred : ℕ → Parts → Parts
+unbarred link p =
+    p ▷ note (notices.Unbarred unbarring.Operator link) ▷ with_changeover_acknowledged link ▷ flagged ▷ broken_if true
 
 module _ {Q : Type 0} (q : QueueKind Q) (c : Configuration) where
   -- management messages go out again, each on the link of its flow
@@ -205,6 +273,10 @@ module _ {Q : Type 0} (q : QueueKind Q) (c : Configuration) where
   abbrev pub fail_by_order : ℕ → Node Q → Node Q
   fail_by_order link node = if down node.parts link then node else fail_by_peer q c link node
 
+  -- the changeover of a link is about to be completed
+  abbrev pub bar : ℕ → Node Q → Node Q
+  bar link node = with_parts node (barred c link node.parts)
+
   -- the changeover of a link is completed, by the number in the peer's order
   abbrev pub complete_by_order : ℕ → Option ℕ → Node Q → Node Q
   complete_by_order link number node =
@@ -219,7 +291,8 @@ module _ {Q : Type 0} (q : QueueKind Q) (c : Configuration) where
   -- the peer orders a changeover
   abbrev pub on_changeover_order : ℕ → Option ℕ → Node Q → Done Q
   on_changeover_order link number node =
-      answer Handled (node ▷ fail_by_order link ▷ complete_by_order link number ▷ acknowledge_changeover link)
+      answer Handled
+      (node ▷ fail_by_order link ▷ bar link ▷ complete_by_order link number ▷ acknowledge_changeover link)
 
   -- the peer answers an order
   abbrev pub on_changeover_acknowledgement : ℕ → Option ℕ → Node Q → Done Q
@@ -232,5 +305,5 @@ module _ {Q : Type 0} (q : QueueKind Q) (c : Configuration) where
   abbrev pub on_changeover_timer : ChangeoverTimer → ℕ → Node Q → Node Q
   on_changeover_timer timer link node =
       unless is_link node.parts link then node
-      else (with_parts node (with_expiry timer link node.parts)
+      else (with_parts node (node.parts ▷ barred c link ▷ with_expiry c timer link)
       ▷ complete_if (changeover_of node.parts link).incomplete link None)

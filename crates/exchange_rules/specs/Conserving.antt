@@ -120,11 +120,12 @@ pub record Gone : Type 0 where
   pub lost : List Message
   -- the management messages that a completion queues again on other links
   pub queued_anew : List Message
-  -- how many completions had no reasonable number
+  -- how many completions had no reasonable number, and how many of these had one that names no count
   pub doubts : ℕ
+  pub wrong : ℕ
 
 abbrev pub only_accepted : List Message → Gone
-only_accepted ms = record { accepted = ms; lost = []; queued_anew = []; doubts = 0 }
+only_accepted ms = record { accepted = ms; lost = []; queued_anew = []; doubts = 0; wrong = 0 }
 
 abbrev pub nothing_gone : Gone
 nothing_gone = only_accepted []
@@ -135,6 +136,7 @@ both_gone one other = record {
   lost = one.lost ++ other.lost;
   queued_anew = one.queued_anew ++ other.queued_anew;
   doubts = one.doubts + other.doubts;
+  wrong = one.wrong + other.wrong;
 }
 
 -- the oldest messages of a queue, as many as the numbers of User Data confirm
@@ -176,6 +178,7 @@ gone_by_completion true link number queues =
       lost = found.lost;
       queued_anew = found.queued_anew;
       doubts = if found.is_reasonable then 0 else 1;
+      wrong = if found.is_wrong then 1 else 0;
     }
 gone_by_completion false link number queues = nothing_gone
 

@@ -4,10 +4,10 @@ use Rattle.std.specs.Prelude.{ℕ, Bool, true, false, List, [], ◌∷◌, Optio
 use Rattle.signalling_types.specs.Message.{Message, flow_of}
 use Rattle.settings_rows.specs.Configuration.{Configuration}
 use Rattle.signalling_types.specs.declared.cause.Cause.TheVariants.{NoRoute}
-use Rattle.exchange_rules.specs.State.{◌▷◌, QueueKind, Node, with_parts, Done, answer, State, with_node, Happening, CameUp, WentDown, FrameCame, Ticked, Submitted, Activated, Deactivated, TitleAdded, TitleRemoved}
+use Rattle.exchange_rules.specs.State.{◌▷◌, QueueKind, Node, with_parts, Done, answer, State, with_node, Happening, CameUp, WentDown, FrameCame, Ticked, Submitted, Activated, Deactivated, Released, TitleAdded, TitleRemoved}
 use Rattle.exchange_rules.specs.Routing.{link_of, queue_on, waits, hold}
-use Rattle.exchange_rules.specs.ChangingOver.{lose, on_changeover_timer}
-use Rattle.signalling_types.specs.declared.outcome.Outcome.TheVariants.{Handled}
+use Rattle.exchange_rules.specs.ChangingOver.{lose, order_all, on_changeover_timer}
+use Rattle.signalling_types.specs.declared.outcome.Outcome.TheVariants.{Refused, Queued, Held, Local, Handled, Ignored}
 use Rattle.link.specs.declared.action.LinkTimer.TheVariants as timer
 use Rattle.timers.specs.declared.name.TimerName.{TimerName}
 use Rattle.timers.specs.declared.name.TimerName.TheVariants.{L1, L2, L3, L4, L6, L7, T1, T2, T3, T4, T6, T8, T10}
@@ -21,7 +21,7 @@ use Rattle.exchange_rules.specs.Rerouting.{rerouting_ended, ask_again}
 use Rattle.signalling_types.specs.declared.outcome.Outcome.{Outcome}
 use Rattle.m2pa_codec.specs.Frames.{FrameValue}
 use Rattle.exchange_rules.specs.declared.wants.Wants.{Wants}
-use Rattle.exchange_rules.specs.Opening.{association_up, association_down, activate, deactivate, wanted}
+use Rattle.exchange_rules.specs.Opening.{association_up, association_down, activate, deactivate, release_bar, wanted}
 use Rattle.exchange_rules.specs.Messages.{submit, add_title, remove_title, subsystems_ticked, tests_due}
 use Rattle.exchange_rules.specs.Telling.{tell_owed}
 use Rattle.exchange_rules.specs.Sending.{frame_taken, after_take}
@@ -103,15 +103,28 @@ module _ {Q : Type 0} (q : QueueKind Q) (c : Configuration) where
 
 -- ---- The step of an exchange: what becomes of everything that can happen, and the state after it.
 
+-- a frame or a tick may bring a way: then orders go out late, unless the frame's message was refused
+abbrev pub late_by : {Q : Type 0} → QueueKind Q → Configuration → Outcome → Node Q → Node Q
+late_by q c (Refused cause) node = node
+late_by q c (Queued link) node = order_all q c node
+late_by q c Held node = order_all q c node
+late_by q c Local node = order_all q c node
+late_by q c Handled node = order_all q c node
+late_by q c Ignored node = order_all q c node
+
+abbrev pub ordered_late : {Q : Type 0} → QueueKind Q → Configuration → Done Q → Done Q
+ordered_late q c d = record d { left = late_by q c d.outcome d.left }
+
 -- each event has its rule
 abbrev pub handle_event : {Q : Type 0} → QueueKind Q → Configuration → Happening → Node Q → Done Q
 handle_event q c (CameUp link) node = association_up q c link node
 handle_event q c (WentDown link) node = association_down q c link node
-handle_event q c (FrameCame link text) node = receive q c link text node
-handle_event q c Ticked node = tick q c node
+handle_event q c (FrameCame link text) node = node ▷ receive q c link text ▷ ordered_late q c
+handle_event q c Ticked node = node ▷ tick q c ▷ ordered_late q c
 handle_event q c (Submitted message) node = submit q c message node
 handle_event q c (Activated link emergency) node = activate q c emergency link node
 handle_event q c (Deactivated link) node = deactivate q c link node
+handle_event q c (Released link) node = release_bar q c link node
 handle_event q c (TitleAdded row is_memory_refused) node = add_title row is_memory_refused node
 handle_event q c (TitleRemoved key digits) node = remove_title key digits node
 

@@ -53,6 +53,8 @@ first_parts c = record {
   timers = none_running (counts_in c);
   notices = record { last = []; count = 0 };
   times_lost = 0;
+  messages_lost = 0;
+  times_broken = 0;
   times_late = 0;
 }
 

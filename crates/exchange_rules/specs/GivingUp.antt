@@ -28,7 +28,7 @@ use Rattle.exchange_rules.specs.State.{Found, Node, down, in_service, is_link, w
 use Rattle.exchange_rules.specs.Routing.{facts, link_of, no_room, route_about, set_of, waits}
 use Rattle.exchange_rules.specs.Queues.{WholeQueues, whole}
 use Rattle.exchange_rules.specs.Telling.{answered_parts, inhibited, is_inhibited, is_led, is_unequipped_told, may_tell, route_message, send_anew, unavailable, unequipped_counted}
-use Rattle.exchange_rules.specs.ChangingOver.{changeover_acknowledgement, changeover_of, changeover_order, changing, complete_by_order, concluded, fail_by_order, is_ordered, make_unavailable, with_changeover, with_changeover_acknowledged, with_expiry}
+use Rattle.exchange_rules.specs.ChangingOver.{bar, barred, changeover_acknowledgement, changeover_of, changeover_order, changing, complete_by_order, concluded, fail_by_order, is_ordered, make_unavailable, with_changeover, with_changeover_acknowledged, with_expiry}
 use Rattle.changeover.specs.Changeover.{completed}
 use Rattle.exchange_rules.specs.ChangingBack.{changeback_acknowledgement}
 use Rattle.exchange_rules.specs.LinkTests.{testing}
@@ -87,7 +87,7 @@ module _ (c : Configuration) where
   -- by the peer's order, which is answered
   abbrev pub unsent_by_order : Option ℕ → Option ℕ → Node WholeQueues → List Notice
   unsent_by_order (Some link) number node =
-      let fallen : Node WholeQueues = fail_by_order whole c link node in
+      let fallen : Node WholeQueues = bar whole c link (fail_by_order whole c link node) in
       let ended : Node WholeQueues =
       with_parts fallen (with_changeover link (completed (changeover_of fallen.parts link)) fallen.parts) in
       let done : Node WholeQueues = complete_by_order whole c link number fallen in
@@ -109,7 +109,7 @@ module _ (c : Configuration) where
   unsent_by_expiry which link node =
       if is_link node.parts link
       then unsent_completing (changeover_of node.parts link).incomplete link None
-      (with_parts node (with_expiry which link node.parts))
+      (with_parts node (with_expiry c which link (barred c link node.parts)))
       else []
 
   -- ---- other words of an adjacent point

@@ -1,5 +1,5 @@
--- The management that an event sends in vain: the reasons of Unsent. And T2 that runs out, so that an answer isn't
--- awaited any more: the reasons of Expired(T2).
+-- The management that an event sends in vain: the reasons of Unsent. And T2 that runs out, or a bar that ends
+-- otherwise: the reasons of Expired(T2) and Unbarred.
 use Rattle.std.specs.Prelude.{Err, List, None, Ok, Option, Result, Some, [], if◌then◌else◌, length, nat_lt, not, suc, zero, ℕ, ◌&&◌, ◌||◌, ◌++◌, ◌∷◌}
 use Rattle.signalling_types.specs.Message.{Message}
 use Rattle.signalling_types.specs.declared.notice.ChangeoverTimer.TheVariants as changeover
@@ -9,6 +9,7 @@ use Rattle.signalling_types.specs.declared.notice.FrameFault.{FrameFault}
 use Rattle.signalling_types.specs.declared.notice.FrameFault.TheVariants as faults
 use Rattle.signalling_types.specs.declared.notice.Notice.{Notice}
 use Rattle.signalling_types.specs.declared.notice.Notice.TheVariants as notices
+use Rattle.signalling_types.specs.declared.notice.Unbarring.TheVariants as unbarring
 use Rattle.settings_rows.specs.Configuration.{Configuration}
 use Rattle.link.specs.declared.action.Action.{Action}
 use Rattle.link.specs.declared.action.Action.TheVariants as act
@@ -26,17 +27,46 @@ use Rattle.routes.specs.declared.route.RouteStatus.TheVariants.{Allowed, Prohibi
 use Rattle.timers.specs.Timers.{after_due, due_count, due_name, ticked}
 use Rattle.timers.specs.declared.name.TimerName.{TimerName}
 use Rattle.timers.specs.declared.name.TimerName.TheVariants as name
-use Rattle.exchange_rules.specs.State.{Deactivated, FrameCame, Happening, Node, Ticked, WentDown, down, in_service, is_link, link_at, with_parts}
+use Rattle.exchange_rules.specs.State.{Deactivated, Done, FrameCame, Happening, Released, Node, Ticked, WentDown, down, in_service, is_link, link_at, with_parts}
+use Rattle.changeover.specs.Changeover.{is_barred}
+use Rattle.exchange_rules.specs.ChangingOver.{asking, changeover_of, changeover_order, expiry_notice, is_late, order_each}
 use Rattle.exchange_rules.specs.Routing.{facts}
 use Rattle.exchange_rules.specs.Queues.{WholeQueues, whole}
 use Rattle.exchange_rules.specs.First.{Abstract}
 use Rattle.exchange_rules.specs.Telling.{is_led, may_tell, route_message, tell_if, told_parts}
 use Rattle.exchange_rules.specs.Rerouting.{prohibited_test, restricted_test, with_next_test}
-use Rattle.exchange_rules.specs.Frames.{Carrying, accept, advance, empty_data, message_data, numbers, tells_outage, tells_recovery}
-use Rattle.exchange_rules.specs.Exchange.{handle_event, release, run_next, with_timers}
+use Rattle.exchange_rules.specs.Frames.{Carrying, accept, advance, empty_data, message_data, numbers, receive, tells_outage, tells_recovery}
+use Rattle.exchange_rules.specs.Exchange.{handle_event, release, run_next, tick, with_timers}
+use Rattle.signalling_types.specs.declared.outcome.Outcome.{Outcome}
+use Rattle.signalling_types.specs.declared.outcome.Outcome.TheVariants as outcome
 use Rattle.exchange_rules.specs.GivingUp.{unsent, unsent_by_expiry, unsent_by_new, unsent_failing, unsent_falling}
 
 module _ (c : Configuration) where
+  -- ---- orders that go out late, after a frame or a tick
+
+  abbrev pub unsent_late : ℕ → Node WholeQueues → List Notice
+  unsent_late link node =
+      if is_late c link node.parts
+      then unsent c (changeover_order c link (whole.last_accepted node.queues link))
+      (with_parts node (asking c link node.parts))
+      else []
+
+  abbrev pub unsent_late_each : (count : ℕ) → Node WholeQueues → List Notice
+  unsent_late_each zero node = []
+  unsent_late_each (suc link) node =
+      unsent_late_each link node ++ unsent_late link (order_each whole c link node)
+
+  abbrev pub unsent_late_all : Node WholeQueues → List Notice
+  unsent_late_all node = if c.changeover_by_any_route then unsent_late_each (length c.links) node else []
+
+  abbrev pub unsent_late_by : Outcome → Node WholeQueues → List Notice
+  unsent_late_by (outcome.Refused cause) node = []
+  unsent_late_by (outcome.Queued link) node = unsent_late_all node
+  unsent_late_by outcome.Held node = unsent_late_all node
+  unsent_late_by outcome.Local node = unsent_late_all node
+  unsent_late_by outcome.Handled node = unsent_late_all node
+  unsent_late_by outcome.Ignored node = unsent_late_all node
+
   -- ---- frames: the message of User Data, or a link that fails by its frame
 
   abbrev pub unsent_by_numbers : Result ℕ SeqFault → ℕ → Carrying → Node WholeQueues → List Notice
@@ -143,11 +173,13 @@ module _ (c : Configuration) where
       else [])
       ++ unsent_telling os (tell_if whole c o node)
 
-  -- ---- T2 runs out: the answer to an order to change over isn't awaited any more
+  -- ---- T2 runs out: a changeover is completed without a number, or the answer to its order isn't awaited any more
 
   abbrev pub expired_by_timer : Option TimerName → Node WholeQueues → List Notice
   expired_by_timer (Some (name.T2 link)) node =
-      if is_link node.parts link then notices.Expired changeover.T2 link ∷ [] else []
+      if is_link node.parts link
+      then expiry_notice c changeover.T2 (changeover_of node.parts link) link ∷ []
+      else []
   expired_by_timer other node = []
 
   abbrev pub expired_by_timers : ℕ → Node WholeQueues → List Notice
@@ -160,7 +192,9 @@ module _ (c : Configuration) where
 
 -- what its rule sends in vain
 abbrev pub unsent_by_rule : Happening → Abstract → List Notice
-unsent_by_rule (FrameCame link text) a = unsent_by_text a.settings link text a.node
+unsent_by_rule (FrameCame link text) a =
+    let d : Done WholeQueues = receive whole a.settings link text a.node in
+    unsent_by_text a.settings link text a.node ++ unsent_late_by a.settings d.outcome d.left
 unsent_by_rule (WentDown link) a =
     if is_link a.node.parts link && (link_at a.node.parts link).association
     then unsent_falling a.settings link reasons.Association a.node
@@ -170,6 +204,7 @@ unsent_by_rule (Deactivated link) a =
 unsent_by_rule Ticked a =
     unsent_by_timers a.settings (due_count (ticked a.node.parts.timers))
     (with_timers a.node (ticked a.node.parts.timers))
+    ++ unsent_late_all a.settings (tick whole a.settings a.node).left
 unsent_by_rule what a = []
 
 -- and what the event sends in vain in all
@@ -179,9 +214,13 @@ unsent_of what a =
     unsent_by_rule what a
     ++ unsent_telling a.settings (owed (facts a.settings freed.parts) freed.parts.told) freed
 
--- the notices of T2 that runs out
+-- the notices of T2 that runs out, and of a link that the operator lets open
 abbrev pub expired_of : Happening → Abstract → List Notice
 expired_of Ticked a =
     expired_by_timers a.settings (due_count (ticked a.node.parts.timers))
     (with_timers a.node (ticked a.node.parts.timers))
+expired_of (Released link) a =
+    if is_link a.node.parts link && is_barred (changeover_of a.node.parts link)
+    then notices.Unbarred unbarring.Operator link ∷ []
+    else []
 expired_of what a = []

@@ -28,11 +28,16 @@ after_each (asking ∷ others) a = after_each others (after_asking asking a)
 
 -- ---- flags
 
--- at first neither is raised
+-- neither is raised, and no message and no break is counted
+pub record IsUnflagged (p : Parts) : Type 0 where
+  pub lost : lost_any p ≡ false
+  pub late : late_any p ≡ false
+  pub messages : p.messages_lost ≡ 0
+  pub broken : p.times_broken ≡ 0
+
+-- so it is at first
 abbrev pub no_flag_at_first : Type 0
-no_flag_at_first =
-    (c : Configuration) →
-    (lost_any (first_state c).node.parts ≡ false) × (late_any (first_state c).node.parts ≡ false)
+no_flag_at_first = (c : Configuration) → IsUnflagged (first_state c).node.parts
 
 -- once a message may have been lost, that stays so, whatever happens and whatever is taken
 abbrev pub losses_stay : Type 0
@@ -52,6 +57,7 @@ tells_of_loss (notices.Lost cause point sls) = true
 tells_of_loss (notices.Unsent cause point) = true
 tells_of_loss (notices.Expired timer.T2 link) = true
 tells_of_loss (notices.Expired timer.T1 link) = false
+tells_of_loss (notices.Unbarred by link) = true
 tells_of_loss (notices.Refused cause link) = false
 tells_of_loss (notices.Frame fault link) = false
 tells_of_loss (notices.Failed link why) = false
@@ -63,6 +69,7 @@ tells_of_lateness (notices.Late timer number) = true
 tells_of_lateness (notices.Lost cause point sls) = false
 tells_of_lateness (notices.Unsent cause point) = false
 tells_of_lateness (notices.Expired timer link) = false
+tells_of_lateness (notices.Unbarred by link) = false
 tells_of_lateness (notices.Refused cause link) = false
 tells_of_lateness (notices.Frame fault link) = false
 tells_of_lateness (notices.Failed link why) = false

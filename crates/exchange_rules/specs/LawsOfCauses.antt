@@ -216,6 +216,7 @@ says_failed link (notices.Failed other why) = other == link
 says_failed link (notices.Lost cause point sls) = false
 says_failed link (notices.Unsent cause point) = false
 says_failed link (notices.Expired timer other) = false
+says_failed link (notices.Unbarred by other) = false
 says_failed link (notices.Refused cause other) = false
 says_failed link (notices.Frame fault other) = false
 says_failed link (notices.Late timer number) = false

@@ -1,5 +1,5 @@
 -- Each loss is among the notices of its event, and counted: laws.
-use Rattle.std.specs.Prelude.{Bool, List, None, Option, Some, [], ◌∷◌, count_by, false, filter, length, map, not, suc, true, zero, ℕ, ◌*◌, ◌+◌, ◌++◌, ◌≡◌, ◌≤◌}
+use Rattle.std.specs.Prelude.{Bool, if◌then◌else◌, List, None, Option, Some, [], ◌∷◌, count_by, false, filter, length, map, not, suc, true, zero, ℕ, ◌*◌, ◌+◌, ◌++◌, ◌≡◌, ◌≤◌}
 use Rattle.signalling_types.specs.Message.{Message, dpc_of, flow_of}
 use Rattle.signalling_types.specs.declared.cause.Cause.{Cause}
 use Rattle.signalling_types.specs.declared.cause.Cause.TheVariants.{LostUnconfirmed, NoRoute}
@@ -12,7 +12,8 @@ use Rattle.timers.specs.declared.name.TimerName.{TimerName}
 use Rattle.timers.specs.declared.name.TimerName.TheVariants.{T3, T4}
 use Rattle.timers.specs.Timers.{due_count, due_name, ticked}
 use Rattle.route_management.specs.Told.{owed}
-use Rattle.exchange_rules.specs.State.{Ticked, Happening, Node, Parts, noted_all, once_more, noted}
+use Rattle.exchange_rules.specs.State.{FrameCame, Ticked, Happening, Node, Parts, noted_all, once_more, noted}
+use Rattle.exchange_rules.specs.ChangingOver.{bars}
 use Rattle.exchange_rules.specs.Telling.{send_anew, send_on, send_routed}
 use Rattle.exchange_rules.specs.Routing.{facts, link_of, no_room}
 use Rattle.exchange_rules.specs.Exchange.{after, handle_event, release, run_next, taken, with_timers}
@@ -31,6 +32,7 @@ abbrev pub names_a_message : Notice → Bool
 names_a_message (notices.Lost cause point sls) = true
 names_a_message (notices.Unsent cause point) = false
 names_a_message (notices.Expired timer link) = false
+names_a_message (notices.Unbarred by link) = false
 names_a_message (notices.Refused cause link) = false
 names_a_message (notices.Frame fault link) = false
 names_a_message (notices.Failed link why) = false
@@ -49,15 +51,17 @@ abbrev pub tells_unsent : Notice → Bool
 tells_unsent (notices.Unsent cause point) = true
 tells_unsent (notices.Lost cause point sls) = false
 tells_unsent (notices.Expired timer link) = false
+tells_unsent (notices.Unbarred by link) = false
 tells_unsent (notices.Refused cause link) = false
 tells_unsent (notices.Frame fault link) = false
 tells_unsent (notices.Failed link why) = false
 tells_unsent (notices.Late timer number) = false
 
--- or that T2 ran out
+-- or that T2 ran out, or that a link is barred no longer though its answer didn't come
 abbrev pub tells_of_t2 : Notice → Bool
 tells_of_t2 (notices.Expired changeover_timer.T2 link) = true
 tells_of_t2 (notices.Expired changeover_timer.T1 link) = false
+tells_of_t2 (notices.Unbarred by link) = true
 tells_of_t2 (notices.Unsent cause point) = false
 tells_of_t2 (notices.Lost cause point sls) = false
 tells_of_t2 (notices.Refused cause link) = false
@@ -65,13 +69,15 @@ tells_of_t2 (notices.Frame fault link) = false
 tells_of_t2 (notices.Failed link why) = false
 tells_of_t2 (notices.Late timer number) = false
 
--- the reasons for which flags rise: the notices of each kind, in order, and how many completions were in doubt
+-- the reasons for which flags rise: the notices of each kind, in order, how many completions were in doubt, and how
+-- many changeovers ended so that it isn't known for sure what the other end has
 pub record Reasons : Type 0 where
   pub lost : List Notice
   pub unsent : List Notice
   pub expired : List Notice
   pub late : List Notice
   pub doubts : ℕ
+  pub breaks : ℕ
 
 -- how often `lost_any` rises for them, and `late_any`
 abbrev pub losses : Reasons → ℕ
@@ -82,7 +88,7 @@ latenesses r = length r.late
 
 -- Some notices were made. Those that name a message as lost, that tell of management sent in vain, of T2, and of
 -- lateness are those of the reasons, in order; and at most `others` name no message. Each possible loss was counted,
--- and each possible lateness, and no other.
+-- each possible lateness, each message that is named as lost, and each break, and no other.
 pub record AreAccounted (r : Reasons) (others : ℕ) (old new : Parts) : Type 0 where
   pub made : List Notice
   pub noted : new.notices ≡ noted_all made old.notices
@@ -93,6 +99,8 @@ pub record AreAccounted (r : Reasons) (others : ℕ) (old new : Parts) : Type 0 
   pub few : count_by names_none made ≤ others
   pub times_lost : new.times_lost ≡ counted (losses r) old.times_lost
   pub times_late : new.times_late ≡ counted (latenesses r) old.times_late
+  pub messages_lost : new.messages_lost ≡ counted (length r.lost) old.messages_lost
+  pub times_broken : new.times_broken ≡ counted r.breaks old.times_broken
 
 -- the node that an event leaves before it is told what adjacent points are owed
 abbrev pub released : Happening → Abstract → Node WholeQueues
@@ -130,12 +138,34 @@ abbrev pub rules_run : Happening → Parts → ℕ
 rules_run Ticked p = due_count (ticked p.timers)
 rules_run what p = 1
 
--- the most notices of other kinds: three for each rule, one for each message that a completion queues again, and one
--- for each status that an adjacent point is owed
+-- how many orders may go out late at most: one for each link
+abbrev pub late_orders : Happening → Configuration → ℕ
+late_orders (FrameCame link text) c = if c.changeover_by_any_route then length c.links else 0
+late_orders Ticked c = if c.changeover_by_any_route then length c.links else 0
+late_orders what c = 0
+
+-- the most notices of other kinds: three for each rule, one for each message that a completion queues again, one for
+-- each order that goes out late, and one for each status that an adjacent point is owed
 abbrev pub others_of : Happening → Abstract → ℕ
 others_of what a =
-    length (gone_by what a).queued_anew + 3 * rules_run what a.node.parts
+    length (gone_by what a).queued_anew + (late_orders what a.settings + 3 * rules_run what a.node.parts)
     + length (owed (facts a.settings (released what a).parts) (released what a).parts.told)
+
+-- whether a notice says that the answer to an order isn't awaited any more, though it didn't come: that a link isn't
+-- barred any longer, or, where none is, that T2 ran out
+abbrev pub ends_a_wait : (bars : Bool) → Notice → Bool
+ends_a_wait bars (notices.Unbarred by link) = true
+ends_a_wait bars (notices.Expired changeover_timer.T2 link) = not bars
+ends_a_wait bars (notices.Expired changeover_timer.T1 link) = false
+ends_a_wait bars (notices.Unsent cause point) = false
+ends_a_wait bars (notices.Lost cause point sls) = false
+ends_a_wait bars (notices.Refused cause link) = false
+ends_a_wait bars (notices.Frame fault link) = false
+ends_a_wait bars (notices.Failed link why) = false
+ends_a_wait bars (notices.Late timer number) = false
+
+abbrev pub waits_ended : (bars : Bool) → List Notice → ℕ
+waits_ended bars notices = count_by (ends_a_wait bars) notices
 
 -- the reasons of an event
 abbrev pub reasons_of : Happening → Abstract → Reasons
@@ -145,22 +175,27 @@ reasons_of what a = record {
   expired = expired_of what a;
   late = lateness_of what a;
   doubts = (gone what a).doubts;
+  breaks = waits_ended (bars a.settings) (expired_of what a) + (gone what a).wrong;
 }
 
 -- The notices of an event that name a message as lost are those of what it loses; those of management sent in vain are
 -- of what it sends so; those of T2 and of lateness are of T2, T3 and T4 that run out. It counts a possible loss for each
 -- of the first three, and for each completion without a reasonable number; and a possible lateness for each of the last.
+-- It counts each message that is named as lost; and a break for each answer that isn't awaited any more though it
+-- didn't come, and for each number of a completion that names no count.
 abbrev pub events_account_for_losses : Type 0
 events_account_for_losses =
     (what : Happening) (a : Abstract) →
     AreAccounted (reasons_of what a) (others_of what a) a.node.parts (after whole what a).node.parts
 
--- a take counts neither
+-- a take counts none of these
 abbrev pub takes_flag_nothing : Type 0
 takes_flag_nothing =
     (a : Abstract) (link : ℕ) →
     ((taken whole a link).node.parts.times_lost ≡ a.node.parts.times_lost)
     × ((taken whole a link).node.parts.times_late ≡ a.node.parts.times_late)
+    × ((taken whole a link).node.parts.messages_lost ≡ a.node.parts.messages_lost)
+    × ((taken whole a link).node.parts.times_broken ≡ a.node.parts.times_broken)
 
 -- ---- management that is given up
 

@@ -28,7 +28,7 @@ use Rattle.exchange_rules.specs.First.{Abstract}
 use Rattle.exchange_rules.specs.LawsOfMessages.{is_heard}
 use Rattle.exchange_rules.specs.Messages.{local, own_of, sccp, sst_ticks, test_of, with_titles}
 use Rattle.exchange_rules.specs.Receiving.{new_message}
-use Rattle.exchange_rules.specs.State.{Node, answer, with_parts, Happening, CameUp, WentDown, FrameCame, Ticked, Submitted, Activated, Deactivated, TitleAdded, TitleRemoved}
+use Rattle.exchange_rules.specs.State.{Node, answer, with_parts, Happening, CameUp, WentDown, FrameCame, Ticked, Submitted, Activated, Deactivated, Released, TitleAdded, TitleRemoved}
 use Rattle.exchange_rules.specs.Queues.{WholeQueues, whole}
 
 -- ---- what is heard
@@ -104,6 +104,7 @@ changes_titles (CameUp link) a = false
 changes_titles (WentDown link) a = false
 changes_titles (Activated link emergency) a = false
 changes_titles (Deactivated link) a = false
+changes_titles (Released link) a = false
 
 -- no other does
 abbrev pub nothing_else_changes_titles : Type 0

@@ -51,6 +51,10 @@ pub mod LawsOfFarPoints
 pub mod LawsOfRows
 pub mod ProcedureExamples
 pub mod OrderExamples
+pub mod BarExamples
+pub mod LateExamples
+pub mod LawsOfLateOrders
+pub mod LawsOfWaits
 pub mod LawsOfTelling
 pub mod LawsOfOrders
 pub mod LawsOfAnyRoute

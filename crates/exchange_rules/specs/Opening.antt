@@ -14,8 +14,8 @@ use Rattle.exchange_rules.specs.declared.wants.Wants.{Wants}
 use Rattle.exchange_rules.specs.declared.wants.Wants.TheVariants.{Nothing, Open, Close}
 use Rattle.exchange_rules.specs.State.{unless◌then◌else◌, ◌▷◌, QueueKind, Parts, Node, Done, with_parts, answer, refuse, is_link, link_at, links_with, with_link, down}
 use Rattle.exchange_rules.specs.Timing.{timed}
-use Rattle.changeover.specs.Changeover.{may_restart}
-use Rattle.exchange_rules.specs.ChangingOver.{changeover_of, has_other, fail}
+use Rattle.changeover.specs.Changeover.{is_barred, may_restart}
+use Rattle.exchange_rules.specs.ChangingOver.{changeover_of, has_other, fail, unbarred}
 use Rattle.exchange_rules.specs.LinkTests.{tests_links}
 
 -- a link may open if it has no association yet, and the operator lets it
@@ -101,6 +101,13 @@ module _ {Q : Type 0} (q : QueueKind Q) (c : Configuration) where
       unless is_link node.parts link then refuse NoSuchName node
       else unless (link_at node.parts link).association then answer Ignored node
       else answer Handled (node ▷ fail_if_up link reasons.Association ▷ end_association link)
+
+  -- the operator lets a link open whose answer is awaited, though its changeover is complete
+  abbrev pub release_bar : ℕ → Node Q → Done Q
+  release_bar link node =
+      unless is_link node.parts link then refuse NoSuchName node
+      else unless is_barred (changeover_of node.parts link) then answer Ignored node
+      else answer Handled (with_parts node (unbarred link node.parts))
 
   -- the operator lets a link open, with emergency proving or without it, or keeps it from opening
   abbrev pub set_active : (active emergency : Bool) → ℕ → Node Q → Node Q

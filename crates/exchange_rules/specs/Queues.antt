@@ -4,7 +4,7 @@ use Rattle.signalling_types.specs.Message.{Message}
 use Rattle.cell_pool.specs.Lanes.{users_in, managements_in}
 use Rattle.link.specs.Queue as queue
 use Rattle.link.specs.Queue.{Queue, first_queue}
-use Rattle.changeover.specs.Changeover.{accepted_count, held_after, lost, queued_anew}
+use Rattle.changeover.specs.Changeover.{accepted_count, held_after, is_unreasonable, lost, queued_anew}
 use Rattle.exchange_rules.specs.State.{QueueKind}
 
 -- the messages that are held, and the queue of each link
@@ -31,6 +31,7 @@ whole = record {
   unconfirmed = λ qs link. queue.unconfirmed (queue_at qs link);
   found = λ qs link number. record {
     is_reasonable = is_some (accepted_count (queue_at qs link) number);
+    is_wrong = is_unreasonable number (accepted_count (queue_at qs link) number);
     lost = lost (queue_at qs link) number;
     queued_anew = queued_anew (queue_at qs link) number;
   };

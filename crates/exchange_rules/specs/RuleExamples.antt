@@ -49,6 +49,7 @@ ticks = record {
   link_tests = None;
   l4e = None;
   sst = None;
+  t2_bar = None;
 }
 
 -- one link to an adjacent point, which is the only destination

@@ -56,6 +56,11 @@ pub record Parts : Type 0 where
   pub notices : Noted
   -- how often a message may have been lost since the node was booted, 2 ^ 64 - 1 at most
   pub times_lost : ℕ
+  -- how many messages were named as lost since then, as many at most
+  pub messages_lost : ℕ
+  -- how often since then a changeover ended so that what the other end has of its link isn't known for sure: the answer
+  -- to its order was awaited no more, though it didn't come, or a number came that names no count; as often at most
+  pub times_broken : ℕ
   -- how often messages of a flow may have gone out of order since then, 2 ^ 64 - 1 at most
   pub times_late : ℕ
 
@@ -72,10 +77,11 @@ lost_any p = is_raised p.times_lost
 abbrev pub late_any : Parts → Bool
 late_any p = is_raised p.times_late
 
--- What a completion finds on a link, by the number that its peer gave: whether that names a count, the user messages
--- that are named as lost, and the management messages that are queued again.
+-- What a completion finds on a link, by the number that its peer gave: whether that names a count, whether it gave one
+-- that names none, the user messages that are named as lost, and the management messages that are queued again.
 pub record Found : Type 0 where
   pub is_reasonable : Bool
+  pub is_wrong : Bool
   pub lost : List Message
   pub queued_anew : List Message
 
@@ -150,6 +156,8 @@ pub data Happening : Type 0 where
   Submitted : (message : Message) → Happening
   Activated : (link : ℕ) (emergency : Bool) → Happening
   Deactivated : (link : ℕ) → Happening
+  -- the operator lets a link open whose answer is awaited
+  Released : (link : ℕ) → Happening
   -- a translation row is added, if memory for it isn't refused
   TitleAdded : (row : TitleEntry) (is_memory_refused : Bool) → Happening
   TitleRemoved : (key : TitleKey) (digits : List ℕ) → Happening
@@ -213,6 +221,14 @@ once_more times = suc (min times (2 ^ 64 - 2))
 -- a message may have been lost from now on
 abbrev pub flagged : Parts → Parts
 flagged p = record p { times_lost = once_more p.times_lost }
+
+-- a message was named as lost
+abbrev pub counted_lost : Parts → Parts
+counted_lost p = record p { messages_lost = once_more p.messages_lost }
+
+-- if a changeover ended so that what the other end has isn't known for sure
+abbrev pub broken_if : Bool → Parts → Parts
+broken_if breaks p = record p { times_broken = if breaks then once_more p.times_broken else p.times_broken }
 
 -- messages may have gone out of order from now on
 abbrev pub flagged_late : Parts → Parts

@@ -45,11 +45,13 @@ pub record HoldsNothing (a : Abstract) : Type 0 where
       holds a.node.parts.holds procedure destination sls ≡ false
   pub messages : a.node.queues.held ≡ []
 
--- this is so if nothing but ticks happens for as long, from each quiet state reached from the first
+-- this is so if nothing but ticks happens for as long, from each quiet state reached from the first; where orders go by
+-- any route, one tick more: at its end one may go out late, and then T2 starts
 abbrev pub ticks_end_holds_where_it_is_quiet : Type 0
 ticks_end_holds_where_it_is_quiet =
     (c : Configuration) (asked : List Asking) (many : ℕ) → length c.links ≤ LINKS →
-    IsQuiet (after_each asked (first_state c)).node.parts.timers → longest_wait c.timers ≤ many →
+    IsQuiet (after_each asked (first_state c)).node.parts.timers →
+    longest_wait c.timers + (if c.changeover_by_any_route then 1 else 0) ≤ many →
     HoldsNothing (after_each (ticks_alone many) (after_each asked (first_state c)))
 
 -- from any other, if it happens for as long as the three times together: the timers that take links into or out of

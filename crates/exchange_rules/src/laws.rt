@@ -19,6 +19,7 @@ ghost use Rattle.exchange_rules.specs.Lasting.{notices_raise_flags, unreasonable
 ghost use Rattle.exchange_rules.specs.Lasting.{notices_made_are_counted, new_notices_are_the_last};
 ghost use Rattle.exchange_rules.specs.TimerSettings.{events_set_timers_to_their_settings, timers_keep_their_settings};
 ghost use Rattle.exchange_rules.specs.TimerSettings.{takes_set_timers_to_their_settings, only_l4_is_paced};
+ghost use Rattle.exchange_rules.specs.TimerSettings.{only_t2_is_barred};
 ghost use Rattle.exchange_rules.specs.Testing.{unsure_routes_are_tested, tests_are_repeated};
 ghost use Rattle.exchange_rules.specs.LawsOfFailures.{failures_hold_their_flows, failures_by_peer_hold_their_flows};
 ghost use Rattle.exchange_rules.specs.LawsOfFailures.{idle_failures_hold_nothing, idle_failures_by_peer_hold_nothing};
@@ -49,7 +50,9 @@ pub use links::{
     what_was_received_is_counted,
 };
 pub use orders::{
+    answer_timer_and_operator_end_waits, late_orders_go_once_they_have_a_way,
     one_answer_is_awaited_at_a_time, orders_are_answered_by_any_route, orders_go_where_they_may,
+    waits_end_by_answer_timer_or_operator,
 };
 pub use outage::outages_are_a_state_where_asked_for;
 pub use peers::{
@@ -185,9 +188,9 @@ pub fn nodes_have_their_places()
     ensures always { places_stay }
 {}
 
-/// No flag is raised at first. None ever falls, whatever happens and whatever is taken: once a message may have been
-/// lost, or messages may have gone out of order, that stays shown. They are raised while a notice says so, and by a
-/// completion without a reasonable number.
+/// No flag is raised at first, and nothing is counted. No flag ever falls, whatever happens and whatever is taken: once
+/// a message may have been lost, or messages may have gone out of order, that stays shown. They are raised while a
+/// notice says so, and by a completion without a reasonable number.
 pub fn flags_never_fall()
     ensures first { no_flag_at_first }
     ensures lost { losses_stay }
@@ -221,13 +224,14 @@ pub fn holds_end_by_word_or_timer()
 
 /// Each timer is set to the ticks that the settings give it, whatever happens and whatever is taken: after an event or
 /// a take it has as many left as before, or as many as it is set to, or it doesn't run. A tick takes one from each
-/// first. So none ever has more left than its own setting. L4 alone has two, one by each period for which a link may be
-/// proved, and here either counts.
+/// first. So none ever has more left than its own setting. L4 has two, one by each period for which a link may be
+/// proved, and so has T2 where the settings have a bar; here either counts.
 pub fn timers_are_set_to_their_settings()
     ensures event { events_set_timers_to_their_settings }
     ensures take { takes_set_timers_to_their_settings }
     ensures always { timers_keep_their_settings }
     ensures paced { only_l4_is_paced }
+    ensures barred { only_t2_is_barred }
 {}
 
 /// So where nothing but ticks happens, all holds end, from each state that comes of the first: after as many ticks as
@@ -235,7 +239,8 @@ pub fn timers_are_set_to_their_settings()
 /// and neither timer of a link test. These may take a link into service or out of it, and so begin another wait. L4, L6
 /// and L7 run while a link is being proved, while a peer is busy, and while something that was sent isn't confirmed;
 /// then it takes as many ticks more as the longest of them, and, of a node that tests its links, as the longest pause
-/// between two tests and two answers that are awaited.
+/// between two tests and two answers that are awaited. Where orders go by any route, one may go out late at the end of
+/// the first tick, so that T2 starts then: from a state where no such timer runs it takes one tick more.
 pub fn ticks_end_all_holds()
     ensures quiet { ticks_end_holds_where_it_is_quiet }
     ensures always { ticks_end_all_holds }
@@ -301,12 +306,15 @@ pub fn user_messages_are_conserved()
 /// - those of management sent in vain (Unsent) are those of what it sends so, in order: orders to change over and their
 ///   answers, what a completion queues again, acknowledgements of changeback declarations, answers to route set tests
 ///   and link tests, route set tests, UPU, TFP about a message without a route, and what adjacent points are owed;
-/// - those of T2 (Expired) are of each T2 that runs out;
+/// - those of T2 are of each T2 that runs out, and of each bar that the operator ends: Unbarred where links are barred
+///   and the changeover was complete, else Expired;
 /// - those of lateness (Late) are of each T3 and each T4 that runs out, and so ends holds.
 ///
 /// It counts a possible loss for each notice of the first three kinds and for each completion without a reasonable
-/// number, and a possible lateness for each of the last, and no other. How many notices of other kinds it makes has a
-/// bound. A take counts neither.
+/// number, and a possible lateness for each of the last, and no other. It counts each message that is named as lost
+/// (`messages_lost`). And it counts a break (`times_broken`) for each answer that isn't awaited any more though it
+/// didn't come, so for each Unbarred, and where links aren't barred for each T2 that runs out; and for each number of a
+/// completion that names no count. How many notices of other kinds it makes has a bound. A take counts none of these.
 ///
 /// Management is sent in three ways: on the link of its flow, on a given link, and, queued anew, on the link of its
 /// flow without a look at room. In each it goes to the end of that link's queue; or it finds no room or no link, and is

@@ -4,7 +4,7 @@ use Rattle.exchange_rules.proofs.LastingNotices.{notices-raise, unreasonable-rai
 use Rattle.exchange_rules.proofs.laws.flags_never_fall.Goals as goal
 
 pub returns-clause-first : goal.returns-clause-first
-returns-clause-first c = λ configuration. (refl, refl)
+returns-clause-first c = λ configuration. record { lost = refl; late = refl; messages = refl; broken = refl }
 
 pub returns-clause-lost : goal.returns-clause-lost
 returns-clause-lost c = losses-stay
