@@ -39,6 +39,8 @@ points-steps c = record {
   taken_out = λ n. record { same = refl };
   noted = λ notice n e. record { same = refl };
   lost = λ n. record { same = refl };
+  counted = λ messages broken n. record { same = refl };
+  asked = λ link n e. record { same = refl };
   late = λ n. record { same = refl };
   timed = λ r n e. record { same = refl };
   holding = λ h n e. record { same = refl };

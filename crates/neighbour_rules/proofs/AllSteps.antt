@@ -2,6 +2,7 @@
 use Rattle.pair_rules.proofs.Basics.{inl, ◌≡◌, ◌≢◌, ◌<◌, ℕ, Bool, true, false, List, [], ◌∷◌, length, Option, Some, None, append-nil, refl, ap, sym, subst, ◌∙◌, slice_get, slice_index_or, slice_set, get_or-set_other, get_or-set_same, length-set, ⊎_elim, cases_eq}
 use Rattle.pair_rules.proofs.Definitions.{Message, in_flight, new_message, Handled, Configuration, FrameValue, Nothing, Open, Close, Node, Done, answer, CameUp, FrameCame, WholeQueues, whole, open_link, wanted, apply, settled, done-waits, Reading, PairState, Streams, may_follow, may_open_at, turned}
 use Rattle.exchange_rules.specs.declared.wants.Wants.{Wants}
+use Rattle.exchange_rules.specs.Exchange.{tick}
 use Rattle.pair_moves.specs.Ends as ends
 use Rattle.pair_rules.specs.Pairs as pairs
 use Rattle.pair_rules.specs.Pairs.{Turn, emptied}
@@ -16,12 +17,14 @@ use Rattle.neighbour_rules.specs.Neighbours.{Doing, Does, OpensElsewhere, HearsE
 use Rattle.neighbour_rules.proofs.Untold.{IsUntoldBy}
 use Rattle.neighbour_rules.proofs.Counted.{turned_base}
 use Rattle.neighbour_rules.proofs.World.{reading, reads-alike, shown}
-use Rattle.neighbour_rules.proofs.Good.{AreFlying, Good, IsFlying, Joint, Passes, at}
+use Rattle.neighbour_rules.proofs.Good.{AreFlying, Good, IsFlying, Joint, Passes, at, passes-both}
 use Rattle.neighbour_rules.proofs.Adjacents.{KnowsPoints, event-knows}
 use Rattle.neighbour_rules.proofs.Events.{event-passes, settled-passes}
+use Rattle.neighbour_rules.proofs.Expiries.{release_bar-passes}
 use Rattle.neighbour_rules.proofs.Sharing.{AreFacing, AreOwn, facing_back, far_joint, near_joint}
 use Rattle.neighbour_rules.proofs.FarEnds.{IsLine, LeadsAway, is-line, its-far, leads-away}
 use Rattle.neighbour_rules.proofs.FarEnds as far_ends
+use Rattle.neighbour_rules.proofs.LateOrders.{late_by-passes}
 use Rattle.neighbour_rules.proofs.Opening.{away-up, first-goes, opened-good, second-goes}
 use Rattle.neighbour_rules.proofs.Arriving.{away-comes, speaks_for}
 use Rattle.neighbour_rules.proofs.Statuses.{activate-passes, add_title-passes, association_down-passes, deactivate-passes, remove_title-passes, tick-passes}
@@ -43,6 +46,7 @@ IsUntoldDoing c z a (Does (pairs.Loses link)) p = Unit {0}
 IsUntoldDoing c z a (Does pairs.Ticks) p = Unit {0}
 IsUntoldDoing c z a (Does (pairs.Activates link emergency)) p = Unit {0}
 IsUntoldDoing c z a (Does (pairs.Deactivates link)) p = Unit {0}
+IsUntoldDoing c z a (Does (pairs.Releases link)) p = Unit {0}
 IsUntoldDoing c z a (Does (pairs.AddsTitle row is_memory_refused)) p = Unit {0}
 IsUntoldDoing c z a (Does (pairs.RemovesTitle key digits)) p = Unit {0}
 IsUntoldDoing c z a (Does (pairs.OpensFirst link)) p = Unit {0}
@@ -323,9 +327,10 @@ module _ (c z : Configuration) (a : AreFacing c z) where
     between-stands (pairs.AddsTitle row is_memory_refused) untold s = happens-stands c z a n m ni fi nv fv na nr fa fr _ (λ w. add_title-passes c z j row is_memory_refused w n) s
     between-stands (pairs.RemovesTitle key digits) untold s = happens-stands c z a n m ni fi nv fv na nr fa fr _ (λ w. remove_title-passes c z j key digits w n) s
     between-stands (pairs.Loses link) untold s = happens-stands c z a n m ni fi nv fv na nr fa fr _ (λ w. association_down-passes c z j w n link) s
-    between-stands pairs.Ticks untold s = happens-stands c z a n m ni fi nv fv na nr fa fr _ (λ w. tick-passes c z j w n) s
+    between-stands pairs.Ticks untold s = happens-stands c z a n m ni fi nv fv na nr fa fr _ (λ w. passes-both c z j _ _ _ (tick-passes c z j w n) (late_by-passes c z j Handled w (tick whole c n).left)) s
     between-stands (pairs.Activates link emergency) untold s = happens-stands c z a n m ni fi nv fv na nr fa fr _ (λ w. activate-passes c z j emergency w n link) s
     between-stands (pairs.Deactivates link) untold s = happens-stands c z a n m ni fi nv fv na nr fa fr _ (λ w. deactivate-passes c z j w n link) s
+    between-stands (pairs.Releases link) untold s = happens-stands c z a n m ni fi nv fv na nr fa fr _ (λ w. release_bar-passes c z j w n link) s
     between-stands (pairs.OpensFirst link) untold s = first-by (wanted n.parts link) (far_of link) (far_may_open p (far_of link)) link refl refl refl s
     between-stands (pairs.OpensSecond link) untold s = second-by (wanted n.parts link) (may_follow p.near link) (far_of link) link refl refl refl s
 
@@ -381,6 +386,7 @@ own-untold c z a own (Does (pairs.Loses link)) p = tt
 own-untold c z a own (Does pairs.Ticks) p = tt
 own-untold c z a own (Does (pairs.Activates link emergency)) p = tt
 own-untold c z a own (Does (pairs.Deactivates link)) p = tt
+own-untold c z a own (Does (pairs.Releases link)) p = tt
 own-untold c z a own (Does (pairs.AddsTitle row is_memory_refused)) p = tt
 own-untold c z a own (Does (pairs.RemovesTitle key digits)) p = tt
 own-untold c z a own (Does (pairs.OpensFirst link)) p = tt

@@ -7,6 +7,7 @@ use Rattle.signalling_types.specs.declared.notice.FrameFault.{FrameFault}
 use Rattle.signalling_types.specs.declared.notice.FrameFault.TheVariants as faults
 use Rattle.signalling_types.specs.declared.notice.Notice.TheVariants as notices
 use Rattle.exchange_rules.specs.First.{Abstract}
+use Rattle.exchange_rules.specs.Frames.{receive}
 use Rattle.exchange_rules.specs.Laws.{carried_message}
 use Rattle.exchange_rules.specs.State.{note}
 use Rattle.std.specs.List.{list_any}
@@ -23,6 +24,7 @@ use Rattle.neighbour_rules.proofs.Deliveries.{empty-acted, empty-away, message-a
 use Rattle.neighbour_rules.proofs.Events.{event-passes}
 use Rattle.neighbour_rules.proofs.Failures.{fail-passes}
 use Rattle.neighbour_rules.proofs.Frames.{Pops, Retells, bringing, dropping-frame, none-brought, popped, retold, status-doubled, status-taken}
+use Rattle.neighbour_rules.proofs.LateOrders.{late_by-passes}
 use Rattle.neighbour_rules.proofs.Relinked.{noted-passes}
 use Rattle.neighbour_rules.proofs.Statuses.{status-elsewhere, status-passes}
 
@@ -90,6 +92,15 @@ module _ (c z : Configuration) (j : Joint c z) where
       received : Passes c z j (at c z j w n [] []) (taken_at (is_link n.parts link) (down n.parts link))
       received = passes-good c z j _ _ (λ g. by-state (is_link n.parts link) (down n.parts link) refl (is-there n link g.fits inside) g)
 
+      -- the orders that go out late then
+      abbrev received_at : World
+      received_at =
+          book (option_to_list (newly (is_link n.parts link) (down n.parts link)))
+          (brought_by (newly (is_link n.parts link) (down n.parts link)) (receive whole c link text n).outcome c (accept_text link (read_frame text) (exchange n)))
+
+      ordered : Passes c z j (at c z j received_at (receive whole c link text n).left [] []) (at c z j received_at (handle_event whole c (FrameCame link text) n).left [] [])
+      ordered = late_by-passes c z j (receive whole c link text n).outcome received_at (receive whole c link text n).left
+
       -- the whole event
       event-received : Passes c z j (at c z j w n [] []) (at c z j (book (option_to_list (new_message link text (exchange n))) (brought_in (FrameCame link text) (exchange n))) (apply whole c (FrameCame link text) n).left [] [])
       event-received =
@@ -98,7 +109,7 @@ module _ (c z : Configuration) (j : Joint c z) where
           Passes c z j (at c z j w n [] [])
           (at c z j (book (option_to_list (new_message link text (exchange n))) (brought_by (new_message link text (exchange n)) o c (accept_text link (read_frame text) (exchange n))))
           (handle_event whole c (FrameCame link text) n).left [] []))
-          (sym (outcome-same c (FrameCame link text) n)) received)
+          (sym (outcome-same c (FrameCame link text) n)) (passes-both c z j _ _ _ received ordered))
 
   -- ---- between the two
 

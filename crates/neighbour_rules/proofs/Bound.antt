@@ -102,6 +102,8 @@ module _ (c : Configuration) (well : IsWell c) where
     taken_out = λ n. record { stay = λ h. record { held = tt; queued = h.queued } };
     noted = λ notice n e. same-queues n _ refl;
     lost = λ n. same-queues n _ refl;
+    counted = λ messages broken n. same-queues n _ refl;
+    asked = λ link n e. same-queues n _ refl;
     late = λ n. same-queues n _ refl;
     timed = λ r n e. same-queues n _ refl;
     holding = λ h n e. same-queues n _ refl;

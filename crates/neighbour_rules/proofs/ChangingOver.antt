@@ -4,7 +4,9 @@ use Rattle.pair_rules.proofs.Basics.{⊎_elim, cases_eq, ◌≡◌, ◌≢◌, �
 use Rattle.pair_rules.proofs.Definitions.{link_of, send, appended, answer, Handled, Ignored, without_wait, Message, flow_of, Configuration, Management, IsManagement, ExtendedChangeoverAcknowledgement, Running, clear_timer, Queue, emptied, first_queue, named_count, last_accepted, accepted_count, Standing, acknowledged, completed, no_changeover, behind, managements_of, Link, after_failure, down_link, is_down, Node, with_parts, down, in_service, link_at, links_with, WholeQueues, queue_at, whole, begin_by_peer, changeover_of, fail_by_peer, make_unavailable, with_changeover, acknowledge_changeover, changeover_acknowledgement, complete_by_order, complete_if, fail_by_order, on_changeover_order, on_changeover_acknowledgement, send_each, with_changeover_acknowledged, without_tests, Parts, peer_of, set_of, management_to, send_anew, made-management, code-fits, Fits, StaysFit, fit-steps, alike-at, concluded-steps, Order, Answer, Saying, Pair, Flow}
 use Rattle.signalling_types.specs.Numbers.{previous_number}
 use Rattle.exchange_rules.proofs.SharingNodes.{shared-peer}
+use Rattle.exchange_rules.proofs.SteppingFailures.{bar-steps}
 use Rattle.exchange_rules.proofs.SteppingTimers.{clear-timed}
+use Rattle.exchange_rules.specs.ChangingOver.{bar}
 use Rattle.signalling_types.specs.declared.notice.FailureReason.TheVariants as reasons
 use Rattle.timers.specs.declared.name.TimerName.TheVariants.{T2}
 use Rattle.pair_moves.specs.Ends as ends
@@ -20,6 +22,7 @@ use Rattle.neighbour_rules.proofs.Lines.{at-line, becomes, own-line}
 use Rattle.neighbour_rules.proofs.Made.{adjacent-fits, made-brief, past-other, word-made, word-says}
 use Rattle.neighbour_rules.proofs.Messages.{making, send_routed-passes}
 use Rattle.neighbour_rules.proofs.Falling.{holds-alike}
+use Rattle.neighbour_rules.proofs.Relinked.{timed-passes}
 use Rattle.neighbour_rules.proofs.Unseen.{own, unseen-passes}
 use Rattle.neighbour_rules.proofs.Failures.{fail_by_peer-passes, other-peer}
 use Rattle.neighbour_rules.proofs.Completions.{anew-passes, by_answer, by_any-elsewhere, by_order, concluded_at, found_by}
@@ -92,6 +95,10 @@ module _ (c z : Configuration) (j : Joint c z) where
   order-fails true w n arrived link e = passes-none c z j (at c z j w n arrived [])
   order-fails false w n arrived link e = fail_by_peer-passes c z j w n arrived link e
 
+  -- and is barred, if its answer is awaited
+  pub barring : (w : World) (n : Node WholeQueues) (arrived : List Message) (link : ℕ) → Passes c z j (at c z j w n arrived []) (at c z j w (bar whole c link n) arrived [])
+  barring w n arrived link = timed-passes c z j w n arrived [] (bar whole c link n).parts.timers (bar-steps (fit-steps c) link n)
+
   -- nothing is to be completed
   pub completed-same : (n : Node WholeQueues) (link : ℕ) → (changeover_of n.parts link).incomplete ≡ false → with_parts n (with_changeover link (completed (changeover_of n.parts link)) n.parts) ≡ n
   completed-same n link e =
@@ -136,11 +143,11 @@ module _ (c z : Configuration) (j : Joint c z) where
   complete_at b link number n = complete_if whole c b link number (with_parts n (with_changeover link (completed (changeover_of n.parts link)) n.parts))
 
   concluded-fits : (w : World) (n : Node WholeQueues) (link : ℕ) (number : Option ℕ) → (changeover_of n.parts link).incomplete ≡ true
-      → StaysFit c n (concluded_at c z j w n link (completed (changeover_of n.parts link)) n.parts.timers (accepted_count (queue_at n.queues link) number))
+      → StaysFit c n (concluded_at c z j w n link (completed (changeover_of n.parts link)) n.parts.timers number (accepted_count (queue_at n.queues link) number))
   concluded-fits w n link number e =
       let s : Standing = completed (changeover_of n.parts link) in
       (fit-steps c).both _ _ _ ((fit-steps c).completed link number s n e refl)
-      (concluded-steps (fit-steps c) link (found_by c z j (queue_at n.queues link) (accepted_count (queue_at n.queues link) number)) (record { queues = whole.completed n.queues link number; parts = with_changeover link s n.parts }))
+      (concluded-steps (fit-steps c) link (found_by c z j (queue_at n.queues link) number (accepted_count (queue_at n.queues link) number)) (record { queues = whole.completed n.queues link number; parts = with_changeover link s n.parts }))
 
   module _ (w : World) (n : Node WholeQueues) (m : Message) (rest : List Message) (link number : ℕ) (its : set_of c link ≡ set c z j) (says : heard m ≡ Order (code_of c link) number) (l : link < length c.links) where
     abbrev s : Standing
@@ -156,7 +163,7 @@ module _ (c z : Configuration) (j : Joint c z) where
         passes-both c z j _ _ _
         (by_order c z j w n link s n.parts.timers count m rest number (sent_back n) its refl says l e refl refl (reply-says link (queue_at n.queues link) its)
         (reply-sent link (queue_at n.queues link) its l) (concluded-fits w n link (Some number) e))
-        (anew-passes c z j (behind (queue_at n.queues link) count) w (concluded_at c z j w n link s n.parts.timers count) rest (sent_back n ∷ []))
+        (anew-passes c z j (behind (queue_at n.queues link) count) w (concluded_at c z j w n link s n.parts.timers (Some number) count) rest (sent_back n ∷ []))
     order-completes false e gone =
         subst (λ (o : Node WholeQueues). Passes c z j (at c z j w n (m ∷ rest) []) (at c z j w o rest (sent_back n ∷ []))) (sym (completed-same n link e))
         (replying w n m rest link number (sent_back n) its l says gone e (reply-says link (queue_at n.queues link) its) (reply-sent link (queue_at n.queues link) its l))
@@ -180,9 +187,11 @@ module _ (c z : Configuration) (j : Joint c z) where
   pub order-passes : (w : World) (n : Node WholeQueues) (m : Message) (rest : List Message) (link number : ℕ) → set_of c link ≡ set c z j → heard m ≡ Order (code_of c link) number → link < length c.links
       → Passes c z j (at c z j w n (m ∷ rest) []) (at c z j w (on_changeover_order whole c link (Some number) n).left rest [])
   order-passes w n m rest link number its says l =
-      let one : Node WholeQueues = fail_by_order whole c link n in
+      let fallen : Node WholeQueues = fail_by_order whole c link n in
       passes-both c z j _ _ _ (order-fails (down n.parts link) w n (m ∷ rest) link refl)
-      (order-replies w one m rest link number its says l (λ f. ordered-down (down n.parts link) link n refl l f))
+      (passes-good c z j _ _
+      (λ g. passes-both c z j _ _ _ (barring w fallen (m ∷ rest) link)
+      (order-replies w (bar whole c link fallen) m rest link number its says l (λ f. ordered-down (down n.parts link) link n refl l g.fits))))
 
   -- ---- another point orders one of its own link
 
@@ -192,21 +201,23 @@ module _ (c z : Configuration) (j : Joint c z) where
       let s : Standing = completed (changeover_of n.parts link) in
       let count : Option ℕ = accepted_count (queue_at n.queues link) number in
       passes-both c z j _ _ _
-      (by_any-elsewhere c z j w n link s n.parts.timers count arrived [] d l e (concluded-fits w n link number e))
-      (anew-passes c z j (behind (queue_at n.queues link) count) w (concluded_at c z j w n link s n.parts.timers count) arrived [])
+      (by_any-elsewhere c z j w n link s n.parts.timers number count arrived [] d l e (concluded-fits w n link number e))
+      (anew-passes c z j (behind (queue_at n.queues link) count) w (concluded_at c z j w n link s n.parts.timers number count) arrived [])
   completes-past false w n arrived link number e d l =
       subst (λ (o : Node WholeQueues). Passes c z j (at c z j w n arrived []) (at c z j w o arrived [])) (sym (completed-same n link e)) (passes-none c z j (at c z j w n arrived []))
 
   pub order_past-passes : (w : World) (n : Node WholeQueues) (arrived : List Message) (link : ℕ) (number : Option ℕ) → set_of c link ≢ set c z j → link < length c.links
       → Passes c z j (at c z j w n arrived []) (at c z j w (on_changeover_order whole c link number n).left arrived [])
   order_past-passes w n arrived link number d l =
-      let one : Node WholeQueues = fail_by_order whole c link n in
+      let fallen : Node WholeQueues = fail_by_order whole c link n in
+      let one : Node WholeQueues = bar whole c link fallen in
       let two : Node WholeQueues = complete_by_order whole c link number one in
       let reply : Message = changeover_acknowledgement c link (last_accepted (queue_at two.queues link)) in
       passes-both c z j _ _ _ (order-fails (down n.parts link) w n arrived link refl)
+      (passes-both c z j _ _ _ (barring w fallen arrived link)
       (passes-both c z j _ _ _ (completes-past (changeover_of one.parts link).incomplete w one arrived link number refl d l)
       (passes-both c z j _ _ _ (making c z j w two arrived reply [] (reply-past link (queue_at two.queues link) d) (made-brief c z j (peer_of c link) (reply_word link (last_accepted (queue_at two.queues link)))))
-      (send_routed-passes c z j w two arrived reply [] (made-management c (peer_of c link) (reply_word link (last_accepted (queue_at two.queues link)))))))
+      (send_routed-passes c z j w two arrived reply [] (made-management c (peer_of c link) (reply_word link (last_accepted (queue_at two.queues link))))))))
 
   -- ---- an order is answered
 
@@ -221,12 +232,12 @@ module _ (c z : Configuration) (j : Joint c z) where
     acknowledged_node = with_parts n (with_changeover_acknowledged link n.parts)
 
     answered-fits : (w : World) (number : Option ℕ) → (changeover_of n.parts link).incomplete ≡ true
-        → StaysFit c n (concluded_at c z j w n link over stilled (accepted_count (queue_at n.queues link) number))
+        → StaysFit c n (concluded_at c z j w n link over stilled number (accepted_count (queue_at n.queues link) number))
     answered-fits w number e =
         let stopped : Node WholeQueues = with_parts n (record n.parts { timers = stilled }) in
         (fit-steps c).both _ _ _ ((fit-steps c).timed stilled n (clear-timed (T2 link) n.parts.timers (λ l e. cc)))
         ((fit-steps c).both _ _ _ ((fit-steps c).completed link number over stopped e refl)
-        (concluded-steps (fit-steps c) link (found_by c z j (queue_at n.queues link) (accepted_count (queue_at n.queues link) number)) (record { queues = whole.completed n.queues link number; parts = with_changeover link over stopped.parts })))
+        (concluded-steps (fit-steps c) link (found_by c z j (queue_at n.queues link) number (accepted_count (queue_at n.queues link) number)) (record { queues = whole.completed n.queues link number; parts = with_changeover link over stopped.parts })))
 
     waited-fits : (changeover_of n.parts link).incomplete ≡ false → StaysFit c n acknowledged_node
     waited-fits e =
@@ -257,7 +268,7 @@ module _ (c z : Configuration) (j : Joint c z) where
         let count : Option ℕ = named_count (queue_at n.queues link) number in
         passes-both c z j _ _ _
         (by_answer c z j w n link (over n link) (stilled n link) count m rest number its refl says l e awaited refl refl (answered-fits n link w (Some number) e))
-        (anew-passes c z j (behind (queue_at n.queues link) count) w (concluded_at c z j w n link (over n link) (stilled n link) count) rest [])
+        (anew-passes c z j (behind (queue_at n.queues link) count) w (concluded_at c z j w n link (over n link) (stilled n link) (Some number) count) rest [])
     answer-completes false e awaited = wait_ends
       where
         wait_ends : Passes c z j (at c z j w n (m ∷ rest) []) (at c z j w (acknowledged_node n link) rest [])
@@ -341,8 +352,8 @@ module _ (c z : Configuration) (j : Joint c z) where
     answer-past true e =
         let count : Option ℕ = accepted_count (queue_at n.queues link) number in
         passes-both c z j _ _ _
-        (by_any-elsewhere c z j w n link (over n link) (stilled n link) count arrived [] d l e (answered-fits n link w number e))
-        (anew-passes c z j (behind (queue_at n.queues link) count) w (concluded_at c z j w n link (over n link) (stilled n link) count) arrived [])
+        (by_any-elsewhere c z j w n link (over n link) (stilled n link) number count arrived [] d l e (answered-fits n link w number e))
+        (anew-passes c z j (behind (queue_at n.queues link) count) w (concluded_at c z j w n link (over n link) (stilled n link) number count) arrived [])
     answer-past false e = passes-good c z j _ _ (λ g. unseen-passes c z j n (acknowledged_node n link) (record {
       fits = waited-fits n link e;
       queues = refl;

@@ -277,8 +277,13 @@ module _ (c z : Configuration) (j : Joint c z) where
 
   -- ---- what a completion finds
 
-  abbrev pub found_by : Queue → Option ℕ → Found
-  found_by q count = record { is_reasonable = is_some count; lost = users_of (completion.in_doubt q count); queued_anew = managements_of (behind q count) }
+  abbrev pub found_by : Queue → (number count : Option ℕ) → Found
+  found_by q number count = record {
+    is_reasonable = is_some count;
+    is_wrong = completion.is_unreasonable number count;
+    lost = users_of (completion.in_doubt q count);
+    queued_anew = managements_of (behind q count);
+  }
 
   -- ---- losses that are noted
 
@@ -306,11 +311,11 @@ module _ (c z : Configuration) (j : Joint c z) where
     abbrev ended : Parts
     ended = record n.parts { changeovers = with_standing n.parts.changeovers link s; timers = t }
 
-    -- the node once a completion found this count
-    abbrev pub concluded_at : Option ℕ → Node WholeQueues
-    concluded_at count = record {
+    -- the node once a completion by this number found this count
+    abbrev pub concluded_at : (number count : Option ℕ) → Node WholeQueues
+    concluded_at number count = record {
       queues = record { held = users_of (behind q count) ++ n.queues.held; links = slice_set n.queues.links link (emptied q) };
-      parts = concluded link (found_by q count) ended;
+      parts = concluded link (found_by q number count) ended;
     }
 
     -- it counts what it loses, and the loss that there may be
@@ -320,13 +325,13 @@ module _ (c z : Configuration) (j : Joint c z) where
     still-counted : IsBase j.base.near (counts_of n.parts) → IsBase j.base.near (counts_of lost_then)
     still-counted h = (losses-noted (users_of (completion.in_doubt q None)) ended).counted h
 
-    pub concluded-beyond : IsBase j.base.near (counts_of n.parts) → nat_lt j.base.near.lost (concluded_at None).parts.times_lost ≡ true
-    concluded-beyond h = beyond-lost j.base.near (counts_of lost_then) (counts_of (concluded_at None).parts) j.grows refl (still-counted h)
+    pub concluded-beyond : (number : Option ℕ) → IsBase j.base.near (counts_of n.parts) → nat_lt j.base.near.lost (concluded_at number None).parts.times_lost ≡ true
+    concluded-beyond number h = beyond-lost j.base.near (counts_of lost_then) (counts_of (concluded_at number None).parts) j.grows refl (still-counted h)
 
-    pub lost-good : (arrived rest before next : List Message) → StaysFit c n (concluded_at None) → (Good c z j (at c z j w n arrived before) → Each (IsSent z c j.base.back j.shares.far_set) rest)
+    pub lost-good : (number : Option ℕ) (arrived rest before next : List Message) → StaysFit c n (concluded_at number None) → (Good c z j (at c z j w n arrived before) → Each (IsSent z c j.base.back j.shares.far_set) rest)
         → (Good c z j (at c z j w n arrived before) → Each Sent next) → (changeover_of n.parts link).incomplete ≡ true → link < length c.links
-        → Good c z j (at c z j w n arrived before) → Good c z j (at c z j w (concluded_at None) rest next)
-    lost-good arrived rest before next stay r m incomplete l g =
+        → Good c z j (at c z j w n arrived before) → Good c z j (at c z j w (concluded_at number None) rest next)
+    lost-good number arrived rest before next stay r m incomplete l g =
         let noted : IsNoted ended lost_then = losses-noted (users_of (completion.in_doubt q None)) ended in
         record {
           fits = stay.stay g.fits;
@@ -353,13 +358,13 @@ module _ (c z : Configuration) (j : Joint c z) where
     -- an order completes the changeover by this count
     pub by_order : (count : Option ℕ) (m : Message) (rest : List Message) (number : ℕ) (reply : Message) → set_of c link ≡ set c z j → named_count q number ≡ count → heard m ≡ Order (code_of c link) number
         → link < length c.links → (changeover_of n.parts link).incomplete ≡ true → s.incomplete ≡ false → s.awaited ≡ (changeover_of n.parts link).awaited
-        → read reply ≡ Answer (code_of c link) (last_accepted q) → Sent reply → StaysFit c n (concluded_at count)
-        → Passes c z j (at c z j w n (m ∷ rest) []) (at c z j w (concluded_at count) rest (managements_of (behind q count) ++ reply ∷ []))
+        → read reply ≡ Answer (code_of c link) (last_accepted q) → Sent reply → StaysFit c n (concluded_at (Some number) count)
+        → Passes c z j (at c z j w n (m ∷ rest) []) (at c z j w (concluded_at (Some number) count) rest (managements_of (behind q count) ++ reply ∷ []))
     by_order (Some count) m rest number reply its named says l incomplete complete same answers sent stay =
         completing w n link count s (clear_timer (T1 link) t) m rest number reply its says l incomplete complete same named answers sent stay
     by_order None m rest number reply its named says l incomplete complete same answers sent stay = record {
-      goes = λ g. goes-lost (reading c.own z.own j.base) _ _ (concluded-beyond g.counted);
-      good = λ g. lost-good (m ∷ rest) rest [] (managements_of (behind q None) ++ reply ∷ []) stay (λ h. h.arrived.1)
+      goes = λ g. goes-lost (reading c.own z.own j.base) _ _ (concluded-beyond (Some number) g.counted);
+      good = λ g. lost-good (Some number) (m ∷ rest) rest [] (managements_of (behind q None) ++ reply ∷ []) stay (λ h. h.arrived.1)
           (λ h. each-behind Sent (managements_of (behind q None)) (reply ∷ []) (anew-sent (h.queued link)) (sent, tt))
           incomplete l g;
     }
@@ -367,21 +372,22 @@ module _ (c z : Configuration) (j : Joint c z) where
     -- and an answer does
     pub by_answer : (count : Option ℕ) (m : Message) (rest : List Message) (number : ℕ) → set_of c link ≡ set c z j → named_count q number ≡ count → heard m ≡ Answer (code_of c link) number
         → link < length c.links → (changeover_of n.parts link).incomplete ≡ true → (changeover_of n.parts link).awaited ≡ true → s.incomplete ≡ false → s.awaited ≡ false
-        → StaysFit c n (concluded_at count) → Passes c z j (at c z j w n (m ∷ rest) []) (at c z j w (concluded_at count) rest (managements_of (behind q count) ++ []))
+        → StaysFit c n (concluded_at (Some number) count) → Passes c z j (at c z j w n (m ∷ rest) []) (at c z j w (concluded_at (Some number) count) rest (managements_of (behind q count) ++ []))
     by_answer (Some count) m rest number its named says l incomplete awaited complete over stay =
         ending w n link count s (clear_timer (T1 link) t) m rest number its says l incomplete awaited complete over named stay
     by_answer None m rest number its named says l incomplete awaited complete over stay = record {
-      goes = λ g. goes-lost (reading c.own z.own j.base) _ _ (concluded-beyond g.counted);
-      good = λ g. lost-good (m ∷ rest) rest [] (managements_of (behind q None) ++ []) stay (λ h. h.arrived.1)
+      goes = λ g. goes-lost (reading c.own z.own j.base) _ _ (concluded-beyond (Some number) g.counted);
+      good = λ g. lost-good (Some number) (m ∷ rest) rest [] (managements_of (behind q None) ++ []) stay (λ h. h.arrived.1)
           (λ h. each-behind Sent (managements_of (behind q None)) [] (anew-sent (h.queued link)) tt) incomplete l g;
     }
 
     -- whatever completes that of a link that leads elsewhere
-    pub by_any-elsewhere : (count : Option ℕ) (arrived more : List Message) → set_of c link ≢ set c z j → link < length c.links → (changeover_of n.parts link).incomplete ≡ true
-        → StaysFit c n (concluded_at count) → Passes c z j (at c z j w n arrived more) (at c z j w (concluded_at count) arrived (managements_of (behind q count) ++ more))
-    by_any-elsewhere (Some count) arrived more d l incomplete stay = finishing-elsewhere w n link count s (clear_timer (T1 link) t) arrived more d l incomplete stay
-    by_any-elsewhere None arrived more d l incomplete stay = record {
-      goes = λ g. goes-lost (reading c.own z.own j.base) _ _ (concluded-beyond g.counted);
-      good = λ g. lost-good arrived arrived more (managements_of (behind q None) ++ more) stay (λ h. h.arrived)
+    pub by_any-elsewhere : (number count : Option ℕ) (arrived more : List Message) → set_of c link ≢ set c z j → link < length c.links → (changeover_of n.parts link).incomplete ≡ true
+        → StaysFit c n (concluded_at number count) → Passes c z j (at c z j w n arrived more) (at c z j w (concluded_at number count) arrived (managements_of (behind q count) ++ more))
+    by_any-elsewhere (Some number) (Some count) arrived more d l incomplete stay = finishing-elsewhere w n link count s (clear_timer (T1 link) t) arrived more d l incomplete stay
+    by_any-elsewhere None (Some count) arrived more d l incomplete stay = finishing-elsewhere w n link count s (clear_timer (T1 link) t) arrived more d l incomplete stay
+    by_any-elsewhere number None arrived more d l incomplete stay = record {
+      goes = λ g. goes-lost (reading c.own z.own j.base) _ _ (concluded-beyond number g.counted);
+      good = λ g. lost-good number arrived arrived more (managements_of (behind q None) ++ more) stay (λ h. h.arrived)
           (λ h. each-behind Sent (managements_of (behind q None)) more (anew-sent (h.queued link)) h.loose) incomplete l g;
     }

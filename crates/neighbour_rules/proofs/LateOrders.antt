@@ -1,7 +1,14 @@
 -- An order to change over goes out late, when there is a way to the link's point: by a move where the link is one of the
 -- two, unseen where it leads elsewhere.
-use Rattle.pair_rules.proofs.Basics.{◌≡◌, ◌≢◌, ◌<◌, ◌≤◌, ℕ, Bool, true, false, List, [], ◌∷◌, length, refl, ap, sym, subst, ◌∙◌, ⊎_elim, cases_eq, cases_lt, get_or_past}
-use Rattle.pair_rules.proofs.Definitions.{Message, Flow, Configuration, Running, Standing, no_changeover, with_standing, Node, with_parts, link_at, WholeQueues, queue_at, whole, changeover_of, changeover_order, peer_of, set_of, send_routed, made-management, Fits, StaysFit, Order, Pair, last_accepted}
+use Rattle.pair_rules.proofs.Basics.{◌≡◌, ◌≢◌, ◌<◌, ◌≤◌, not, ℕ, zero, suc, Bool, true, false, List, [], ◌∷◌, length, refl, ap, sym, subst, ◌∙◌, ⊎_elim, cases_eq, cases_lt, get_or_past, and_parts, if◌then◌else◌}
+use Rattle.pair_rules.proofs.Definitions.{facts, Outcome, Refused, Queued, Held, Local, Handled, Ignored, set_timer, clear_timer, fit-steps, Message, Flow, Configuration, Running, Standing, no_changeover, with_standing, Node, with_parts, link_at, WholeQueues, queue_at, whole, changeover_of, changeover_order, peer_of, set_of, send_routed, made-management, Fits, StaysFit, Order, Pair, last_accepted}
+use Rattle.changeover.specs.Changeover.{is_unasked, with_order}
+use Rattle.timers.specs.declared.name.TimerName.TheVariants.{T1, T2}
+use Rattle.exchange_rules.specs.ChangingOver.{has_way, is_late, order_all, order_if_late, order_late}
+unfoldable use Rattle.exchange_rules.specs.ChangingOver.{order_each}
+use Rattle.exchange_rules.specs.Exchange.{late_by}
+use Rattle.exchange_rules.proofs.SteppingTimers.{both-timed, clear-timed, set-timed}
+use Rattle.exchange_rules.proofs.LateOrders.{order_all-facts}
 use Rattle.pair_moves.specs.Ends as ends
 use Rattle.pair_moves.specs.LateOrders.{with_wait}
 use Rattle.pair_moves.specs.Moves as moves
@@ -10,7 +17,7 @@ use Rattle.pair_rules.proofs.Good.{Each}
 use Rattle.pair_rules.proofs.Going.{goes-one}
 use Rattle.pair_rules.proofs.Lines.{end-by, end_by, standing-here, standing-other}
 use Rattle.neighbour_rules.proofs.World.{code_of, line_of, reading, route_of, says_of, shown}
-use Rattle.neighbour_rules.proofs.Good.{Good, IsMade, IsSent, Joint, Passes, at, made, orders, passes-both, passes-good, set}
+use Rattle.neighbour_rules.proofs.Good.{Good, IsMade, IsSent, Joint, Passes, at, made, orders, passes-both, passes-good, passes-none, set}
 use Rattle.neighbour_rules.proofs.Lines.{at-line, becomes, own-line, standing-settled}
 use Rattle.neighbour_rules.proofs.Made.{adjacent-fits, made-brief, past-other, word-made, word-says}
 use Rattle.neighbour_rules.proofs.Messages.{making, send_routed-passes}
@@ -133,3 +140,78 @@ module _ (c z : Configuration) (j : Joint c z) where
         (λ (d : set_of c link ≢ set c z j). ordering-elsewhere d stay)
         (cases_eq (set_of c link) (set c z j)))
         (send_routed-passes c z j w after arrived order [] (made-management c (peer_of c link) (order_word c z j link n)))
+
+  -- ---- all links about which no order went out, and that have a way
+
+  unawaited : (b : Bool) → not b ≡ true → b ≡ false
+  unawaited true e = absurd cc
+  unawaited false e = refl
+
+  one-late : (w : World) (n : Node WholeQueues) (arrived : List Message) (link : ℕ) → Passes c z j (at c z j w n arrived []) (at c z j w (order_if_late whole c link n) arrived [])
+  one-late w n arrived link = by (is_late c link n.parts) refl
+    where
+      s : Standing
+      s = changeover_of n.parts link
+
+      stopped : Running
+      stopped = clear_timer (T1 link) n.parts.timers
+
+      t : Running
+      t = set_timer (T2 link) c.timers.t2 stopped
+
+      stay : is_unasked s ≡ true → StaysFit c n (awaiting link (with_order s) t n)
+      stay e =
+          (fit-steps c).both _ _ _
+          ((fit-steps c).timed t n
+          (both-timed n.parts.timers stopped t (clear-timed (T1 link) n.parts.timers (λ l f. cc)) (set-timed (T2 link) c.timers.t2 stopped (λ l f. cc))))
+          ((fit-steps c).asked link (with_parts n (record n.parts { timers = t })) e)
+
+      by : (b : Bool) → is_late c link n.parts ≡ b → Passes c z j (at c z j w n arrived []) (at c z j w (if b then order_late whole c link n else n) arrived [])
+      by true e =
+          let unasked : is_unasked s ≡ true = (and_parts (is_unasked s) (has_way c link n.parts) e).0 in
+          let known : (s.incomplete ≡ true) × (not s.awaited ≡ true) = and_parts s.incomplete (not s.awaited) unasked in
+          order-late-passes w n arrived link (with_order s) t known.0 (unawaited s.awaited known.1) known.0 refl (stay unasked)
+      by false e = passes-none c z j (at c z j w n arrived [])
+
+  each-late : (count : ℕ) (w : World) (n : Node WholeQueues) (arrived : List Message) → Passes c z j (at c z j w n arrived []) (at c z j w (order_each whole c count n) arrived [])
+  unfolding order_each
+  each-late zero w n arrived = passes-none c z j (at c z j w n arrived [])
+  each-late (suc link) w n arrived = passes-both c z j _ _ _ (each-late link w n arrived) (one-late w (order_each whole c link n) arrived link)
+
+  all-late : (w : World) (n : Node WholeQueues) (arrived : List Message) → Passes c z j (at c z j w n arrived []) (at c z j w (order_all whole c n) arrived [])
+  all-late w n arrived = by c.changeover_by_any_route
+    where
+      by : (b : Bool) → Passes c z j (at c z j w n arrived []) (at c z j w (if b then order_each whole c (length c.links) n else n) arrived [])
+      by true = each-late (length c.links) w n arrived
+      by false = passes-none c z j (at c z j w n arrived [])
+
+  -- after a tick, and after a frame that wasn't refused
+  pub late_by-passes : (o : Outcome) (w : World) (n : Node WholeQueues) → Passes c z j (at c z j w n [] []) (at c z j w (late_by whole c o n) [] [])
+  late_by-passes (Refused cause) w n = passes-none c z j (at c z j w n [] [])
+  late_by-passes (Queued link) w n = all-late w n []
+  late_by-passes Held w n = all-late w n []
+  late_by-passes Local w n = all-late w n []
+  late_by-passes Handled w n = all-late w n []
+  late_by-passes Ignored w n = all-late w n []
+
+-- ---- where links lead isn't changed, and without the key nothing is
+
+module _ (c : Configuration) where
+  pub late_by-facts : (o : Outcome) (n : Node WholeQueues) → facts c (late_by whole c o n).parts ≡ facts c n.parts
+  late_by-facts (Refused cause) n = refl
+  late_by-facts (Queued link) n = order_all-facts c n
+  late_by-facts Held n = order_all-facts c n
+  late_by-facts Local n = order_all-facts c n
+  late_by-facts Handled n = order_all-facts c n
+  late_by-facts Ignored n = order_all-facts c n
+
+  without-key : c.changeover_by_any_route ≡ false → (n : Node WholeQueues) → order_all whole c n ≡ n
+  without-key e n = ap (λ (b : Bool). if b then order_each whole c (length c.links) n else n) e
+
+  pub none-late : c.changeover_by_any_route ≡ false → (o : Outcome) (n : Node WholeQueues) → late_by whole c o n ≡ n
+  none-late e (Refused cause) n = refl
+  none-late e (Queued link) n = without-key e n
+  none-late e Held n = without-key e n
+  none-late e Local n = without-key e n
+  none-late e Handled n = without-key e n
+  none-late e Ignored n = without-key e n

@@ -1,6 +1,6 @@
 -- Link tests, and management that passes by, as it comes to a node: by moves.
 use Rattle.pair_rules.proofs.Basics.{◌⊎◌, inl, inr, eq-eqb, suc, ◌≡◌, ◌≢◌, ◌<◌, ◌≤◌, ◌+◌, ◌^◌, ◌/◌, ◌%◌, ◌&&◌, ℕ, Bool, true, false, List, [], ◌∷◌, length, Option, Some, None, Result, Ok, Err, refl, ap, sym, subst, ◌∙◌, nat_eq, nat_lt, arith, nat_tests, drop, take, if◌then◌else◌, option_and_then, slice_index_or, ⊎_elim, cases_eq}
-use Rattle.pair_rules.proofs.Definitions.{Message, SIF_OCTETS, flow_of, is_management, opc_of, service_indicator, Cause, Handled, Ignored, Configuration, LinkEntry, SetEntry, set_place, destination_place, Management, MgmtFault, read_management, Node, answer, refuse, with_parts, in_service, set_of, link_of, no_room, send, queue_on, link_with_code, is_outstanding, freed, on_changeback_acknowledgement, on_management, do_management, do_order, do_acknowledgement, do_test, manage, testing, is_adjacent, WholeQueues, whole, StaysFit, fit-steps, Saying}
+use Rattle.pair_rules.proofs.Definitions.{Message, SIF_OCTETS, flow_of, is_management, opc_of, service_indicator, Cause, Handled, Ignored, Configuration, LinkEntry, SetEntry, set_place, destination_place, Management, MgmtFault, read_management, Node, answer, with_parts, in_service, set_of, link_of, no_room, send, queue_on, link_with_code, is_outstanding, freed, on_changeback_acknowledgement, on_management, do_management, do_order, do_acknowledgement, do_test, manage, testing, is_adjacent, WholeQueues, whole, StaysFit, fit-steps, Saying}
 use Rattle.std.proofs.lemmas.List.{length-drop, length-take}
 use Rattle.std.proofs.lemmas.List.Quantifiers.{position-Some}
 use Rattle.mtp3_codec.specs.Headings.{cause_of_code, changeback_code_in, kind_of, label_at, number_in, point_in}
@@ -11,7 +11,6 @@ use Rattle.mtp3_codec.specs.declared.link_test.TestKind.TheVariants.{Test, Ackno
 use Rattle.mtp3_codec.specs.declared.management.Management.TheVariants as says
 use Rattle.routes.specs.declared.route.RouteStatus.TheVariants.{Allowed, Restricted, Prohibited}
 use Rattle.route_management.specs.declared.heard.RouteTest.TheVariants as tests
-use Rattle.signalling_types.specs.declared.cause.Cause.TheVariants as causes
 use Rattle.exchange_rules.specs.Messages.{do_kind, link_in_set, test_answer, from_afar}
 use Rattle.exchange_rules.specs.Routing.{adjacent_of, route_about}
 use Rattle.exchange_rules.proofs.Basics.{eqb-true}
@@ -21,7 +20,7 @@ use Rattle.exchange_rules.proofs.Steps.{sends-of}
 use Rattle.exchange_rules.proofs.SteppingMessages.{by_link-steps}
 use Rattle.pair_moves.specs.Sayings.{Other}
 use Rattle.pair_rules.proofs.World.{World}
-use Rattle.neighbour_rules.proofs.World.{management_says, read_says, says_of}
+use Rattle.neighbour_rules.proofs.World.{management_says, says_of}
 use Rattle.neighbour_rules.proofs.Good.{Joint, Passes, at, passes-both, passes-none, set}
 use Rattle.neighbour_rules.proofs.Adjacents.{KnowsPoints}
 use Rattle.neighbour_rules.proofs.ChangingOver.{acknowledgement_past-passes, order_past-passes}

@@ -1,6 +1,6 @@
 -- What a frame that is handed in leads to tells what it brought, and what was accepted of that.
-use Rattle.pair_rules.proofs.Basics.{◌&&◌, ◌≡◌, ◌≢◌, inl, inr, ℕ, Bool, true, false, List, [], ◌∷◌, ◌++◌, length, Option, Some, None, Ok, refl, ap, sym, subst, ◌∙◌, nat_eq, not, ◌⊎◌, if◌then◌else◌, drop, option_to_list, slice_get, ◌||◌, eq-eqb, is_some, nat_lt, Result, Err}
-use Rattle.pair_rules.proofs.Definitions.{with_parts, Label, Message, dpc_of, opc_of, flow_of, SIF_OCTETS, network_indicator, read_management, is_management, service_indicator, Cause, Outcome, Handled, Ignored, Local, Refused, Queued, Held, Configuration, TitleEntry, FrameValue, read_frame, Discrimination, Management, is_outstanding, set_place, Node, Done, answer, refuse, FrameCame, WholeQueues, whole, changeover_of, on_changeback_acknowledgement, accept_text, answered_in, brought_by, brought_here, brought_in, brought_to, taken_in, unitdata_in, distribute, do_order, do_acknowledgement, is_user, local, manage, on_management, sccp, deliver, deliver_to, whither_goes, on_unitdata, is_idle, new_message, outcome_of, receive, users_of, PairState, Streams, Delivers, DeliversStatus, after_steps, deliver_frame, first_pair, in_flight, turned, without_data, without_status}
+use Rattle.pair_rules.proofs.Basics.{◌&&◌, ◌≡◌, ◌≢◌, inl, inr, ℕ, Bool, true, false, List, [], ◌∷◌, ◌++◌, length, Option, Some, None, Ok, refl, ap, sym, subst, ◌∙◌, nat_eq, not, ◌⊎◌, if◌then◌else◌, drop, option_to_list, slice_get, eq-eqb, is_some, nat_lt, Result, Err}
+use Rattle.pair_rules.proofs.Definitions.{Message, dpc_of, opc_of, flow_of, SIF_OCTETS, network_indicator, read_management, is_management, service_indicator, Cause, Outcome, Handled, Ignored, Local, Refused, Queued, Held, Configuration, FrameValue, read_frame, Discrimination, Management, is_outstanding, set_place, Node, Done, answer, refuse, FrameCame, WholeQueues, whole, changeover_of, on_changeback_acknowledgement, accept_text, answered_in, brought_by, brought_here, brought_in, brought_to, taken_in, unitdata_in, distribute, do_order, do_acknowledgement, is_user, local, manage, on_management, sccp, deliver, deliver_to, whither_goes, on_unitdata, is_idle, new_message, outcome_of, receive, users_of, PairState, Streams, Delivers, DeliversStatus, after_steps, deliver_frame, first_pair, in_flight, turned, without_data, without_status}
 use Rattle.signalling_types.specs.declared.cause.Cause.TheVariants as causes
 use Rattle.sccp_relay.specs.Relay as relays
 use Rattle.sccp_relay.specs.Points.{OwnValue}
@@ -12,6 +12,7 @@ use Rattle.exchange_rules.specs.Exchange.{after}
 use Rattle.exchange_rules.specs.First.{Abstract}
 use Rattle.exchange_rules.proofs.Received.{nothing-delivered}
 use Rattle.exchange_rules.proofs.KeptFacts.{own-same, deliver-facts, after-facts}
+use Rattle.neighbour_rules.proofs.LateOrders.{late_by-facts}
 use Rattle.exchange_rules.specs.Laws.{carried_message}
 use Rattle.exchange_rules.proofs.CarriedMessages.{new-carried}
 use Rattle.pair_rules.specs.Deliveries.{ComesOf, ComesTo, GoesOn, IsQuiet, IsRefused, IsRelayed, IsReturnedAtMost, Tells, deliveries_tell}
@@ -370,7 +371,7 @@ module _ (c z : Configuration) (g : AreJoined c z) (f : AreFacing c z) (own : f.
         let d : Done WholeQueues = receive whole c link text n in
         let out : Node WholeQueues = (after whole (FrameCame link text) there).node in
         subst (λ (x : OwnValue). ComesTo x c n.parts.titles (users_of (m ∷ [])) (brought_by (Some m) (outcome_of whole (FrameCame link text) there) c left) (outcome_of whole (FrameCame link text) there))
-        (sym (own-same c out d.left (after-facts c (FrameCame link text) n)))
+        (sym (own-same c out d.left (after-facts c (FrameCame link text) n ∙ late_by-facts c d.outcome d.left)))
         (subst (λ (o : Outcome). ComesTo (own_of c d.left.parts) c n.parts.titles (users_of (m ∷ [])) (brought_by (Some m) o c left) o) (sym (outcome-same c (FrameCame link text) n))
         (subst (λ (rows : TitlesValue). ComesTo (own_of c d.left.parts) c rows (users_of (m ∷ [])) (brought_by (Some m) d.outcome c left) d.outcome)
         (accepted-titles c link (read_frame text) n)

@@ -1,41 +1,33 @@
 -- A link takes a step of its alignment, or passes a test, and if it begins to carry traffic it takes its flows back.
-use Rattle.pair_rules.proofs.Basics.{◌≡◌, ◌≢◌, ◌⊎◌, inl, inr, ◌<◌, ◌&&◌, ℕ, zero, suc, Bool, true, false, not, List, [], length, Option, refl, ap, sym, subst, ◌∙◌, nat_lt, nat_eq, if◌then◌else◌, option_map, ⊎_elim, fun_ext, and_parts, cases_eq, None}
-use Rattle.pair_rules.proofs.Definitions.{in_traffic, code_for, hold_flows, is_taken_back, answer, Handled, Ignored, SELECTIONS, Message, Flow, Configuration, destination_place, Input, acts_on, Link, down_link, is_down, is_in_service, stepped, FrameValue, each-set, facts_alike, chosen_link, Route, Running, Standing, ToldTable, Facts, Node, Parts, with_parts, down, in_service, link_at, WholeQueues, whole, has_other, facts, network_of, set_of, change_back, loses_flows, take_back_each, advance, begun_anew_if, enters, step_on, Alignment, changeover_of, StaysFit, fit-steps, each-step, anew-steps, stepped-at, stepped-other, stepping-there, IsAlike, take_back_each-alike, LinkEnd, Pair, Saying}
-use Rattle.std.proofs.Common.{option_and_then}
+use Rattle.pair_rules.proofs.Basics.{◌≡◌, ◌≢◌, ◌⊎◌, inl, inr, ◌<◌, ◌&&◌, ℕ, zero, suc, Bool, true, false, not, List, [], length, refl, ap, sym, subst, ◌∙◌, if◌then◌else◌, ⊎_elim, fun_ext, and_parts, cases_eq}
+use Rattle.pair_rules.proofs.Definitions.{code_for, hold_flows, is_taken_back, answer, Handled, Ignored, Message, Configuration, Input, acts_on, Link, is_down, is_in_service, stepped, FrameValue, facts_alike, chosen_link, Facts, Node, Parts, with_parts, down, in_service, link_at, WholeQueues, whole, has_other, facts, network_of, set_of, change_back, loses_flows, take_back_each, advance, begun_anew_if, enters, step_on, Alignment, StaysFit, fit-steps, each-step, anew-steps, stepped-at, stepped-other, stepping-there, LinkEnd}
 use Rattle.link.specs.declared.action.Action.TheVariants.{Go}
 use Rattle.link.specs.declared.action.Transition.{Transition}
-use Rattle.pair_rules.proofs.Basics.{get_or-set_same, get_or-set_other}
 use Rattle.std.proofs.lemmas.Option.{same_Some}
 use Rattle.std.specs.Prelude.{Some}
 use Rattle.link.specs.declared.alignment.Alignment.TheVariants.{Down, NotAligned, Aligned, Proving, AlignedReady, InService}
 use Rattle.mtp3_codec.specs.Management.{LinkTestValue}
 use Rattle.flow_hold.specs.Pairs.{IsAnyFlow}
-use Rattle.exchange_rules.proofs.Entering.{relinked, known_links, passed-none}
+use Rattle.exchange_rules.proofs.Entering.{passed-none}
 use Rattle.exchange_rules.proofs.Moves.{serving-there}
 use Rattle.exchange_rules.proofs.Steps.{brings_back}
-use Rattle.exchange_rules.proofs.SteppingEntries.{anew-link}
 use Rattle.exchange_rules.proofs.SteppingTests.{passed_anew-steps, serving-up}
 use Rattle.exchange_rules.proofs.TakenBack.{some_lost, went, other_loses}
 use Rattle.exchange_rules.specs.Entering.{begun_anew, begin_traffic}
 use Rattle.exchange_rules.specs.Frames.{take_step, test_if}
 use Rattle.exchange_rules.specs.LinkTests.{answers_test, is_first_test, is_test_awaited, on_test_answer, pass_test, passes_test, test_passed, tests_links}
 use Rattle.exchange_rules.proofs.Rules.{rules-of}
-use Rattle.pair_moves.specs.Ends as ends
 use Rattle.pair_moves.specs.Moves as moves
 use Rattle.pair_rules.proofs.World.{World, heard, is_heard, end_of}
-use Rattle.pair_rules.proofs.Good.{IsSilent}
-use Rattle.pair_rules.proofs.Going.{Goes, goes-both, goes-none, goes-one, goes-same}
-use Rattle.neighbour_rules.proofs.Counted.{IsBase, counts_of}
-use Rattle.neighbour_rules.proofs.World.{code_of, line_of, reading, route_of, says_of, shown, shown_by}
-use Rattle.neighbour_rules.proofs.Good.{Good, IsOpen, Joint, Passes, at, passes-both, passes-good, passes-none, set}
-use Rattle.neighbour_rules.proofs.Lines.{at-line, becomes, own-line}
-use Rattle.neighbour_rules.proofs.Entries.{IsComing, all-ways, anew-open, end_with, enters-heard, leads-heard, leads-up, not-so, starts-up}
+use Rattle.pair_rules.proofs.Going.{Goes, goes-one, goes-same}
+use Rattle.neighbour_rules.proofs.World.{code_of, line_of, reading, route_of}
+use Rattle.neighbour_rules.proofs.Good.{Joint, Passes, at, passes-both, passes-good, passes-none, set}
+use Rattle.neighbour_rules.proofs.Lines.{becomes, own-line}
+use Rattle.neighbour_rules.proofs.Entries.{IsComing, all-ways, end_with, enters-heard, leads-heard, leads-up, not-so, starts-up}
 use Rattle.neighbour_rules.proofs.Testing.{begin_test-passes}
 use Rattle.neighbour_rules.proofs.Relinked.{relinked-passes}
-use Rattle.neighbour_rules.proofs.Turns.{IsEntry, PassesBy, by-both, first-route, last-route, route, route_at}
-use Rattle.neighbour_rules.proofs.Declaring.{take-turn, take-turn-elsewhere}
 use Rattle.neighbour_rules.proofs.Falling.{holds-alike}
-use Rattle.neighbour_rules.proofs.Unseen.{own, unseen-passes}
+use Rattle.neighbour_rules.proofs.Unseen.{own}
 use Rattle.neighbour_rules.proofs.Beginning.{anew-good, changed-down, changing-aside, returning-passes, route_by, shown_at, shown_with, with_holds}
 
 same-service : (a b : Bool) → (a && not b) ≡ false → (b ≡ true → a ≡ true) → a ≡ b

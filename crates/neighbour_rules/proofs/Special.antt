@@ -239,6 +239,7 @@ module _ (c z : Configuration) (g : AreJoined c z) (n m : Node WholeQueues) (ni 
     did-same pairs.Ticks = refl
     did-same (pairs.Activates link emergency) = refl
     did-same (pairs.Deactivates link) = refl
+    did-same (pairs.Releases link) = refl
     did-same (pairs.AddsTitle row is_memory_refused) = refl
     did-same (pairs.RemovesTitle key digits) = refl
     did-same (pairs.OpensFirst link) = first-by (wanted n.parts link) link refl

@@ -1,6 +1,6 @@
 -- The tests of links: what goes out says nothing between the two, and what they change of a link isn't shown.
-use Rattle.pair_rules.proofs.Basics.{◌≡◌, ◌≢◌, ◌≤◌, ◌&&◌, ℕ, Bool, true, false, List, [], ◌∷◌, length, Option, Some, None, refl, sym, ◌∙◌, arith, ⊎_elim, cases_eq, and_parts, if◌then◌else◌}
-use Rattle.pair_rules.proofs.Definitions.{Message, SIF_OCTETS, Configuration, Cause, Running, Node, in_service, down, link_at, no_room, queue_on, with_parts, WholeQueues, whole, StaysFit, fit-steps, set_of}
+use Rattle.pair_rules.proofs.Basics.{◌≡◌, ◌≢◌, ◌≤◌, ◌&&◌, ℕ, Bool, true, false, List, [], length, Option, Some, None, refl, sym, ◌∙◌, arith, ⊎_elim, cases_eq, and_parts, if◌then◌else◌}
+use Rattle.pair_rules.proofs.Definitions.{Message, SIF_OCTETS, Configuration, Cause, Node, in_service, down, link_at, no_room, queue_on, with_parts, WholeQueues, whole, StaysFit, fit-steps, set_of}
 use Rattle.exchange_rules.proofs.Rules.{rules-of}
 use Rattle.exchange_rules.proofs.SteppingTests.{awaiting-steps, failed-steps, serving-up}
 use Rattle.exchange_rules.proofs.OwnManagement.{test-management}

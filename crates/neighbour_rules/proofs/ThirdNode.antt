@@ -10,6 +10,7 @@ use Rattle.std.specs.Prelude.{Option}
 use Rattle.std.proofs.lemmas.List.Sums.{count_by-le-length}
 use Rattle.exchange_rules.specs.First.{Abstract}
 use Rattle.exchange_rules.specs.State.{note_refusal}
+use Rattle.exchange_rules.specs.Exchange.{ordered_late}
 use Rattle.pair_rules.proofs.Steps.{outcome-same}
 use Rattle.exchange_rules.specs.Messages.{offer}
 use Rattle.exchange_rules.specs.Telling.{tell_owed}
@@ -20,6 +21,7 @@ use Rattle.neighbour_rules.specs.Neighbours.{after_steps, leads_elsewhere, speak
 use Rattle.pair_rules.specs.Promises.{queue_of}
 use Rattle.neighbour_rules.specs.Promises.{waiting}
 use Rattle.neighbour_rules.proofs.Delivered as delivering
+use Rattle.neighbour_rules.proofs.LateOrders.{none-late}
 use Rattle.neighbour_rules.specs.ThirdNode.{GoesOn, heard, sends_far, its_text, near_settings, served, the_message}
 
 -- ---- the settings keep every limit, and share a set
@@ -49,6 +51,7 @@ near-well =
       subsystems = All-from_recursion (IsWithin 1 255) [] tt;
       subsystems_differ = tt;
       timers = All-from_recursion (IsWithin 1 TICKS) (all_ticks ticks) (nine, (nine, (nine, (one, (nine, (nine, (nine, (nine, (nine, (nine, (nine, (nine, (nine, tt)))))))))))));
+      bar = tt;
       set_count = within 1 SETS 2 (omega arith) (omega arith);
       sets = All-from_recursion (IsSet 1) near_settings.sets (
         record { name = refl; adjacent = record { fits = omega arith; far = λ e. absurd (omega (arith, e)) } },
@@ -166,9 +169,13 @@ delivers = delivering.delivers near_settings 0 the_message its_text first its-ne
 offers : (n : Node WholeQueues) → deliver whole near_settings 0 the_message n ≡ offered n (waits near_settings n.parts.holds the_message)
 offers n = refl
 
-as-applied : (c : Configuration) (text : List ℕ) (n : Node WholeQueues) → (apply whole c (FrameCame 0 text) n).left ≡ (settled whole c (receive whole c 0 text n)).left
+as-applied : (c : Configuration) (text : List ℕ) (n : Node WholeQueues) → (apply whole c (FrameCame 0 text) n).left ≡ (settled whole c (ordered_late whole c (receive whole c 0 text n))).left
 unfolding apply
 as-applied c text n = refl
+
+-- no order goes out late
+in-time : (d : Done WholeQueues) → ordered_late whole near_settings d ≡ d
+in-time d = ap (λ (n : Node WholeQueues). record d { left = n }) (none-late near_settings refl d.outcome d.left)
 
 brings : (o : Outcome) (n : Node WholeQueues) → brought_by (Some the_message) o near_settings n ≡ taken_in o the_message
 brings o n = refl
@@ -194,7 +201,7 @@ goes-first : heard ≡ heard_by (waits near_settings node.parts.holds the_messag
 goes-first =
     comes-to near_settings settings-stay
     ∙ ap (λ (n : Node WholeQueues). leaving n (brought_in (FrameCame 0 its_text) exchange))
-    (as-applied near_settings its_text first ∙ ap (λ (d : Done WholeQueues). (settled whole near_settings d).left) (delivers ∙ offers node))
+    (as-applied near_settings its_text first ∙ ap (λ (d : Done WholeQueues). (settled whole near_settings d).left) (in-time (receive whole near_settings 0 its_text first) ∙ delivers ∙ offers node))
     ∙ ap (λ (ms : List Message). leaving (settled whole near_settings (offered node (waits near_settings node.parts.holds the_message))).left ms) is-brought
 
 free-first : waits near_settings node.parts.holds the_message ≡ false

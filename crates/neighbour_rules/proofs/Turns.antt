@@ -15,7 +15,7 @@ use Rattle.pair_rules.proofs.World.{heard, World}
 use Rattle.pair_rules.proofs.Going.{Goes, goes-both}
 use Rattle.pair_rules.proofs.Routes.{and-more, and-true, eq-self, lt-true}
 use Rattle.pair_rules.proofs.Turns.{turned_route}
-use Rattle.neighbour_rules.proofs.World.{code_of, holds_of, procedure_of, reading, route_of, says_of, shown_by}
+use Rattle.neighbour_rules.proofs.World.{code_of, holds_of, procedure_of, reading, route_of, shown_by}
 use Rattle.neighbour_rules.proofs.Good.{Good, Joint, set}
 use Rattle.neighbour_rules.proofs.Lines.{at-line}
 use Rattle.neighbour_rules.proofs.Entries.{IsKnown, keeps-or-takes, link-there}

@@ -1,5 +1,5 @@
 -- Management that tells of no route to the point for which the messages are.
-use Rattle.pair_rules.proofs.Basics.{◌≡◌, ◌⊎◌, inl, inr, ◌<◌, ◌&&◌, ℕ, Bool, true, false, List, [], length, Option, Some, None, Result, Ok, Err, refl, ap, sym, ◌∙◌, nat_eq, slice_index_or}
+use Rattle.pair_rules.proofs.Basics.{◌≡◌, ◌⊎◌, inl, inr, ◌<◌, ◌&&◌, ℕ, Bool, true, false, [], length, Option, Some, None, Result, Ok, refl, ap, sym, ◌∙◌, nat_eq, slice_index_or}
 use Rattle.std.proofs.lemmas.List.Quantifiers.{position-Some}
 use Rattle.pair_rules.proofs.Definitions.{Message, Outcome, is_management, Configuration, DestinationEntry, destination_place, Management, MgmtFault, read_management}
 use Rattle.exchange_rules.specs.Routing.{route_about}

@@ -1,7 +1,7 @@
 -- Two nodes that share a link set, in the midst of an event at the near one, and the machine of moves as it shows them.
 -- Its lines are the links between the two, by their signalling link codes: each node finds its own link by its set and
 -- the code.
-use Rattle.pair_rules.proofs.Basics.{◌≡◌, ℕ, Bool, true, false, ◌&&◌, ◌||◌, Option, Some, None, Result, Ok, Err, length, nat_eq, nat_lt, refl, ap, ◌∙◌, if◌then◌else◌, option_map}
+use Rattle.pair_rules.proofs.Basics.{◌≡◌, ℕ, Bool, true, false, ◌&&◌, ◌||◌, Option, Some, None, Result, Ok, Err, length, nat_eq, nat_lt, refl, ap, if◌then◌else◌, option_map}
 use Rattle.std.specs.List.{position_or_len}
 use Rattle.std.specs.Prelude.{map}
 use Rattle.pair_rules.proofs.Definitions.{SELECTIONS, Message, dpc_of, is_management, Flow, Configuration, read_management, MgmtFault, Management, Procedure, is_outstanding, Parts, destination_place, entry_of, link_of, Reading, Saying, UserMessage, Order, Answer, Declaration, Confirmation, LinkEnd, Line, Side, Pair}

@@ -51,6 +51,7 @@ here-keeps (pairs.Loses link) x = refl
 here-keeps pairs.Ticks x = refl
 here-keeps (pairs.Activates link emergency) x = refl
 here-keeps (pairs.Deactivates link) x = refl
+here-keeps (pairs.Releases link) x = refl
 here-keeps (pairs.AddsTitle row is_memory_refused) x = refl
 here-keeps (pairs.RemovesTitle key digits) x = refl
 here-keeps (pairs.OpensFirst link) x = refl
@@ -83,6 +84,7 @@ did-keeps (pairs.Loses link) point w other = changed-keeps point (did_here (pair
 did-keeps pairs.Ticks point w other = changed-keeps point (did_here pairs.Ticks) w (here-keeps pairs.Ticks) other
 did-keeps (pairs.Activates link emergency) point w other = changed-keeps point (did_here (pairs.Activates link emergency)) w (here-keeps (pairs.Activates link emergency)) other
 did-keeps (pairs.Deactivates link) point w other = changed-keeps point (did_here (pairs.Deactivates link)) w (here-keeps (pairs.Deactivates link)) other
+did-keeps (pairs.Releases link) point w other = changed-keeps point (did_here (pairs.Releases link)) w (here-keeps (pairs.Releases link)) other
 did-keeps (pairs.AddsTitle row is_memory_refused) point w other =
     changed-keeps point (did_here (pairs.AddsTitle row is_memory_refused)) w (here-keeps (pairs.AddsTitle row is_memory_refused)) other
 did-keeps (pairs.RemovesTitle key digits) point w other = changed-keeps point (did_here (pairs.RemovesTitle key digits)) w (here-keeps (pairs.RemovesTitle key digits)) other
@@ -178,6 +180,7 @@ module _ (t : Terms) (near far : ℕ) (apart : near ≢ far) (w : NetworkState) 
   third-next pairs.Ticks = alone pairs.Ticks
   third-next (pairs.Activates link emergency) = alone (pairs.Activates link emergency)
   third-next (pairs.Deactivates link) = alone (pairs.Deactivates link)
+  third-next (pairs.Releases link) = alone (pairs.Releases link)
   third-next (pairs.AddsTitle row is_memory_refused) = alone (pairs.AddsTitle row is_memory_refused)
   third-next (pairs.RemovesTitle key digits) = alone (pairs.RemovesTitle key digits)
   third-next (pairs.OpensFirst link) =

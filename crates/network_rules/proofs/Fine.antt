@@ -2,6 +2,7 @@
 use Rattle.exchange_rules.proofs.Basics.{◌≡◌, ℕ, zero, suc, Bool, true, false, not, List, [], ◌∷◌, ◌++◌, Option, Some, None, refl, sym, subst, filter, drop, slice_set, list_all, and_from as pair}
 use Rattle.exchange_rules.proofs.Definitions.{Message, is_management, Configuration, ExtendedChangeoverAcknowledgement, ChangeoverTimer, Node, Parts, with_parts, answer, WholeQueues, queue_at, whole, queue_on, Queue, first_queue, emptied, appended, behind, moved, accepted_count, is_link, set_of, peer_of, entry_of}
 use Rattle.exchange_rules.proofs.Definitions.{fail_by_order, conclude, complete_if, concluded, complete_by_order, on_changeover_order, on_changeover_acknowledgement, on_changeover_timer, changeover_acknowledgement, changeover_of, with_changeover, completed, with_changeover_acknowledged, with_expiry}
+use Rattle.exchange_rules.specs.ChangingOver.{bar, barred}
 use Rattle.exchange_rules.proofs.Lists.{each-set}
 use Rattle.exchange_rules.proofs.Settling.{left-true, right-true}
 use Rattle.signalling_types.specs.declared.outcome.Outcome.TheVariants.{Handled, Ignored}
@@ -81,9 +82,10 @@ module _ (c : Configuration) (fine : Message → Bool) (f : IsFine c fine) where
 
   pub order-keeps : (link : ℕ) (number : Option ℕ) (n : Node WholeQueues) → Keeps n (on_changeover_order whole c link number n).left
   order-keeps link number n =
-      let one : Node WholeQueues = fail_by_order whole c link n in
+      let fallen : Node WholeQueues = fail_by_order whole c link n in
+      let one : Node WholeQueues = bar whole c link fallen in
       let two : Node WholeQueues = complete_by_order whole c link number one in
-      and-then n one _ (by_order-keeps c fine f keeping link n)
+      and-then n one _ (and-then n fallen one (by_order-keeps c fine f keeping link n) (same fallen one refl))
       (and-then one two _ (complete-keeps (changeover_of one.parts link).incomplete link number one (with_changeover link (completed (changeover_of one.parts link)) one.parts))
       (routed c fine f keeping (changeover_acknowledgement c link (whole.last_accepted two.queues link)) two (f.made (peer_of c link) (ExtendedChangeoverAcknowledgement (entry_of c link).slc (whole.last_accepted two.queues link)) (f.adjacent (set_of c link)))))
 
@@ -95,5 +97,5 @@ module _ (c : Configuration) (fine : Message → Bool) (f : IsFine c fine) where
 
   pub expired-keeps : (timer : ChangeoverTimer) (link : ℕ) (n : Node WholeQueues) → Keeps n (on_changeover_timer whole c timer link n)
   expired-keeps timer link n =
-      let done : Node WholeQueues = complete_if whole c (changeover_of n.parts link).incomplete link None (with_parts n (with_expiry timer link n.parts)) in
-      either c fine f keeping (is_link n.parts link) n done n (complete-keeps (changeover_of n.parts link).incomplete link None n (with_expiry timer link n.parts)) (stays c fine f keeping n)
+      let done : Node WholeQueues = complete_if whole c (changeover_of n.parts link).incomplete link None (with_parts n (with_expiry c timer link (barred c link n.parts))) in
+      either c fine f keeping (is_link n.parts link) n done n (complete-keeps (changeover_of n.parts link).incomplete link None n (with_expiry c timer link (barred c link n.parts))) (stays c fine f keeping n)

@@ -100,6 +100,7 @@ module _ (settings : (point : ℕ) → Configuration) (near far : ℕ) (points :
   quiet-here doing.Ticks w told = tt
   quiet-here (doing.Activates link emergency) w told = tt
   quiet-here (doing.Deactivates link) w told = tt
+  quiet-here (doing.Releases link) w told = tt
   quiet-here (doing.AddsTitle row is_memory_refused) w told = tt
   quiet-here (doing.RemovesTitle key digits) w told = tt
   quiet-here (doing.OpensFirst link) w told = tt
@@ -116,6 +117,7 @@ module _ (settings : (point : ℕ) → Configuration) (near far : ℕ) (points :
   untold-doing (Does doing.Ticks) p h = tt
   untold-doing (Does (doing.Activates link emergency)) p h = tt
   untold-doing (Does (doing.Deactivates link)) p h = tt
+  untold-doing (Does (doing.Releases link)) p h = tt
   untold-doing (Does (doing.AddsTitle row is_memory_refused)) p h = tt
   untold-doing (Does (doing.RemovesTitle key digits)) p h = tt
   untold-doing (Does (doing.OpensFirst link)) p h = tt

@@ -3,6 +3,8 @@
 use Rattle.pair_rules.proofs.Basics.{◌≡◌, ℕ, Bool, true, false, List, [], ◌∷◌, ◌++◌, Option, Some, None, map, refl, ap, sym, ◌∙◌, slice_get, slice_index_or, option_to_list, is_some}
 use Rattle.pair_rules.proofs.Definitions.{Message, Outcome, whither_goes, brought_to, flow_of, Configuration, Done, Node, WholeQueues, whole, no_room_for, waits, link_of, go_by, go_each, deliver, receive, read_frame, FrameCame, Submitted, new_message, handle_event, outcome_of, settled, in_flight, without_data, brought_in, brought_by, taken_in, accept_text}
 unfoldable use Rattle.exchange_rules.specs.Exchange.{apply}
+use Rattle.exchange_rules.specs.Exchange.{ordered_late}
+use Rattle.neighbour_rules.proofs.LateOrders.{none-late}
 use Rattle.exchange_rules.specs.Messages.{offer}
 use Rattle.exchange_rules.specs.State.{note_refusal}
 use Rattle.exchange_rules.specs.Telling.{tell_owed}
@@ -113,6 +115,10 @@ pub record ComesOn (m : Message) (text : List ℕ) (accepted : Node WholeQueues)
   pub goes : receive whole middle_settings 1 text x.exchange.node ≡ deliver whole middle_settings 1 m accepted
   pub unheld : waits middle_settings accepted.parts.holds m ≡ false
 
+-- no order goes out late
+in-time : (d : Done WholeQueues) → ordered_late whole middle_settings d ≡ d
+in-time d = ap (λ (n : Node WholeQueues). record d { left = n }) (none-late middle_settings refl d.outcome d.left)
+
 -- whatever the node is like, the message is booked alike
 booked-alike : (m : Message) → GoesOn m → (one other : Node WholeQueues) (d : Done WholeQueues) (x : NetworkNode) → booked_as 1 (Some m) middle_settings one d x ≡ booked_as 1 (Some m) middle_settings other d x
 booked-alike m on one other d x = ap (λ (ms : List Message). booked_with 1 (Some m) middle_settings ms d x) (on.comes d.outcome one ∙ sym (on.comes d.outcome other))
@@ -124,7 +130,7 @@ is-passed m on text accepted x h =
     ∙ booked-alike m on (accepted_of 1 text middle_settings x.exchange.node) accepted (apply whole middle_settings (FrameCame 1 text) x.exchange.node) x
     ∙ ap (λ (d : Done WholeQueues). booked_as 1 (Some m) middle_settings accepted d x)
     (as-applied middle_settings 1 text x.exchange.node
-    ∙ ap (settled whole middle_settings) (h.goes ∙ on.offers accepted)
+    ∙ ap (settled whole middle_settings) (in-time (receive whole middle_settings 1 text x.exchange.node) ∙ h.goes ∙ on.offers accepted)
     ∙ ap (passed_as m accepted) h.unheld)
 
 -- ---- by an order a changeover is complete, and the message goes on

@@ -1,7 +1,7 @@
 -- What an event lets go of queues: what a frame confirms, and what a word of the peer says that it received; else a
 -- changeover ends with no reasonable number.
 use Rattle.exchange_rules.proofs.Basics.{◌≡◌, ◌<◌, ◌&&◌, ℕ, Bool, true, false, not, List, [], Option, Some, None, Result, Ok, Err, refl, subst, arith, if◌then◌else◌, nat_eq}
-use Rattle.exchange_rules.proofs.Definitions.{Message, is_management, opc_of, service_indicator, Configuration, Management, TrafficRestartAllowed, ExtendedChangeoverOrder, ExtendedChangeoverAcknowledgement, EmergencyChangeoverOrder, EmergencyChangeoverAcknowledgement, ChangebackDeclaration, ChangebackAcknowledgement, TransferProhibited, TransferRestricted, TransferAllowed, RouteSetTestProhibited, RouteSetTestRestricted, MgmtFault, Discrimination, Allowed, Restricted, Prohibited, Node, Done, with_parts, answer, refuse, WholeQueues, whole, destination_place, set_place, link_with_code, route_about, is_adjacent, testing, read_link_test, read_management, from_afar, UserPartUnavailable}
+use Rattle.exchange_rules.proofs.Definitions.{Message, is_management, opc_of, service_indicator, Configuration, Management, TrafficRestartAllowed, ExtendedChangeoverOrder, ExtendedChangeoverAcknowledgement, EmergencyChangeoverOrder, EmergencyChangeoverAcknowledgement, ChangebackDeclaration, ChangebackAcknowledgement, TransferProhibited, TransferRestricted, TransferAllowed, RouteSetTestProhibited, RouteSetTestRestricted, MgmtFault, Discrimination, Allowed, Restricted, Prohibited, Node, Done, with_parts, answer, refuse, WholeQueues, whole, destination_place, set_place, link_with_code, route_about, is_adjacent, testing, read_link_test, read_management, from_afar, UserPartUnavailable, bar}
 use Rattle.exchange_rules.proofs.Definitions.{Gone, nothing_gone, gone_by_completion, gone_by_order, gone_by_answer, gone_by_word, gone_by_message, gone_by_new}
 use Rattle.exchange_rules.proofs.Definitions.{complete_if, concluded, fail_by_order, on_changeover_order, changeover_acknowledgement, changeover_of, with_changeover, completed, with_changeover_acknowledged, do_order, do_acknowledgement, do_management, do_test, manage, local, deliver_to, carry, whither_goes, changeback_acknowledgement, send_routed, note_refusal}
 use Rattle.exchange_rules.specs.Conserving.{is_word}
@@ -87,7 +87,7 @@ module _ (c : Configuration) (fits : MayMake c) where
     order-does : (link : ℕ) (number : Option ℕ) (n : Node WholeQueues) → MaySay Said link number
         → Does Said n.queues (on_changeover_order whole c link number n).left (gone_by_order (Some link) number c n)
     order-does link number n said =
-        let fell : Node WholeQueues = fail_by_order whole c link n in
+        let fell : Node WholeQueues = bar whole c link (fail_by_order whole c link n) in
         let stood : Node WholeQueues = with_parts fell (with_changeover link (completed (changeover_of fell.parts link)) fell.parts) in
         let done : Node WholeQueues = complete_if whole c (changeover_of fell.parts link).incomplete link number stood in
         let told : Message = changeover_acknowledgement c link (whole.last_accepted done.queues link) in

@@ -1,8 +1,11 @@
 -- So it is with whole events: with frames, with ticks, with a link that opens, and with all others.
 use Rattle.exchange_rules.proofs.Basics.{◌≡◌, ◌<◌, ◌&&◌, ◌+◌, ℕ, zero, suc, Bool, true, false, not, List, [], ◌++◌, Option, Some, None, Result, Ok, Err, refl, ap, ◌∙◌, arith, if◌then◌else◌, take}
-use Rattle.exchange_rules.proofs.Definitions.{Message, Configuration, FrameFault, FrameValue, EmptyFrame, MessageFrame, StatusFrame, read_frame, SeqFault, Action, UserData, Status, Alignment, Standing, Link, is_down, is_in_service, may_restart, acts_on, accept_answer, unconfirmed, count_confirmed, Node, with_parts, answer, refuse, WholeQueues, queue_at, whole, Carrying, carries, empty_data, message_data, numbers, accept, handle_by, act_by_data, receive_data, read, advance, is_link, link_at, down, may_open, open_link, association_up, changeover_of, title_refusal, with_timers, run_due, run_next, run_times, tick, with_expiry, complete_if, ChangeoverTimer, release, tell_owed, handle_event, apply, Happening, CameUp, WentDown, FrameCame, Ticked, Submitted, Activated, Deactivated, TitleAdded, TitleRemoved, whither_goes, AreLinksSteady, IsSteady, is_l7_running}
+use Rattle.exchange_rules.proofs.Definitions.{Message, Configuration, FrameFault, FrameValue, EmptyFrame, MessageFrame, StatusFrame, read_frame, SeqFault, Action, UserData, Status, Alignment, Standing, Link, is_down, is_in_service, may_restart, acts_on, accept_answer, unconfirmed, count_confirmed, Node, with_parts, answer, refuse, WholeQueues, queue_at, whole, Carrying, carries, empty_data, message_data, numbers, accept, handle_by, act_by_data, receive_data, read, advance, is_link, link_at, down, may_open, open_link, association_up, changeover_of, title_refusal, with_timers, run_due, run_next, run_times, tick, with_expiry, complete_if, ChangeoverTimer, release, tell_owed, handle_event, apply, Happening, CameUp, WentDown, FrameCame, Ticked, Submitted, Activated, Deactivated, Released, TitleAdded, TitleRemoved, whither_goes, AreLinksSteady, IsSteady, is_l7_running}
 use Rattle.exchange_rules.proofs.Definitions.{Gone, nothing_gone, both_gone, gone_by_completion, gone_by_new, confirmed_by, confirmed_at, confirmed_in, confirmed_of, gone_by_timer, gone_by_timers, gone_by_tick, new_at, new_by, new_in, new_of, new_message, accept_data, accept_frame, accept_text}
+use Rattle.exchange_rules.specs.ChangingOver.{barred}
 use Rattle.exchange_rules.specs.Conserving.{confirmed}
+use Rattle.exchange_rules.specs.Frames.{receive}
+use Rattle.exchange_rules.specs.State.{Done}
 use Rattle.link.specs.declared.action.Action.TheVariants as act
 use Rattle.link.specs.declared.action.LinkTimer.TheVariants as its
 use Rattle.link.specs.declared.alignment.Alignment.TheVariants as stage
@@ -14,7 +17,7 @@ use Rattle.timers.specs.declared.name.TimerName.{TimerName}
 use Rattle.timers.specs.declared.name.TimerName.TheVariants as name
 use Rattle.timers.specs.Timers.{ticked, due_name, due_count, after_due}
 use Rattle.network_rules.proofs.Passing.{begin_test-keeps, test_unanswered-keeps, IsFine, IsPassing, fail-keeps, advance-keeps, run_out-keeps, ask-keeps, link_status-keeps}
-use Rattle.network_rules.proofs.PassingLinks.{submit_to-keeps, aside-keeps, down-keeps, activate-keeps, deactivate-keeps, added-keeps, removed-keeps, settles}
+use Rattle.network_rules.proofs.PassingLinks.{submit_to-keeps, aside-keeps, down-keeps, activate-keeps, deactivate-keeps, release_bar-keeps, late_by-keeps, added-keeps, removed-keeps, settles}
 use Rattle.network_rules.proofs.Growing.{AreGrown, Grows, MayMake, any_message, any-fine, grown-same, grown-then, growing, release-grows}
 use Rattle.network_rules.proofs.Parting.{Does, SaysWord, carry-does, does-then, doubted}
 
@@ -103,9 +106,12 @@ module _ (c : Configuration) (fits : MayMake c) where
       (gone_by_new (new_message link text (record { settings = c; node = n })) c (accept_text link (read_frame text) (record { settings = c; node = n })))
   unfolding apply
   frame-event link text n =
+      let came : Done WholeQueues = receive whole c link text n in
       let d : Node WholeQueues = (handle_event whole c (FrameCame link text) n).left in
-      comes-then link (new_message link text (record { settings = c; node = n })) n.queues d (tell_owed whole c (release whole c d)) (confirmed link text (record { settings = c; node = n })) _
-      (settled-grows d) (receive-comes (is_link n.parts link) (down n.parts link) link (read_frame text) n)
+      let o : Option Message = new_message link text (record { settings = c; node = n }) in
+      let ms : List Message = confirmed link text (record { settings = c; node = n }) in
+      comes-then link o n.queues d (tell_owed whole c (release whole c d)) ms _ (settled-grows d)
+      (comes-then link o n.queues came.left d ms _ (late_by-keeps c any_message f r came.outcome came.left) (receive-comes (is_link n.parts link) (down n.parts link) link (read_frame text) n))
 
   -- ---- a tick: it lets nothing go, or a changeover ends with no number
 
@@ -121,9 +127,9 @@ module _ (c : Configuration) (fits : MayMake c) where
   ending-ticks false link n = idle n
 
   expiry-ticks : (is_there : Bool) (expired : ChangeoverTimer) (link : ℕ) (n : Node WholeQueues)
-      → Ticks n.queues (if is_there then complete_if whole c (changeover_of n.parts link).incomplete link None (with_parts n (with_expiry expired link n.parts)) else n)
+      → Ticks n.queues (if is_there then complete_if whole c (changeover_of n.parts link).incomplete link None (with_parts n (with_expiry c expired link (barred c link n.parts))) else n)
       (if is_there then gone_by_completion (changeover_of n.parts link).incomplete link None n.queues else nothing_gone)
-  expiry-ticks true expired link n = ending-ticks (changeover_of n.parts link).incomplete link (with_parts n (with_expiry expired link n.parts))
+  expiry-ticks true expired link n = ending-ticks (changeover_of n.parts link).incomplete link (with_parts n (with_expiry c expired link (barred c link n.parts)))
   expiry-ticks false expired link n = idle n
 
   passing : (n m : Node WholeQueues) → Grows n m → Ticks n.queues m nothing_gone
@@ -174,8 +180,10 @@ module _ (c : Configuration) (fits : MayMake c) where
   unfolding apply
   tick-event n =
       let ran : Node WholeQueues = run_times whole c (due_count (ticked n.parts.timers)) (with_timers n (ticked n.parts.timers)) in
-      let d : Node WholeQueues = (tick whole c n).left in
-      ticks-then n.queues ran (tell_owed whole c (release whole c d)) (gone_by_tick c n) (record { queues = (settled-grows d).queues })
+      let d : Node WholeQueues = (handle_event whole c Ticked n).left in
+      let last : Node WholeQueues = tell_owed whole c (release whole c d) in
+      ticks-then n.queues ran last (gone_by_tick c n)
+      (record { queues = grown-then ran.queues d.queues last.queues (late_by-keeps c any_message f r Handled (tick whole c n).left).queues (settled-grows d).queues })
       (times-tick (due_count (ticked n.parts.timers)) (with_timers n (ticked n.parts.timers)))
 
   -- ---- a link opens: it is down without an association, so nothing stands in its queue
@@ -221,6 +229,7 @@ module _ (c : Configuration) (fits : MayMake c) where
   IsOther (Submitted message) = Unit {0}
   IsOther (Activated link emergency) = Unit {0}
   IsOther (Deactivated link) = Unit {0}
+  IsOther (Released link) = Unit {0}
   IsOther (TitleAdded row is_memory_refused) = Unit {0}
   IsOther (TitleRemoved key digits) = Unit {0}
 
@@ -232,6 +241,7 @@ module _ (c : Configuration) (fits : MayMake c) where
   handled-grows (Submitted message) n e = submit_to-keeps c any_message f r (whither_goes c message) message n
   handled-grows (Activated link emergency) n e = activate-keeps c any_message f r emergency link n
   handled-grows (Deactivated link) n e = deactivate-keeps c any_message f r link n
+  handled-grows (Released link) n e = release_bar-keeps c any_message f r link n
   handled-grows (TitleAdded row is_memory_refused) n e = added-keeps c any_message f r (title_refusal n.parts.titles.rows row is_memory_refused) row n
   handled-grows (TitleRemoved key digits) n e = removed-keeps c any_message f r key digits n
 

@@ -4,7 +4,7 @@ use Rattle.exchange_rules.proofs.Definitions.{Message, is_management, opc_of, se
 use Rattle.exchange_rules.proofs.Definitions.{tell_owed, title_refusal}
 use Rattle.exchange_rules.proofs.Definitions.{is_adjacent, local, do_test, do_order, do_acknowledgement, do_management, link_with_code, manage, deliver_to, deliver, whither_goes, changeback_acknowledgement, changeover_of}
 use Rattle.exchange_rules.proofs.Definitions.{advance, acts_on, Carrying, empty_data, message_data, numbers, accept, carry, handle_by, act_by_data, receive_frame, read, receive, FrameValue, EmptyFrame, MessageFrame, StatusFrame, read_frame, carried_message, may_open, open_link, may_restart, association_up}
-use Rattle.exchange_rules.proofs.Definitions.{release, with_timers, run_timer, run_due, run_times, tick, handle_event, apply, Happening, CameUp, WentDown, FrameCame, Ticked, Submitted, Activated, Deactivated, TitleAdded, TitleRemoved, after_sending, after_take, Outgoing, SendsStatus, SendsMessage, Acknowledges, SendsNothing, goes_out}
+use Rattle.exchange_rules.proofs.Definitions.{release, with_timers, run_timer, run_due, run_times, tick, handle_event, apply, Happening, CameUp, WentDown, FrameCame, Ticked, Submitted, Activated, Deactivated, Released, TitleAdded, TitleRemoved, after_sending, after_take, Outgoing, SendsStatus, SendsMessage, Acknowledges, SendsNothing, goes_out}
 use Rattle.exchange_rules.proofs.LastingMessages.{accepted-all, sent-all}
 use Rattle.link.specs.Queue as queue
 use Rattle.link.specs.declared.action.Action.{Action}
@@ -22,7 +22,7 @@ use Rattle.route_management.specs.declared.heard.RouteTest.TheVariants as tests
 use Rattle.link.specs.declared.action.LinkTimer.TheVariants as its
 use Rattle.signalling_types.specs.declared.notice.ChangeoverTimer.TheVariants as changeover
 use Rattle.network_rules.proofs.Passing.{begin_test-keeps, test_unanswered-keeps, IsFine, IsPassing, opc-fits, either_done, stays, routed, test-keeps, status-keeps, ask-keeps, transfer-keeps, local-keeps, fail-keeps, advance-keeps, run_out-keeps, link_status-keeps}
-use Rattle.network_rules.proofs.PassingLinks.{do_test-keeps, confirmed-keeps, submit_to-keeps, aside-keeps, down-keeps, activate-keeps, deactivate-keeps, added-keeps, removed-keeps, go_each-keeps, settles}
+use Rattle.network_rules.proofs.PassingLinks.{do_test-keeps, confirmed-keeps, submit_to-keeps, aside-keeps, down-keeps, activate-keeps, deactivate-keeps, release_bar-keeps, late_by-keeps, added-keeps, removed-keeps, go_each-keeps, settles}
 use Rattle.network_rules.proofs.Fine.{Keeps, keeping, same, and-then, queue-keeps, order-keeps, acknowledged-keeps, expired-keeps}
 
 module _ (c : Configuration) (fine : Message → Bool) (f : IsFine c fine) where
@@ -199,17 +199,23 @@ module _ (c : Configuration) (fine : Message → Bool) (f : IsFine c fine) where
   IsFineAt (Submitted message) = Unit {0}
   IsFineAt (Activated link emergency) = Unit {0}
   IsFineAt (Deactivated link) = Unit {0}
+  IsFineAt (Released link) = Unit {0}
   IsFineAt (TitleAdded row is_memory_refused) = Unit {0}
   IsFineAt (TitleRemoved key digits) = Unit {0}
 
   handled-keeps : (what : Happening) (n : Node WholeQueues) → IsFineAt what → K n (handle_event whole c what n).left
   handled-keeps (CameUp link) n e = up-keeps link n
   handled-keeps (WentDown link) n e = down-keeps c fine f r link n
-  handled-keeps (FrameCame link text) n e = receive-keeps link text n e
-  handled-keeps Ticked n e = tick-keeps n
+  handled-keeps (FrameCame link text) n e =
+      let came : Done WholeQueues = receive whole c link text n in
+      and-then c fine f n came.left _ (receive-keeps link text n e) (late_by-keeps c fine f r came.outcome came.left)
+  handled-keeps Ticked n e =
+      let ran : Node WholeQueues = (tick whole c n).left in
+      and-then c fine f n ran _ (tick-keeps n) (late_by-keeps c fine f r Handled ran)
   handled-keeps (Submitted message) n e = submit_to-keeps c fine f r (whither_goes c message) message n
   handled-keeps (Activated link emergency) n e = activate-keeps c fine f r emergency link n
   handled-keeps (Deactivated link) n e = deactivate-keeps c fine f r link n
+  handled-keeps (Released link) n e = release_bar-keeps c fine f r link n
   handled-keeps (TitleAdded row is_memory_refused) n e = added-keeps c fine f r (title_refusal n.parts.titles.rows row is_memory_refused) row n
   handled-keeps (TitleRemoved key digits) n e = removed-keeps c fine f r key digits n
 

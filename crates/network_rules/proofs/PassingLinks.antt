@@ -1,5 +1,5 @@
 -- So it is with tests, submissions, links that fail, the operator's word, and what goes on at the end of an event.
-use Rattle.exchange_rules.proofs.Basics.{◌≡◌, ℕ, Bool, true, false, List, [], ◌∷◌, Option, Some, None, Result, Ok, Err, refl, sym, subst, if◌then◌else◌, list_all}
+use Rattle.exchange_rules.proofs.Basics.{◌≡◌, ℕ, zero, suc, length, Bool, true, false, List, [], ◌∷◌, Option, Some, None, Result, Ok, Err, refl, sym, subst, if◌then◌else◌, list_all}
 use Rattle.exchange_rules.proofs.Definitions.{Message, is_management, flow_of, Configuration, TitleEntry, Cause, NoSuchName, MgmtFault, LinkTestValue, TestKind, Test, Acknowledgement, TitleKey, Discrimination, FailureReason, Node, Done, with_parts, answer, refuse, WholeQueues, whole, test_answer, link_of, no_room, waits, is_link, link_at, down}
 use Rattle.exchange_rules.proofs.Definitions.{send_on, transfer, tell_owed, add_title_unless, remove_title, place_of, has_row, without_row, with_rows}
 use Rattle.exchange_rules.proofs.Definitions.{local, do_kind, do_test, submit_to, fail, freed, is_outstanding, on_changeback_acknowledgement}
@@ -12,8 +12,16 @@ use Rattle.signalling_types.specs.declared.cause.Cause.TheVariants as causes
 use Rattle.signalling_types.specs.declared.notice.FailureReason.TheVariants as reasons
 use Rattle.signalling_types.specs.declared.notice.FrameFault.{FrameFault}
 use Rattle.signalling_types.specs.declared.notice.FrameFault.TheVariants as faults
-use Rattle.signalling_types.specs.declared.outcome.Outcome.TheVariants.{Handled, Ignored}
-use Rattle.network_rules.proofs.Passing.{IsFine, IsPassing, AllFine, either, either_done, stays, send-keeps, tell_owed-keeps, transfer-keeps, local-keeps, fail-keeps, pass_test-keeps}
+use Rattle.signalling_types.specs.declared.outcome.Outcome.{Outcome}
+use Rattle.signalling_types.specs.declared.outcome.Outcome.TheVariants.{Queued, Held, Local, Handled, Ignored, Refused}
+use Rattle.changeover.specs.Changeover.{is_barred}
+use Rattle.mtp3_codec.specs.declared.management.Management.TheVariants.{ExtendedChangeoverOrder}
+use Rattle.exchange_rules.specs.ChangingOver.{asking, changeover_of, changeover_order, is_late, order_all, order_late, unbarred}
+unfoldable use Rattle.exchange_rules.specs.ChangingOver.{order_each}
+use Rattle.exchange_rules.specs.Exchange.{late_by}
+use Rattle.exchange_rules.specs.Opening.{release_bar}
+use Rattle.exchange_rules.specs.Routing.{entry_of, peer_of, set_of}
+use Rattle.network_rules.proofs.Passing.{IsFine, IsPassing, AllFine, either, either_done, stays, routed, send-keeps, tell_owed-keeps, transfer-keeps, local-keeps, fail-keeps, pass_test-keeps}
 
 module _ (c : Configuration) (fine : Message → Bool) (f : IsFine c fine) {R : Node WholeQueues → Node WholeQueues → Type 0} (r : IsPassing c fine R) where
   send_on-keeps : (link : ℕ) (m : Message) (n : Node WholeQueues) → fine m ≡ true → R n (send_on whole c link m n)
@@ -71,6 +79,40 @@ module _ (c : Configuration) (fine : Message → Bool) (f : IsFine c fine) {R : 
       let fell : Node WholeQueues = fail_if_up whole c link reasons.Operator n in
       either_done c fine f r (is_link n.parts link) n (answer Handled (set_active whole c false false link fell)) (refuse causes.NoSuchName n)
       (r.both n fell _ (if_up-keeps link reasons.Operator n) (r.same fell _ refl)) (stays c fine f r n)
+
+  pub release_bar-keeps : (link : ℕ) (n : Node WholeQueues) → R n (release_bar whole c link n).left
+  release_bar-keeps link n =
+      let freed : Done WholeQueues = answer Handled (with_parts n (unbarred link n.parts)) in
+      either_done c fine f r (is_link n.parts link) n (if is_barred (changeover_of n.parts link) then freed else answer Ignored n) (refuse causes.NoSuchName n)
+      (either_done c fine f r (is_barred (changeover_of n.parts link)) n freed (answer Ignored n) (r.same n _ refl) (stays c fine f r n)) (stays c fine f r n)
+
+  -- ---- orders that go out late
+
+  order_late-keeps : (link : ℕ) (n : Node WholeQueues) → R n (order_late whole c link n)
+  order_late-keeps link n =
+      let asked : Node WholeQueues = with_parts n (asking c link n.parts) in
+      let number : ℕ = whole.last_accepted n.queues link in
+      r.both n asked _ (r.same n asked refl)
+      (routed c fine f r (changeover_order c link number) asked (f.made (peer_of c link) (ExtendedChangeoverOrder (entry_of c link).slc number) (f.adjacent (set_of c link))))
+
+  order_each-keeps : (count : ℕ) (n : Node WholeQueues) → R n (order_each whole c count n)
+  unfolding order_each
+  order_each-keeps zero n = stays c fine f r n
+  order_each-keeps (suc link) n =
+      let former : Node WholeQueues = order_each whole c link n in
+      r.both n former _ (order_each-keeps link n)
+      (either c fine f r (is_late c link former.parts) former (order_late whole c link former) former (order_late-keeps link former) (stays c fine f r former))
+
+  order_all-keeps : (n : Node WholeQueues) → R n (order_all whole c n)
+  order_all-keeps n = either c fine f r c.changeover_by_any_route n (order_each whole c (length c.links) n) n (order_each-keeps (length c.links) n) (stays c fine f r n)
+
+  pub late_by-keeps : (o : Outcome) (n : Node WholeQueues) → R n (late_by whole c o n)
+  late_by-keeps (Refused cause) n = stays c fine f r n
+  late_by-keeps (Queued link) n = order_all-keeps n
+  late_by-keeps Held n = order_all-keeps n
+  late_by-keeps Local n = order_all-keeps n
+  late_by-keeps Handled n = order_all-keeps n
+  late_by-keeps Ignored n = order_all-keeps n
 
   pub added-keeps : (refusal : Option Cause) (row : TitleEntry) (n : Node WholeQueues) → R n (add_title_unless refusal row n).left
   added-keeps (Some cause) row n = stays c fine f r n

@@ -39,6 +39,7 @@ module _ (own other : ℕ) where
         subsystems = All-from_recursion (IsWithin 1 255) [] tt;
         subsystems_differ = tt;
         timers = All-from_recursion (IsWithin 1 TICKS) (all_ticks ticks) (nine, (nine, (nine, (one, (nine, (nine, (nine, (nine, (nine, (nine, (nine, (nine, (nine, tt)))))))))))));
+        bar = tt;
         set_count = within 1 SETS 1 (omega arith) (omega arith);
         sets = All-from_recursion (IsSet own) c.sets (record { name = refl; adjacent = record { fits = omega arith; far = beside } }, tt);
         set_names_differ = (tt, tt);
@@ -107,6 +108,7 @@ middle-well =
       subsystems = All-from_recursion (IsWithin 1 255) [] tt;
       subsystems_differ = tt;
       timers = All-from_recursion (IsWithin 1 TICKS) (all_ticks ticks) (nine, (nine, (nine, (one, (nine, (nine, (nine, (nine, (nine, (nine, (nine, (nine, (nine, tt)))))))))))));
+      bar = tt;
       set_count = within 1 SETS 2 (omega arith) (omega arith);
       sets = All-from_recursion (IsSet 1) middle_settings.sets (
         record { name = refl; adjacent = record { fits = omega arith; far = λ e. absurd (omega (arith, e)) } },

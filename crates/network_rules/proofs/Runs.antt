@@ -1,7 +1,7 @@
 -- A step of a network is at most one step of each two of its nodes that share a set: one at either of them.
 use Rattle.pair_rules.proofs.Basics.{◌≡◌, ◌≢◌, ℕ, Bool, true, false, List, [], ◌∷◌, Option, Some, None, refl, ap, sym, subst, ◌∙◌, map, slice_get, ⊎_elim, cases_eq}
 use Rattle.pair_rules.proofs.Definitions.{Message, new_message, Configuration, LinkEntry, FrameValue, Open, Nothing, Close, whole, PairState, turned, in_flight, may_follow, wants_of, frame_to_take, link_with_code}
-use Rattle.exchange_rules.specs.State.{WentDown, Ticked, Activated, Deactivated, TitleAdded, TitleRemoved}
+use Rattle.exchange_rules.specs.State.{WentDown, Ticked, Activated, Deactivated, Released, TitleAdded, TitleRemoved}
 use Rattle.exchange_rules.specs.declared.wants.Wants.{Wants}
 use Rattle.exchange_rules.specs.First.{Abstract}
 use Rattle.pair_rules.specs.Pairs as pairs
@@ -264,6 +264,7 @@ module _ (t : Terms) (near far : ℕ) (apart : near ≢ far) where
       near-next pairs.Ticks told = alone pairs.Ticks tt (happens-pair t x y p h Ticked)
       near-next (pairs.Activates link emergency) told = alone (pairs.Activates link emergency) tt (happens-pair t x y p h (Activated link emergency))
       near-next (pairs.Deactivates link) told = alone (pairs.Deactivates link) tt (happens-pair t x y p h (Deactivated link))
+      near-next (pairs.Releases link) told = alone (pairs.Releases link) tt (happens-pair t x y p h (Released link))
       near-next (pairs.AddsTitle row is_memory_refused) told = alone (pairs.AddsTitle row is_memory_refused) tt (happens-pair t x y p h (TitleAdded row is_memory_refused))
       near-next (pairs.RemovesTitle key digits) told = alone (pairs.RemovesTitle key digits) tt (happens-pair t x y p h (TitleRemoved key digits))
       near-next (pairs.OpensFirst link) told =

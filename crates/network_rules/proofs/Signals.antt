@@ -187,6 +187,8 @@ module _ (c : Configuration) (set point destination : ℕ) (leads : LeadsAlone c
     taken_out = λ n. same-lone n _ refl refl refl;
     noted = λ notice n e. same-lone n _ refl refl refl;
     lost = λ n. same-lone n _ refl refl refl;
+    counted = λ messages broken n. same-lone n _ refl refl refl;
+    asked = λ link n e. same-lone n _ refl refl refl;
     late = λ n. same-lone n _ refl refl refl;
     timed = λ r n e. same-lone n _ refl refl refl;
     holding = λ h n e. same-lone n _ refl refl refl;

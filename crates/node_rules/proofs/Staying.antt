@@ -1,6 +1,6 @@
 -- A link that may open stays so, whatever happens, until its association comes up.
 use Rattle.link.specs.declared.period.Period.{Period}
-use Rattle.exchange_rules.proofs.Basics.{◌≡◌, ◌≢◌, ℕ, zero, suc, Bool, true, false, ◌&&◌, not, List, [], ◌∷◌, refl, ap, sym, ◌∙◌, subst, get_or, set}
+use Rattle.exchange_rules.proofs.Basics.{◌≡◌, ◌≢◌, ℕ, zero, suc, Bool, true, false, ◌&&◌, and_parts, not, List, [], ◌∷◌, refl, ap, sym, ◌∙◌, subst, get_or, set}
 use Rattle.settings_rows.specs.Configuration.{Configuration}
 use Rattle.link.specs.Table.{action_at}
 use Rattle.link.specs.declared.action.Transition.{Transition}
@@ -11,7 +11,7 @@ use Rattle.link.specs.declared.alignment.Alignment.TheVariants.{Down, NotAligned
 use Rattle.node_links.specs.NodeLinks.{Link, down_link, is_down, is_in_service}
 use Rattle.changeover.specs.Changeover.{Standing, no_changeover, may_restart}
 use Rattle.timers.specs.Timers.{ticked, after_due}
-use Rattle.exchange_rules.specs.State.{Happening, CameUp, WentDown, FrameCame, Ticked, Submitted, Activated, Deactivated, TitleAdded, TitleRemoved, Parts, Node, link_at, down}
+use Rattle.exchange_rules.specs.State.{Happening, CameUp, WentDown, FrameCame, Ticked, Submitted, Activated, Deactivated, Released, TitleAdded, TitleRemoved, Parts, Node, link_at, down}
 use Rattle.exchange_rules.specs.ChangingOver.{changeover_of}
 use Rattle.exchange_rules.specs.Exchange.{apply, with_timers, tick}
 use Rattle.exchange_rules.specs.Sending.{after_take}
@@ -21,6 +21,7 @@ use Rattle.exchange_rules.proofs.Rules.{rules-of}
 use Rattle.exchange_rules.proofs.Asked.{any}
 use Rattle.exchange_rules.proofs.SteppingEvents.{IsOf, apply-steps, tick-steps, run_next-steps, take-steps}
 use Rattle.node_rules.specs.Worlds.{IsOwn}
+use Rattle.exchange_rules.proofs.Definitions.{with_order}
 
 -- it is down, its changeover is complete, and no answer is awaited
 pub record MayOpen (l : ℕ) (p : Parts) : Type 0 where
@@ -143,6 +144,7 @@ module _ (c : Configuration) (l : ℕ) where
     taken_out = λ n. alike n _ refl refl;
     noted = λ notice n e. alike n _ refl refl;
     lost = λ n. alike n _ refl refl;
+    counted = λ messages broken n. alike n _ refl refl;
     late = λ n. alike n _ refl refl;
     timed = λ r n e. alike n _ refl refl;
     holding = λ h n e. alike n _ refl refl;
@@ -162,6 +164,9 @@ module _ (c : Configuration) (l : ℕ) where
         (λ q h. absurd (complete (changeover_of n.parts link) (at (λ (j : ℕ). Restarts (changeover_of n.parts j)) link q h.restarts) e));
     answered = λ link s n e f w. changed link s n _ refl refl
         (λ q h. restarts-so s f (λ a. unawaited (changeover_of n.parts link) (at (λ (j : ℕ). Restarts (changeover_of n.parts j)) link q h.restarts) (w a)));
+    asked = λ link n e. changed link (with_order (changeover_of n.parts link)) n _ refl refl
+        (λ q h. absurd (complete (changeover_of n.parts link) (at (λ (j : ℕ). Restarts (changeover_of n.parts j)) link q h.restarts)
+        (and_parts (changeover_of n.parts link).incomplete (not (changeover_of n.parts link).awaited) e).0));
     linked = λ link x n e o. linked link x n _ refl refl (same-down link x n e.alignment);
     parted = λ link n e. let x : Link = record (link_at n.parts link) { association = false } in
         linked link x n _ refl refl (same-down link x n refl);
@@ -199,6 +204,7 @@ own-of Ticked l own link of e = of
 own-of (Submitted message) l own link of e = of
 own-of (Activated its emergency) l own link of e = of
 own-of (Deactivated its) l own link of e = of
+own-of (Released its) l own link of e = of
 own-of (TitleAdded row is_memory_refused) l own link of e = of
 own-of (TitleRemoved key digits) l own link of e = of
 own-of (CameUp its) l own link of e = own

@@ -65,7 +65,7 @@ pub use Rattle.pair_moves.specs.Passing.{BecomeAt, MayGo}
 pub use Rattle.pair_moves.specs.Returning.{MayOpen, opened_end, AddsOnly, StaysOrIsHeld}
 pub use Rattle.pair_moves.specs.Sayings.{Reading, Saying, Order, Answer, Declaration, is_user_message, is_answer, is_order, is_untrue, UserMessage, Confirmation, is_of_flow, is_same_flow}
 pub use Rattle.pair_rules.specs.Laws.{messages_in, Word, is_down_at, is_incomplete_at, word_of, SayTheirWord, about, word_in, word_read, words_are_read}
-pub use Rattle.pair_rules.specs.Pairs.{AddsTitle, DeliversStatus, Doing, DoublesStatus, LosesStatus, RemovesTitle, Streams, Submits, Takes, Delivers, Loses, Ticks, Activates, Deactivates, OpensFirst, OpensSecond, PairState, Step, AtNear, AtFar, after_steps, did, may_follow, may_open_at, opens_first, opens_second, turn, turned, in_flight, first_pair, deliver_frame, without_data, without_status, End, happens, change_statuses, take_frame}
+pub use Rattle.pair_rules.specs.Pairs.{AddsTitle, DeliversStatus, Doing, DoublesStatus, LosesStatus, RemovesTitle, Streams, Submits, Takes, Delivers, Loses, Ticks, Activates, Deactivates, Releases, OpensFirst, OpensSecond, PairState, Step, AtNear, AtFar, after_steps, did, may_follow, may_open_at, opens_first, opens_second, turn, turned, in_flight, first_pair, deliver_frame, without_data, without_status, End, happens, change_statuses, take_frame}
 pub use Rattle.pair_rules.specs.Promises.{LostNothing, queue_of, AreJoined, waiting_on}
 pub use Rattle.route_management.specs.Told.{ToldTable, is_own_point, told_at, adjacent_place}
 pub use Rattle.routes.specs.Routes.{chosen_link, Choice, taken_by, sets_of, members, first_route, Facts, with_link, first_routes, routes_to, with_second_joined}

@@ -42,6 +42,7 @@ module _ (own adjacent : ℕ) where
         subsystems = All-from_recursion (IsWithin 1 255) [] tt;
         subsystems_differ = tt;
         timers = All-from_recursion (IsWithin 1 TICKS) (all_ticks ticks) (nine, (nine, (nine, (one, (nine, (nine, (nine, (nine, (nine, (nine, (nine, (nine, (nine, tt)))))))))))));
+        bar = tt;
         set_count = within 1 SETS 1 (omega arith) (omega arith);
         sets = All-from_recursion (IsSet own) sets (record { name = refl; adjacent = record { fits = there; far = far } }, tt);
         set_names_differ = (tt, tt);

@@ -28,6 +28,7 @@ ticks = record {
   link_tests = None;
   l4e = None;
   sst = None;
+  t2_bar = None;
 }
 
 -- a point with two links to another
