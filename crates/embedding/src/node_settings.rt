@@ -76,5 +76,6 @@ fn timers() -> TimersDraft {
         link_tests: None,
         l4e: None,
         sst: None,
+        t2_bar: None,
     }
 }

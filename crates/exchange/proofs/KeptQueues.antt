@@ -1,5 +1,6 @@
 -- What the code keeps of whole queues, it still keeps after each operation on them.
-use Rattle.exchange.proofs.Basics.{◌≡◌, ◌≤◌, ◌+◌, ◌++◌, ◌∷◌, ℕ, Bool, List, [], Option, map, get_or, is_some, refl, sym, ap, ◌∙◌, sum_by-cons, set, get_or-map, map-set, Message, users_in, managements_in, Queue, IsQueue, first_queue, unconfirmed, Counts, counts_of, kept_emptied, kept-accept_answer, counts-accepted, unconfirmed-accepted, kept-to_send, counts-sent_one, unconfirmed-sent_one, unconfirmed-appended, kept-last_sent, kept-last_accepted, sound-first, sound-appended, sound-accepted, sound-sent_one, sound-emptied, WINDOW, accepted_count, moved, lost, kept_accepted_count, kept_lost, kept_queued_anew, alike, counted-some, WholeQueues, queue_at, with_queue, whole, KeptQueues, counts_at, kept, AreQueues, kept_queues_of, IsKept, IsKeeping, map-set_alike, sum_by-map, each-set}
+use Rattle.exchange.proofs.Basics.{◌≡◌, ◌&&◌, ◌≤◌, ◌+◌, ◌++◌, ◌∷◌, ℕ, Bool, List, [], Option, map, get_or, is_some, not, refl, sym, ap, ◌∙◌, sum_by-cons, set, get_or-map, map-set, Message, users_in, managements_in, Queue, IsQueue, first_queue, unconfirmed, Counts, counts_of, kept_emptied, kept-accept_answer, counts-accepted, unconfirmed-accepted, kept-to_send, counts-sent_one, unconfirmed-sent_one, unconfirmed-appended, kept-last_sent, kept-last_accepted, sound-first, sound-appended, sound-accepted, sound-sent_one, sound-emptied, WINDOW, accepted_count, moved, lost, kept_accepted_count, kept_lost, kept_queued_anew, alike, counted-some, WholeQueues, queue_at, with_queue, whole, KeptQueues, counts_at, kept, AreQueues, kept_queues_of, IsKept, IsKeeping, map-set_alike, sum_by-map, each-set}
+use Rattle.changeover.specs.Changeover.{is_unreasonable}
 use Rattle.link.specs.Queue as queue
 use Rattle.link.specs.Keeps.{Keeps}
 
@@ -66,9 +67,19 @@ found-kept {w} qs l number s =
     let a = alike w (counts_of q) (unconfirmed q) q number (keeps qs l s) in
     let r : is_some (kept_accepted_count (counts_of q) number) ≡ is_some (accepted_count q number) = counted-some q number (s.each l) in
     rw (counts_at-kept qs l, lane_at-kept qs l)
-    (ap (λ (b : Bool). record { is_reasonable = b; lost = kept_lost (counts_of q) (unconfirmed q) number; queued_anew = kept_queued_anew (counts_of q) (unconfirmed q) number }) r
-    ∙ ap (λ (ms : List Message). record { is_reasonable = is_some (accepted_count q number); lost = ms; queued_anew = kept_queued_anew (counts_of q) (unconfirmed q) number }) a.2
-    ∙ ap (λ (ms : List Message). record { is_reasonable = is_some (accepted_count q number); lost = lost q number; queued_anew = ms }) a.1)
+    (ap (λ (b : Bool). record { is_reasonable = b; is_wrong = not b && is_some number; lost = kept_lost (counts_of q) (unconfirmed q) number; queued_anew = kept_queued_anew (counts_of q) (unconfirmed q) number }) r
+    ∙ ap (λ (ms : List Message). record {
+      is_reasonable = is_some (accepted_count q number);
+      is_wrong = is_unreasonable number (accepted_count q number);
+      lost = ms;
+      queued_anew = kept_queued_anew (counts_of q) (unconfirmed q) number;
+    }) a.2
+    ∙ ap (λ (ms : List Message). record {
+      is_reasonable = is_some (accepted_count q number);
+      is_wrong = is_unreasonable number (accepted_count q number);
+      lost = lost q number;
+      queued_anew = ms;
+    }) a.1)
 
 completed-kept : {w : ℕ} (qs : WholeQueues) (l : ℕ) (number : Option ℕ) → AreQueues w qs → kept.completed (kept_queues_of qs) l number ≡ kept_queues_of (whole.completed qs l number)
 completed-kept {w} qs l number s =

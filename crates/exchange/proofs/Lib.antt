@@ -9,6 +9,7 @@ pub mod Suspending
 pub mod Passing
 pub mod Pending
 pub mod Concluding
+pub mod LateOrders
 pub mod Standing
 pub mod Ticking
 pub mod Calls

@@ -1,5 +1,7 @@
 -- A list that is walked message by message: what is done with the first of the remaining ones.
 use Rattle.exchange.proofs.Basics.{add-one, if◌then◌else◌, not, is_some, length, ◌≡◌, ◌<◌, ◌≤◌, ℕ, zero, suc, ◌+◌, Bool, true, false, List, [], ◌∷◌, drop, take, refl, ap, sym, ◌∙◌, arith, Option, Some, None, slice_get, Message, Configuration, HoldSet, Parts, with_messages, with_head, is_management, LostUnconfirmed, Counts, users_of, kept_doubted, kept_accepted_count, kept_in_doubt, kept_queued_anew, flagged, KeptQueues, kept, counts_at, link_lane, lose, lose_each, with_losses, lose_one, lose_users, lose_first}
+use Rattle.changeover.specs.Changeover.{is_unreasonable}
+use Rattle.exchange_rules.specs.State.{broken_if}
 
 abbrev get_some : Option ℕ → ℕ
 get_some (Some n) = n
@@ -46,16 +48,17 @@ lose_users-each : (ms : List Message) (p : Parts) → lose_users ms p ≡ lose_e
 lose_users-each [] p = refl
 lose_users-each (m ∷ ms) p = lose_users-each ms (lose_one (Some m) p) ∙ users-lost (is_management m) m ms p refl
 
-with_losses-by : (o : Option ℕ) (k : Counts) (lane : List Message) (anew : List Message) (count : ℕ) (p : Parts) → kept_doubted k o ≡ Some count
-    → flagged (lose_first count lane p) ≡ with_losses (record { is_reasonable = is_some o; lost = users_of (kept_in_doubt k lane o); queued_anew = anew }) p
-with_losses-by (Some n) k lane anew count p e = absurd cc
-with_losses-by None k lane anew count p e =
+with_losses-by : (number o : Option ℕ) (k : Counts) (lane : List Message) (anew : List Message) (count : ℕ) (p : Parts) → kept_doubted k o ≡ Some count
+    → broken_if (is_some number) (flagged (lose_first count lane p))
+    ≡ with_losses (record { is_reasonable = is_some o; is_wrong = is_unreasonable number o; lost = users_of (kept_in_doubt k lane o); queued_anew = anew }) p
+with_losses-by number (Some n) k lane anew count p e = absurd cc
+with_losses-by number None k lane anew count p e =
     let many : k.outstanding ≡ count = ap (λ (o : Option ℕ). get_some o) e in
-    ap (λ (n : ℕ). flagged (lose_first n lane p)) (sym many)
-    ∙ ap (λ (x : Parts). flagged x) (lose_users-each (take k.outstanding lane) p)
+    ap (λ (n : ℕ). broken_if (is_some number) (flagged (lose_first n lane p))) (sym many)
+    ∙ ap (λ (x : Parts). broken_if (is_some number) (flagged x)) (lose_users-each (take k.outstanding lane) p)
 
 pub doubtful : (k : KeptQueues) (link : ℕ) (number : Option ℕ) (count : ℕ) (p : Parts)
     → kept_doubted (counts_at k.counts link) (kept_accepted_count (counts_at k.counts link) number) ≡ Some count
-    → flagged (lose_first count (link_lane k link) p) ≡ with_losses (kept.found k link number) p
+    → broken_if (is_some number) (flagged (lose_first count (link_lane k link) p)) ≡ with_losses (kept.found k link number) p
 doubtful k link number count p e =
-    with_losses-by (kept_accepted_count (counts_at k.counts link) number) (counts_at k.counts link) (link_lane k link) (kept_queued_anew (counts_at k.counts link) (link_lane k link) number) count p e
+    with_losses-by number (kept_accepted_count (counts_at k.counts link) number) (counts_at k.counts link) (link_lane k link) (kept_queued_anew (counts_at k.counts link) (link_lane k link) number) count p e

@@ -1,5 +1,5 @@
 -- What the table of translation rows answers to an order, and what it leaves, is what the rule does.
-use Rattle.exchange.proofs.Basics.{◌≡◌, List, Option, Some, None, Result, Ok, Err, refl, ap, OnOk, OnErr, IfErr, if◌then◌else◌, option_or, TitleEntry, TitlesValue, Cause, NoMemory, Outcome, Refused, with_row, State, with_node, with_parts, Ends, with_titles, add_title_unless, is_memory_refused, handled_or_refused}
+use Rattle.exchange.proofs.Basics.{◌≡◌, Option, Some, None, Result, Ok, Err, refl, ap, OnOk, OnErr, IfErr, if◌then◌else◌, option_or, TitleEntry, TitlesValue, Cause, NoMemory, Outcome, Refused, with_row, State, with_node, with_parts, Ends, with_titles, add_title_unless, is_memory_refused, handled_or_refused}
 
 -- the state with other rows
 abbrev pub titled : {Q : Type 0} → State Q → TitlesValue → State Q

@@ -1,10 +1,10 @@
 -- A link that returns: declarations go out one by one and change no link, and it takes its flows back once it carries
 -- traffic.
-use Rattle.exchange.proofs.Basics.{◌⊎◌, inl, inr, begin_test, test_if, add-one, ◌≡◌, ◌<◌, ◌≤◌, ℕ, zero, suc, ◌+◌, arith, replicate, Bool, true, false, ◌&&◌, not, List, length, Option, Some, None, refl, ap, sym, ◌∙◌, if◌then◌else◌, slice_set, set, ⊎_elim, cases_lt, get_or-set_same, get_or_past, length-set, LINKS, Configuration, Action, Transition, Facts, with_link, Link, is_in_service, stepped, down_link, Procedure, returned, gives_up, held_by, alike_before, QueueKind, Parts, Node, State, with_node, with_parts, KeptQueues, kept, link_at, in_service, with_holds, facts, code_for, declare_by, change_back, HasPlacesFor, holder, declare, declare_each, holders, set_of, has_other, begun_anew_if, act_by, step_on, stepped_by, is_first_in, entered, taken_back_if, known_before, known_links}
+use Rattle.exchange.proofs.Basics.{◌⊎◌, inl, inr, begin_test, test_if, add-one, ◌≡◌, ◌<◌, ◌≤◌, ℕ, zero, suc, ◌+◌, arith, replicate, Bool, true, false, ◌&&◌, not, List, length, Option, Some, None, refl, ap, sym, ◌∙◌, if◌then◌else◌, slice_set, ⊎_elim, cases_lt, get_or-set_same, get_or_past, length-set, LINKS, Configuration, Action, Transition, Facts, with_link, Link, is_in_service, stepped, down_link, Procedure, returned, gives_up, held_by, alike_before, QueueKind, Parts, Node, State, with_node, with_parts, KeptQueues, kept, link_at, in_service, with_holds, facts, code_for, declare_by, change_back, HasPlacesFor, holder, declare, declare_each, holders, set_of, has_other, begun_anew_if, act_by, step_on, stepped_by, is_first_in, entered, taken_back_if, known_before, known_links}
 use Rattle.link.specs.declared.action.Action.TheVariants as act
 use Rattle.exchange_rules.specs.Frames.{enters, enters_traffic, take_step}
 use Rattle.exchange_rules.specs.Entering.{begin_traffic}
-use Rattle.exchange_rules.specs.LinkTests.{is_first_test, test_passed, pass_test}
+use Rattle.exchange_rules.specs.LinkTests.{test_passed, pass_test}
 use Rattle.exchange_rules.specs.State.{in_traffic}
 use Rattle.exchange_rules.proofs.Entering.{relinked}
 use Rattle.timers.specs.Timers.{Running}

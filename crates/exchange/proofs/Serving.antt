@@ -3,7 +3,7 @@ use Rattle.link.specs.declared.period.Period.{Period}
 use Rattle.link.specs.declared.period.Period.TheVariants.{Fixed, Normal, Hurried, Emergency}
 use Rattle.link.specs.declared.action.Action.TheVariants.{Go}
 use Rattle.link.specs.Table.{period_after, staying}
-use Rattle.exchange.proofs.Basics.{◌≡◌, ◌∙◌, ℕ, true, false, refl, ap, None, append-nil, set-get_or, Configuration, UserData, Transition, Alignment, Down, NotAligned, Aligned, Proving, AlignedReady, InService, action_at, Link, down_link, is_in_service, stepped, QueueKind, Parts, Node, link_at, in_service, links_with, advance, Carrying, act_by_data, receive_data, handle}
+use Rattle.exchange.proofs.Basics.{◌≡◌, ◌∙◌, ℕ, true, refl, ap, append-nil, set-get_or, Configuration, UserData, Transition, Alignment, Down, NotAligned, Aligned, Proving, AlignedReady, InService, action_at, Link, down_link, is_in_service, stepped, QueueKind, Parts, Node, link_at, in_service, links_with, advance, Carrying, act_by_data, receive_data, handle}
 
 -- the step of a link in service about User Data
 abbrev staying_in_service : Period → Transition

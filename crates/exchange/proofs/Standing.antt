@@ -67,6 +67,8 @@ pub first-kept : (c : Configuration) (n : ℕ) (lanes : List (List Message)) (co
           timers = timers;
           notices = record { last = notices; count = 0 };
           times_lost = 0;
+          messages_lost = 0;
+          times_broken = 0;
           times_late = 0;
         };
       };

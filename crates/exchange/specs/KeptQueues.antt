@@ -5,6 +5,7 @@ use Rattle.cell_pool.specs.Lanes.{lane_at, pushed, dropped, users, managements}
 use Rattle.link.specs.Queue.{count_confirmed}
 use Rattle.link.specs.Counts.{Counts, kept_first, kept_accept_answer, kept_accepted}
 use Rattle.link.specs.Counts.{kept_to_send, kept_sent_one, kept_emptied, kept_last_sent, kept_last_accepted}
+use Rattle.changeover.specs.Changeover.{is_unreasonable}
 use Rattle.changeover.specs.Kept.{kept_accepted_count, kept_moved, kept_lost, kept_queued_anew}
 use Rattle.exchange_rules.specs.State.{QueueKind}
 
@@ -51,6 +52,7 @@ kept = record {
   unconfirmed = λ k link. link_lane k link;
   found = λ k link number. record {
     is_reasonable = is_some (kept_accepted_count (counts_at k.counts link) number);
+    is_wrong = is_unreasonable number (kept_accepted_count (counts_at k.counts link) number);
     lost = kept_lost (counts_at k.counts link) (link_lane k link) number;
     queued_anew = kept_queued_anew (counts_at k.counts link) (link_lane k link) number;
   };

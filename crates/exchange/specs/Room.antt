@@ -28,6 +28,8 @@ kept_in e = record {
       timers = e.timers;
       notices = record { last = e.notices.items; count = e.notice_count };
       times_lost = e.times_lost;
+      messages_lost = e.messages_lost;
+      times_broken = e.times_broken;
       times_late = e.times_late;
     };
   };

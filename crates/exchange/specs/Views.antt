@@ -1,5 +1,5 @@
 -- What an exchange shows of its links and its routes.
-use Rattle.std.specs.Prelude.{ℕ, Bool, ◌&&◌, List, [], ◌∷◌, Option, Some, None, codes, length, slice_get, if◌then◌else◌}
+use Rattle.std.specs.Prelude.{ℕ, Bool, ◌&&◌, is_some, List, [], ◌∷◌, Option, Some, None, codes, length, slice_get, if◌then◌else◌}
 use Rattle.std.specs.Option.{option_map}
 use Rattle.link.specs.declared.alignment.Alignment.{Alignment}
 use Rattle.link.specs.declared.alignment.Alignment.TheVariants as alignment
@@ -12,7 +12,7 @@ use Rattle.exchange.specs.declared.view.LinkStanding.TheVariants as standing
 use Rattle.exchange.specs.declared.view.LinkView.{LinkView}
 use Rattle.exchange.specs.declared.view.RouteView.{RouteView}
 use Rattle.exchange_rules.specs.State.{QueueKind, Node, State, is_link, link_at, down}
-use Rattle.changeover.specs.Changeover.{may_restart}
+use Rattle.changeover.specs.Changeover.{may_restart, is_barred}
 use Rattle.exchange_rules.specs.ChangingOver.{changeover_of}
 use Rattle.exchange_rules.specs.Routing.{facts}
 
@@ -49,6 +49,12 @@ link_view q s link = if is_link s.node.parts link then Some (link_shown q s.node
 abbrev pub may_restart_at : {Q : Type 0} → State Q → ℕ → Bool
 may_restart_at s link =
     is_link s.node.parts link && (down s.node.parts link && may_restart (changeover_of s.node.parts link))
+
+-- whether a link is barred from opening: the settings bar links, its changeover is complete, and the answer to its
+-- order is awaited
+abbrev pub is_barred_at : {Q : Type 0} → State Q → ℕ → Bool
+is_barred_at s link =
+    is_some s.settings.timers.t2_bar && (is_link s.node.parts link && is_barred (changeover_of s.node.parts link))
 
 -- the status of the routes that messages take
 abbrev pub status_shown : List Route → RouteStatus

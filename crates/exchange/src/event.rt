@@ -22,6 +22,9 @@ pub enum Order {
     },
     /// The link fails unless it is down, and can't open until it is activated.
     Deactivate(LinkId),
+    /// The link may open, though the acknowledgement of its changeover order is awaited: it is awaited no more, and T2
+    /// stops. Ignored if none is awaited, or if the changeover isn't complete yet.
+    Release(LinkId),
     /// The translation row is added.
     AddTitle(TitleRow),
     /// The translation row of this key and these digits is removed.

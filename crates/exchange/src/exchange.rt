@@ -19,6 +19,7 @@ mod failing;
 mod frames;
 mod head;
 mod lanes;
+mod late_orders;
 mod link_tests;
 mod links;
 mod local;
@@ -80,6 +81,8 @@ pub struct Exchange {
     // how many notices there ever were
     notice_count: u64,
     times_lost: u64,
+    messages_lost: u64,
+    times_broken: u64,
     times_late: u64,
     // whether a hold changed since the messages of Held were last walked
     release_due: bool,
@@ -105,6 +108,8 @@ impl Drop for Exchange {
             notices: _,
             notice_count: _,
             times_lost: _,
+            messages_lost: _,
+            times_broken: _,
             times_late: _,
             release_due: _,
             pending: _,
@@ -197,11 +202,18 @@ impl Exchange {
         match event {
             Event::AssociationUp(link) => self.association_up(*link),
             Event::AssociationDown(link) => self.association_down(*link),
-            Event::Frame(link, octets) => self.receive(*link, octets),
-            Event::Tick => self.tick(),
+            Event::Frame(link, octets) => {
+                let outcome = self.receive(*link, octets);
+                self.order_late_after(outcome)
+            }
+            Event::Tick => {
+                let outcome = self.tick();
+                self.order_late_after(outcome)
+            }
             Event::Submit(message) => self.submit(*message),
             Event::Order(Order::Activate { link, emergency }) => self.activate(*link, *emergency),
             Event::Order(Order::Deactivate(link)) => self.deactivate(*link),
+            Event::Order(Order::Release(link)) => self.release_bar(*link),
             Event::Order(Order::AddTitle(row)) => self.add_title(*row),
             Event::Order(Order::RemoveTitle(key, digits)) => self.remove_title(
                 *key,

@@ -23,6 +23,6 @@ pub use settings::{
     Cause, ChangeDraft, ChangeoverTimer, DestinationDraft, Draft, DraftFault, FailureReason,
     FaultKind, FrameFault, Key, LateTimer, Limits, LinkDraft, LinkId, Msu, MsuRef, Notice, Outcome,
     PointCode, SetDraft, SetId, Settings, Sls, Ssn, TimersDraft, TitleChange, TitleDraft,
-    TitleRoute, TitleRow,
+    TitleRoute, TitleRow, Unbarring,
 };
 pub use view::{LinkStanding, LinkView, NewNotices, RouteView};

@@ -141,6 +141,7 @@ const TIMERS: TimersDraft = TimersDraft {
     link_tests: None,
     l4e: None,
     sst: None,
+    t2_bar: None,
 };
 
 /// The name of the link set of this number.

@@ -21,7 +21,7 @@ use Rattle.exchange_rules.specs.Frames.{receive}
 use Rattle.exchange_rules.specs.Messages.{deliver, transfer, whither_goes, in_place_of, own_of}
 use Rattle.exchange_rules.specs.Conserving.{brought_by, brought_in, brought_to, relayed_in, returned_in, taken_in, unitdata_in}
 use Rattle.exchange_rules.specs.Exchange.{after, outcome_of}
-use Rattle.exchange_rules.specs.State.{FrameCame, Happening, Submitted, Node}
+use Rattle.exchange_rules.specs.State.{Done, FrameCame, Happening, Submitted, Node}
 use Rattle.exchange_rules.specs.Lasting.{HasAllPlaces}
 use Rattle.exchange_rules.specs.Laws.{accept_text}
 use Rattle.exchange_rules.specs.Queues.{WholeQueues, whole}
@@ -39,6 +39,7 @@ use Rattle.exchange_rules.proofs.KeptFacts.{after-facts, deliver-facts, own-same
 use Rattle.pair_rules.proofs.Arrivals.{accepted-titles, received-as}
 use Rattle.pair_rules.proofs.Behind.{behind_at, standing_behind, users}
 use Rattle.pair_rules.proofs.Counted.{confirming_number, frame-counts, submission-counts}
+use Rattle.neighbour_rules.proofs.LateOrders.{late_by-facts}
 use Rattle.network_world.specs.Bringing.{comes_back, goes_on, is_sccp, kept_behind, kept_in, kept_in_all, kept_standing, kept_standing_if, number_in, told_in, udts_as, written_as}
 use Rattle.network_world.specs.KeptSites.{handed_in, newly_brought}
 use Rattle.network_world.proofs.Newly.{newly-same, stands-itself}
@@ -276,10 +277,14 @@ module _ (a : Abstract) (sound : IsSound a) (places : HasAllPlaces a.settings a.
       abbrev left : Node WholeQueues
       left = (after whole came a).node
 
+      abbrev received : Done WholeQueues
+      received = receive whole a.settings link text a.node
+
       leads-alike : LeadsAlike own_behind a.settings m mid
       leads-alike label here is =
           ap (λ (x : Kept). own_of a.settings x.node.parts) (stands-after came k a (stands-itself a sound)).kept
-          ∙ own-same a.settings left (receive whole a.settings link text a.node).left (after-facts a.settings came a.node)
+          ∙ own-same a.settings left received.left
+          (after-facts a.settings came a.node ∙ late_by-facts a.settings received.outcome received.left)
           ∙ received-as a.settings link m (λ d x. own_of a.settings d.left.parts ≡ own_of a.settings x.parts)
           (λ n. own-same a.settings (deliver whole a.settings link m n).left n (deliver-facts a.settings link m label n (user-of m is) here)) text a.node new
 

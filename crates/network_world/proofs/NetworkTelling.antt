@@ -106,6 +106,7 @@ module _ (k : List KeptNode) (w : NetworkState) (s : NetworkStandsFor k w) (near
   here pairs.Ticks = tt
   here (pairs.Activates link emergency) = tt
   here (pairs.Deactivates link) = tt
+  here (pairs.Releases link) = tt
   here (pairs.AddsTitle row is_memory_refused) = tt
   here (pairs.RemovesTitle key digits) = tt
   here (pairs.OpensFirst link) = tt

@@ -17,6 +17,7 @@ doing_told (doing.Lose link) outcome = pairs.Loses link
 doing_told doing.Tick outcome = pairs.Ticks
 doing_told (doing.Activate link emergency) outcome = pairs.Activates link emergency
 doing_told (doing.Deactivate link) outcome = pairs.Deactivates link
+doing_told (doing.Release link) outcome = pairs.Releases link
 doing_told (doing.AddTitle row) outcome = pairs.AddsTitle row (is_memory_refused outcome)
 doing_told (doing.RemoveTitle key digits) outcome = pairs.RemovesTitle key digits.items
 doing_told (doing.OpenFirst link) outcome = pairs.OpensFirst link

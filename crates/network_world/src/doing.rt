@@ -33,6 +33,9 @@ pub enum Doing {
     },
     /// The operator keeps a link from opening; it fails if it isn't down.
     Deactivate(LinkId),
+    /// The operator lets a link open, though the answer to its changeover order is awaited. Ignored if none is awaited,
+    /// or if the changeover isn't complete yet.
+    Release(LinkId),
     /// The operator adds a translation row. Refused DuplicateRow where there is one with its key and digits, else
     /// TableFull, else NoMemory where memory for it is refused.
     AddTitle(TitleRow),

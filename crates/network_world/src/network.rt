@@ -240,6 +240,7 @@ impl Network {
                 act_at(&mut self.nodes, place, Doing::Activate { link, emergency })
             }
             Doing::Deactivate(link) => act_at(&mut self.nodes, place, Doing::Deactivate(link)),
+            Doing::Release(link) => act_at(&mut self.nodes, place, Doing::Release(link)),
             Doing::AddTitle(row) => act_at(&mut self.nodes, place, Doing::AddTitle(row)),
             Doing::RemoveTitle(key, digits) => {
                 act_at(&mut self.nodes, place, Doing::RemoveTitle(key, digits))

@@ -157,6 +157,7 @@ impl Node {
                 Ok(self.happen(&Event::Order(Order::Activate { link, emergency })))
             }
             Doing::Deactivate(link) => Ok(self.happen(&Event::Order(Order::Deactivate(link)))),
+            Doing::Release(link) => Ok(self.happen(&Event::Order(Order::Release(link)))),
             Doing::AddTitle(row) => Ok(self.happen(&Event::Order(Order::AddTitle(row)))),
             Doing::RemoveTitle(key, digits) => {
                 Ok(self.happen(&Event::Order(Order::RemoveTitle(key, digits))))

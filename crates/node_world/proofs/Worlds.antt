@@ -11,10 +11,10 @@ use Rattle.exchange.specs.Calls.{Kept}
 use Rattle.exchange.specs.declared.event.Event.{Event}
 use Rattle.exchange.specs.declared.event.Event.TheVariants as event
 use Rattle.exchange.specs.declared.event.Order.{Order}
-use Rattle.exchange.specs.declared.event.Order.TheVariants.{Activate, Deactivate, AddTitle, RemoveTitle}
+use Rattle.exchange.specs.declared.event.Order.TheVariants.{Activate, Deactivate, Release, AddTitle, RemoveTitle}
 use Rattle.exchange_rules.specs.Exchange.{after, outcome_of}
 use Rattle.exchange_rules.specs.Queues.{whole}
-use Rattle.exchange_rules.specs.State.{Happening, CameUp, WentDown, FrameCame, Ticked, Submitted, Activated, Deactivated, TitleAdded, TitleRemoved}
+use Rattle.exchange_rules.specs.State.{Happening, CameUp, WentDown, FrameCame, Ticked, Submitted, Activated, Deactivated, Released, TitleAdded, TitleRemoved}
 use Rattle.signalling_types.specs.declared.outcome.Outcome.{Outcome}
 use Rattle.sctp_gate.specs.Calling as calling
 use Rattle.node_rules.specs.Worlds.{IsOwn}
@@ -109,6 +109,7 @@ stands-there k w s point n e = subst (λ (o : Option KeptNode). IsNodeAt point o
 own-order : (order : Order) (outcome : Outcome) → IsOwn (exchanges.happened (event.Order order) outcome)
 own-order (Activate link emergency) outcome = tt
 own-order (Deactivate link) outcome = tt
+own-order (Release link) outcome = tt
 own-order (AddTitle row) outcome = tt
 own-order (RemoveTitle key digits) outcome = tt
 
@@ -129,6 +130,7 @@ same-exchange Ticked x = refl
 same-exchange (Submitted message) x = refl
 same-exchange (Activated link emergency) x = refl
 same-exchange (Deactivated link) x = refl
+same-exchange (Released link) x = refl
 same-exchange (TitleAdded row is_memory_refused) x = refl
 same-exchange (TitleRemoved key digits) x = refl
 

@@ -60,6 +60,8 @@ impl Exchange {
             notices,
             notice_count: 0,
             times_lost: 0,
+            messages_lost: 0,
+            times_broken: 0,
             times_late: 0,
             release_due: false,
             pending: of_network.pending,

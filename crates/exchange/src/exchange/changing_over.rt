@@ -1,10 +1,10 @@
 //! TCOC, changeover control (Q.704 §5.4 to §5.7): a changeover goes on and ends, by an order or an acknowledgement of
 //! the peer, or by a timer.
 
-ghost use Rattle.std.specs.Prelude.{◌≡◌, ◌<◌, Some, true, length, slice_get};
+ghost use Rattle.std.specs.Prelude.{◌≡◌, ◌<◌, if◌then◌else◌, Some, true, length, slice_get};
 ghost use Rattle.std.specs.Option.{option_map};
 ghost use Rattle.changeover.specs.Kept.{kept_accepted_count, kept_doubted};
-ghost use Rattle.exchange_rules.specs.State.{with_node, with_parts, note, flagged};
+ghost use Rattle.exchange_rules.specs.State.{with_node, with_parts, note, flagged, counted_lost};
 ghost use Rattle.exchange.specs.KeptQueues as queues;
 ghost use Rattle.exchange.specs.KeptQueues.{kept, link_lane};
 ghost use Rattle.exchange_rules.specs.Exchange.{Ends};
@@ -18,7 +18,7 @@ use cell_pool::Lanes;
 use changeover::{complete, count_in_doubt};
 use flow_hold::Procedure;
 use mtp3_codec::{Label, Management};
-use settings::{Cause, ChangeoverTimer, LinkId, Notice, Outcome};
+use settings::{Cause, ChangeoverTimer, LinkId, Notice, Outcome, Unbarring};
 use signalling_types::Number24;
 use timers::TimerName;
 
@@ -33,11 +33,26 @@ impl Exchange {
         if !self.links.state(link).is_down() {
             self.fail_by_peer(link);
         }
+        self.bar(link);
         if self.changeovers.order(link) {
             self.conclude(link, number);
         }
         self.acknowledge_changeover(link);
         Outcome::Handled
+    }
+
+    /// The changeover of a link is about to be completed: if its answer is awaited, and the settings bar links, T2 is
+    /// set anew.
+    fn bar(&mut self, link: LinkId)
+        requires { link < length self.old.settings.links }
+        ensures { self.new ≡ with_node self.old (failing.bar kept self.old.settings link self.old.node) }
+    {
+        if !self.changeovers.awaits_incomplete(link) {
+            return;
+        }
+        if let Some(ticks) = self.settings.timers().t2_bar {
+            self.timers.set(TimerName::T2(link), ticks);
+        }
     }
 
     /// Tells the peer the number of the last message that was accepted on a link.
@@ -71,7 +86,7 @@ impl Exchange {
         Outcome::Handled
     }
 
-    /// A timer of a link's changeover ran out: it is completed without a number.
+    /// A timer of a link's changeover ran out: it is completed without a number, unless it is complete.
     pub(super) fn on_changeover_timer(&mut self, timer: ChangeoverTimer, link: LinkId)
         ensures { self.new
             ≡ with_node self.old (failing.on_changeover_timer kept self.old.settings timer link self.old.node) }
@@ -79,12 +94,42 @@ impl Exchange {
         if !self.links.has(link) {
             return;
         }
-        self.note(Notice::Expired(timer, link));
-        if timer == ChangeoverTimer::T2 {
-            self.flag_loss();
-        }
-        if self.changeovers.expired(link, timer) {
+        self.bar(link);
+        if self.expire(timer, link) {
             self.conclude(link, None);
+        }
+    }
+
+    /// A timer of a link's changeover ran out, and that is noted. Says whether the changeover is to be completed now.
+    fn expire(&mut self, timer: ChangeoverTimer, link: LinkId) -> bool
+        requires { link < length self.old.settings.links }
+        ensures completes { result ≡ (failing.changeover_of self.old.node.parts link).incomplete }
+        ensures state { self.new ≡ with_node self.old (with_parts self.old.node
+            (failing.with_expiry self.old.settings timer link self.old.node.parts)) }
+    {
+        let bars = self.settings.timers().t2_bar.is_some();
+        let incomplete = self.changeovers.is_incomplete(link);
+        match timer {
+            ChangeoverTimer::T1 => self.note(Notice::Expired(timer, link)),
+            ChangeoverTimer::T2 => {
+                self.note_end(link, bars && !incomplete);
+                self.flag_loss();
+                self.count_break_if(!(bars && incomplete));
+            }
+        }
+        self.changeovers.expired(link, timer, bars)
+    }
+
+    /// T2 of a link ran out, and that is noted: as the end of its bar, or not.
+    fn note_end(&mut self, link: LinkId, is_over: bool)
+        ensures { self.new ≡ with_node self.old (with_parts self.old.node
+            (note (if is_over then notices.Unbarred Unbarring.T2 link else notices.Expired ChangeoverTimer.T2 link)
+            self.old.node.parts)) }
+    {
+        if is_over {
+            self.note(Notice::Unbarred(Unbarring::T2, link));
+        } else {
+            self.note(Notice::Expired(ChangeoverTimer::T2, link));
         }
     }
 
@@ -111,6 +156,7 @@ impl Exchange {
         if let Some(count) = self.count_in_doubt(link, number) {
             self.lose_first(link, count);
             self.flag_loss();
+            self.count_break_if(number.is_some());
         }
     }
 
@@ -151,10 +197,11 @@ impl Exchange {
     /// A user message is lost, and that is noted.
     pub(super) fn lose(&mut self, cause: Cause, label: &Label)
         ensures { self.new ≡ with_node self.old (with_parts self.old.node
-            (flagged (note (notices.Lost cause label.now.dpc label.now.sls) self.old.node.parts))) }
+            (counted_lost (flagged (note (notices.Lost cause label.now.dpc label.now.sls) self.old.node.parts)))) }
     {
         self.note(Notice::Lost(cause, label.dpc, label.sls));
         self.flag_loss();
+        self.count_lost();
     }
 
     /// The changeover of a link no longer holds anything, and T1 stops.

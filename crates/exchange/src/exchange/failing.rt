@@ -97,7 +97,7 @@ impl Exchange {
     }
 
     /// Orders the peer to change over from a link, with the number of the last message that was accepted on it.
-    fn send_changeover_order(&mut self, link: LinkId, number: Number24)
+    pub(super) fn send_changeover_order(&mut self, link: LinkId, number: Number24)
         requires { link < length self.old.settings.links }
         ensures { self.new ≡ with_node self.old (made.send_routed kept self.old.settings
             (rule.changeover_order self.old.settings link number) self.old.node) }
@@ -120,7 +120,7 @@ impl Exchange {
     }
 
     /// Whether the order to change over from a link has a way to its peer.
-    fn has_way(&self, link: LinkId) -> bool
+    pub(super) fn has_way(&self, link: LinkId) -> bool
         requires { link < length self.now.settings.links }
         ensures { result ≡ rule.has_way self.now.settings link self.now.node.parts }
     {

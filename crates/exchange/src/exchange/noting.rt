@@ -15,6 +15,23 @@ impl Exchange {
         self.times_lost = self.times_lost.saturating_add(1);
     }
 
+    /// A message was named as lost.
+    pub(super) fn count_lost(&mut self)
+        ensures { self.new ≡ with_node self.old (with_parts self.old.node (rule.counted_lost self.old.node.parts)) }
+    {
+        self.messages_lost = self.messages_lost.saturating_add(1);
+    }
+
+    /// If a changeover ended so that it isn't known for sure what the other end has, counts that.
+    pub(super) fn count_break_if(&mut self, breaks: bool)
+        ensures { self.new
+            ≡ with_node self.old (with_parts self.old.node (rule.broken_if breaks self.old.node.parts)) }
+    {
+        if breaks {
+            self.times_broken = self.times_broken.saturating_add(1);
+        }
+    }
+
     /// Messages may have gone out of order from now on.
     pub(super) fn flag_lateness(&mut self)
         ensures { self.new ≡ with_node self.old (with_parts self.old.node (rule.flagged_late self.old.node.parts)) }

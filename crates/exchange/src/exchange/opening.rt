@@ -8,12 +8,13 @@ ghost use Rattle.exchange_rules.specs.Exchange.{Ends, wants_of};
 ghost use Rattle.exchange_rules.specs.First.{Abstract};
 ghost use Rattle.exchange.specs.Calls.{StandsFor};
 ghost use Rattle.exchange_rules.specs.Opening as rule;
-ghost use Rattle.exchange.specs.Views.{may_restart_at};
+ghost use Rattle.exchange.specs.Views.{may_restart_at, is_barred_at};
 
 use super::Exchange;
 use exchange_rules::Wants;
 use link::{Alignment, Period, Sequence};
-use settings::{Cause, FailureReason, LinkId, Outcome};
+use settings::{Cause, FailureReason, LinkId, Notice, Outcome, Unbarring};
+use timers::TimerName;
 
 impl Exchange {
     /// What a link wants from its caller; Nothing if there is no such link.
@@ -49,6 +50,17 @@ impl Exchange {
         self.links.has(link)
             && self.links.state(link).is_down()
             && self.changeovers.may_restart(link)
+    }
+
+    /// Whether a link is barred: the settings bar links (`t2_bar`), its changeover is complete, and the acknowledgement
+    /// of its changeover order is awaited, so that it can't open. False if there is no such link.
+    pub fn is_barred(&self, link: LinkId) -> bool
+        ensures barred { (a : Abstract) → StandsFor self.now a → result ≡ is_barred_at a link }
+        ensures kept_barred { result ≡ is_barred_at self.now link }
+    {
+        self.settings.timers().t2_bar.is_some()
+            && self.links.has(link)
+            && self.changeovers.is_barred(link)
     }
 
     /// An association comes up.
@@ -129,6 +141,23 @@ impl Exchange {
             return Outcome::Refused(Cause::NoSuchName);
         }
         self.let_open(link, emergency);
+        Outcome::Handled
+    }
+
+    /// The operator lets a link open whose changeover is complete, though the acknowledgement of its order is awaited.
+    pub(super) fn release_bar(&mut self, link: LinkId) -> Outcome
+        ensures { Ends self.old result self.new (rule.release_bar kept self.old.settings link self.old.node) }
+    {
+        if !self.links.has(link) {
+            return Outcome::Refused(Cause::NoSuchName);
+        }
+        if !self.changeovers.release(link) {
+            return Outcome::Ignored;
+        }
+        self.timers.clear(TimerName::T2(link));
+        self.note(Notice::Unbarred(Unbarring::Operator, link));
+        self.flag_loss();
+        self.count_break_if(true);
         Outcome::Handled
     }
 

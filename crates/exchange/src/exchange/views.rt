@@ -27,7 +27,8 @@ impl Exchange {
     }
 
     /// Whether a message may have been lost since `boot`: a notice of a lost message or of a dropped management message
-    /// was made, a changeover ended without a reasonable number, or T2 ran out. Once true it stays true.
+    /// was made, a changeover ended without a reasonable number, T2 ran out, or the operator released a link that was
+    /// barred. Once true it stays true.
     pub fn lost_any(&self) -> bool
         ensures lost { (a : Abstract) → StandsFor self.now a → result ≡ lost_any a.node.parts }
         ensures kept_lost { result ≡ lost_any self.now.node.parts }
@@ -41,6 +42,24 @@ impl Exchange {
         ensures kept_times { result ≡ self.now.node.parts.times_lost }
     {
         self.times_lost
+    }
+
+    /// How many messages were named as lost since `boot`, each by a notice; it stays at 2^64 - 1.
+    pub fn messages_lost(&self) -> u64
+        ensures messages { (a : Abstract) → StandsFor self.now a → result ≡ a.node.parts.messages_lost }
+        ensures kept_messages { result ≡ self.now.node.parts.messages_lost }
+    {
+        self.messages_lost
+    }
+
+    /// How often since `boot` a changeover ended so that it isn't known for sure what the other end has of its link:
+    /// the acknowledgement of its order was awaited no more, though it didn't come, or a number came that names no
+    /// message. It stays at 2^64 - 1.
+    pub fn times_broken(&self) -> u64
+        ensures times { (a : Abstract) → StandsFor self.now a → result ≡ a.node.parts.times_broken }
+        ensures kept_times { result ≡ self.now.node.parts.times_broken }
+    {
+        self.times_broken
     }
 
     /// Whether messages of a flow may have gone out of order since `boot`: T3 or T4 ran out, so a changeback released

@@ -74,6 +74,7 @@ const TIMERS: TimersDraft = TimersDraft {
     link_tests: None,
     l4e: None,
     sst: None,
+    t2_bar: None,
 };
 
 /// A node with one link, and a destination behind its adjacent point.

@@ -1,5 +1,5 @@
 -- If the link began or ceased to carry traffic, anything may be pending.
-use Rattle.exchange.proofs.Basics.{◌<◌, length, arith, ap, ◌∙◌, Link, after_action, carries_traffic, link_in, State, KeptQueues}
+use Rattle.exchange.proofs.Basics.{◌<◌, length, arith, ap, ◌∙◌, after_action, carries_traffic, link_in, State, KeptQueues}
 use Rattle.exchange.proofs.Rooms.{moved_room}
 use Rattle.exchange.proofs.exchange.Exchange.align.Goals as goal
 

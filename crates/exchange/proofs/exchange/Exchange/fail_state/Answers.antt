@@ -1,5 +1,5 @@
 -- If the link carried traffic, anything may be pending.
-use Rattle.exchange.proofs.Basics.{refl, ap, ◌∙◌, Link, after_failure, carries_traffic, link_in}
+use Rattle.exchange.proofs.Basics.{refl, ap, ◌∙◌, after_failure, carries_traffic, link_in}
 use Rattle.exchange.proofs.Rooms.{left_room}
 use Rattle.exchange.proofs.exchange.Exchange.fail_state.Goals as goal
 

@@ -1,5 +1,5 @@
 -- If the link began to carry traffic, anything may be pending.
-use Rattle.exchange.proofs.Basics.{◌<◌, length, arith, ap, ◌∙◌, Link, false, carries_traffic, link_in, State, KeptQueues}
+use Rattle.exchange.proofs.Basics.{◌<◌, length, arith, ap, ◌∙◌, false, carries_traffic, link_in, State, KeptQueues}
 use Rattle.exchange.proofs.Rooms.{moved_room}
 use Rattle.exchange.proofs.exchange.Exchange.set_test_passed.Goals as goal
 

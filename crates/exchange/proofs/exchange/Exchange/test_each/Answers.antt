@@ -1,5 +1,5 @@
 -- One test is submitted, and one fewer is left.
-use Rattle.exchange.proofs.Basics.{refl, arith}
+use Rattle.exchange.proofs.Basics.{refl}
 use Rattle.exchange.proofs.SubsystemTests.{one-tested}
 use Rattle.exchange.proofs.exchange.Exchange.test_each.Goals as goal
 
