@@ -1,10 +1,2 @@
-pub mod Calls
-pub mod Counting
-pub mod EndpointSettings
-pub mod Hosts
-pub mod Links
-pub mod Losses
-pub mod Peers
 pub mod Stopping
-pub mod Times
 pub mod Turns

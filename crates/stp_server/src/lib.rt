@@ -3,15 +3,12 @@
 #![tactic(auto)]
 
 mod failure;
-pub mod sctp_links;
 pub mod served_page;
 mod server;
 mod serving;
 pub mod tcp_links;
-mod times;
 
 pub use failure::ServeFailure;
-pub use sctp_links::SctpSockets;
 pub use served_node::{FileCapture, OpenFault};
 pub use served_page::ServedPage;
 pub use server::{Places, Server};

@@ -4,8 +4,8 @@ ghost use Rattle.std.specs.Prelude.{◌≤◌};
 
 use crate::failure::ServeFailure;
 use crate::server::{Places, Server};
-use crate::times::millis;
 use script::Sink;
+use sctp_links::times::millis;
 use served_link::{MOST_TICKS, TickClock, Unwatched};
 use served_node::{DroppingLog, FileCapture, HeldFile, Log, OpenFault};
 use settings::Settings;

@@ -2,11 +2,10 @@
 
 ghost use Rattle.std.specs.Prelude.{◌≤◌};
 
-use crate::sctp_links::SctpSockets;
-use crate::sctp_links::keys::Keys;
 use crate::tcp_links::TcpLinks;
 use mio::Registry;
 use script::Sink;
+use sctp_links::{Keys, SctpSockets};
 use served_link::Watch;
 use served_node::{Log, Node, OpenFault};
 use settings::LinkId;

@@ -1,10 +1,10 @@
 //! The status page of a server.
 
 use crate::served_page::ServedPage;
-use crate::times::millis;
 use mio::Registry;
 use mio::event::Event;
 use script::Sink;
+use sctp_links::times::millis;
 use served_node::{Log, Node, OpenFault};
 use status_page::{NoticeLog, StatusPage};
 use std::alloc::Global;

@@ -1,0 +1,9 @@
+use Rattle.std.proofs.Common.{refl}
+use Rattle.sctp_gate.specs.Watching.{Fell}
+use Rattle.sctp_links.proofs.Counted.{seen-counted}
+use Rattle.sctp_links.proofs.observer.GateObserverWatch.went_down.Goals as goal
+
+pub returns : goal.returns
+returns g c = record {
+  more = λ sent seen h. (h.0, h.1, h.2, h.3, h.4, λ began from. seen-counted g.K.Origin.link sent seen (Fell _) began _ _ (h.5 began from) refl);
+}

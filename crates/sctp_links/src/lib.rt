@@ -1,0 +1,20 @@
+//! The links of a node over SCTP in UDP (RFC 6951), by their gates: which link a datagram is for, what is told and
+//! counted of what passes, when timers are due, and the rounds over the one socket of the node.
+#![tactic(auto)]
+
+mod calling;
+pub mod endpoint_settings;
+pub mod hosts;
+pub mod keys;
+pub mod links;
+pub mod losing;
+pub mod observer;
+pub mod peers;
+pub mod sockets;
+pub mod times;
+
+pub use keys::Keys;
+pub use links::SctpLinks;
+pub use observer::Datagrams;
+pub use peers::{Peer, link_of};
+pub use sockets::SctpSockets;

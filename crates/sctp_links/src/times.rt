@@ -1,0 +1,13 @@
+//! Times in whole milliseconds.
+
+ghost use Rattle.std.specs.Prelude.{◌≡◌};
+ghost use Rattle.sctp_links.specs.Times.{millis_of};
+
+use std::time::Duration;
+
+/// The whole milliseconds of a time.
+pub fn millis(time: Duration) -> u64
+    ensures { result ≡ millis_of time }
+{
+    u64::try_from(time.as_millis()).unwrap_or(u64::MAX)
+}
