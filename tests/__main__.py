@@ -1,5 +1,6 @@
-"""Runs all tests of this folder, by `python3 tests`. The last line is 'N passed, M failed'; before it a line for each
-reason says how many tests were skipped for it, which count as neither."""
+"""Runs all tests of this folder, by `python3 tests`, or those of the named files, as `python3 tests test_page test_tell`.
+The last line is 'N passed, M failed'; before it a line for each reason says how many tests were skipped for it, which
+count as neither."""
 
 import sys
 import unittest
@@ -17,7 +18,8 @@ class Result(unittest.TextTestResult):
         self.passed += 1
 
 
-suite = unittest.defaultTestLoader.discover(str(Path(__file__).parent))
+loader = unittest.defaultTestLoader
+suite = loader.loadTestsFromNames(sys.argv[1:]) if sys.argv[1:] else loader.discover(str(Path(__file__).parent))
 result = unittest.TextTestRunner(stream=sys.stdout, verbosity=2, resultclass=Result).run(suite)
 wrong = {str(getattr(test, "test_case", test)) for test, _ in [*result.failures, *result.errors]}
 for reason, count in Counter(reason for _, reason in result.skipped).items():

@@ -51,6 +51,8 @@ class Wrapper(NodeTest):
 
     def setUp(self) -> None:
         super().setUp()
+        # A shell that runs the tests in the background ignores SIGINT, and a shell can't trap what it finds ignored.
+        self.addCleanup(signal.signal, signal.SIGINT, signal.signal(signal.SIGINT, signal.default_int_handler))
         console = free_port()
         self.text = settings(1, links_between([free_port()], 2, True), console=console)
         (self.folder / "node.toml").write_text(self.text)

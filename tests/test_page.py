@@ -180,12 +180,14 @@ class Page(PageTest):
         wait_until(lambda: self.near.is_at_rest(), "nothing is under way")
         state = self.state()
         links = [f"link {it['name']} {it['state']} waiting {it['waiting']} fsn {it['fsn']} bsn {it['bsn']}"
-                 for it in state["links"]]
+                 + " barred" * it["barred"] for it in state["links"]]
         self.assertEqual(links, self.near.ask("show links"))
         routes = [f"route {it['point']} {' '.join(it['sets'])} {it['status']}" for it in state["routes"]]
         self.assertEqual(routes, self.near.ask("show routes"))
         flags = [f"flag lost_any {state['times_lost']}", f"flag late_any {state['times_late']}"]
         self.assertEqual(flags, self.near.ask("show flags"))
+        losses = [f"loss messages_lost {state['messages_lost']}", f"loss times_broken {state['times_broken']}"]
+        self.assertEqual(losses, self.near.ask("show losses"))
         counted = {link["name"]: dict(counted_of(link)) for link in state["links"]}
         self.assertEqual(counted, {name: dict(row) for name, row in self.near.counters().items()})
         self.assertEqual(state["notices"], [])

@@ -2,7 +2,7 @@
 use Rattle.std.specs.Prelude.{ℕ, List, [], ◌∷◌, codes, bytes_eq, if◌then◌else◌, Option, None, Some}
 use Rattle.console.specs.declared.commands.Command.{Command}
 use Rattle.console.specs.declared.commands.Command.TheVariants.{Up, Down, Frame, Tick, Submit, Take, Wants}
-use Rattle.console.specs.declared.commands.Command.TheVariants.{Activate, Deactivate, Title, Show}
+use Rattle.console.specs.declared.commands.Command.TheVariants.{Activate, Deactivate, Release, Title, Show}
 
 abbrev pub command_word : Command → List ℕ
 command_word Up = codes "up"
@@ -14,12 +14,14 @@ command_word Take = codes "take"
 command_word Wants = codes "wants"
 command_word Activate = codes "activate"
 command_word Deactivate = codes "deactivate"
+command_word Release = codes "release"
 command_word Title = codes "title"
 command_word Show = codes "show"
 
 -- all commands
 abbrev pub commands : List Command
-commands = Up ∷ Down ∷ Frame ∷ Tick ∷ Submit ∷ Take ∷ Wants ∷ Activate ∷ Deactivate ∷ Title ∷ Show ∷ []
+commands =
+    Up ∷ Down ∷ Frame ∷ Tick ∷ Submit ∷ Take ∷ Wants ∷ Activate ∷ Deactivate ∷ Release ∷ Title ∷ Show ∷ []
 
 -- the first of some commands that has this word
 abbrev pub first_named : List ℕ → List Command → Option Command

@@ -6,7 +6,7 @@ use Rattle.settings_rows.specs.Configuration.{Configuration, TitleEntry}
 use Rattle.sccp_codec.specs.declared.title.TitleKey.{TitleKey}
 use Rattle.settings.specs.Readings.{link_place}
 use Rattle.exchange.specs.declared.event.Order.{Order}
-use Rattle.exchange.specs.declared.event.Order.TheVariants.{Activate, Deactivate, AddTitle, RemoveTitle}
+use Rattle.exchange.specs.declared.event.Order.TheVariants.{Activate, Deactivate, Release, AddTitle, RemoveTitle}
 use Rattle.console.specs.declared.order.OrderText.{OrderText}
 use Rattle.console.specs.declared.order.OrderText.TheVariants as text
 use Rattle.point_format.specs.declared.point.PointFormat.{PointFormat}
@@ -19,6 +19,7 @@ use Rattle.console.specs.declared.commands.Command.TheVariants as command
 pub data Instruction : Type 0 where
   ToActivate : (link : List ℕ) (emergency : Bool) → Instruction
   ToDeactivate : (link : List ℕ) → Instruction
+  ToRelease : (link : List ℕ) → Instruction
   ToAddTitle : (row : TitleEntry) → Instruction
   ToRemoveTitle : (key : TitleKey) (digits : List ℕ) → Instruction
 
@@ -49,6 +50,7 @@ instructed_by points _ behind = None
 abbrev pub instruction : OrderText → Instruction
 instruction (text.Activate link emergency) = ToActivate link.now emergency
 instruction (text.Deactivate link) = ToDeactivate link.now
+instruction (text.Release link) = ToRelease link.now
 instruction (text.AddTitle row) = ToAddTitle row
 instruction (text.RemoveTitle key digits) = ToRemoveTitle key digits.items
 
@@ -60,5 +62,6 @@ instruction_of (Some order) = Some (instruction order)
 abbrev pub order_named : Configuration → Instruction → Option Order
 order_named c (ToActivate name emergency) = option_map (λ link. Activate link emergency) (link_place c name)
 order_named c (ToDeactivate name) = option_map (λ link. Deactivate link) (link_place c name)
+order_named c (ToRelease name) = option_map (λ link. Release link) (link_place c name)
 order_named c (ToAddTitle row) = Some (AddTitle row)
 order_named c (ToRemoveTitle key digits) = Some (RemoveTitle key (record { items = digits }))

@@ -9,7 +9,9 @@ use Rattle.signalling_types.specs.Causes.{cause_number, cause_name}
 use Rattle.signalling_types.specs.Notices.{frame_fault_number, frame_fault_name, failure_name}
 use Rattle.signalling_types.specs.declared.cause.Cause.{Cause}
 use Rattle.signalling_types.specs.declared.notice.Notice.{Notice}
-use Rattle.signalling_types.specs.declared.notice.Notice.TheVariants.{Refused, Frame, Failed, Lost, Unsent, Expired, Late}
+use Rattle.signalling_types.specs.declared.notice.Unbarring.{Unbarring}
+use Rattle.signalling_types.specs.declared.notice.Unbarring.TheVariants as unbarring
+use Rattle.signalling_types.specs.declared.notice.Notice.TheVariants.{Refused, Frame, Failed, Lost, Unsent, Expired, Late, Unbarred}
 use Rattle.signalling_types.specs.declared.notice.ChangeoverTimer.{ChangeoverTimer}
 use Rattle.signalling_types.specs.declared.notice.ChangeoverTimer.TheVariants.{T1, T2}
 use Rattle.signalling_types.specs.declared.notice.FailureReason.{FailureReason}
@@ -22,7 +24,7 @@ use Rattle.exchange.specs.declared.view.LinkView.{LinkView}
 use Rattle.exchange.specs.declared.view.RouteView.{RouteView}
 use Rattle.exchange_rules.specs.State.{QueueKind, State}
 use Rattle.sccp_relay.specs.declared.subsystem.Subsystem.{Subsystem}
-use Rattle.exchange.specs.Views.{link_view, route_view, standing_name}
+use Rattle.exchange.specs.Views.{link_view, is_barred_at, route_view, standing_name}
 use Rattle.console.specs.Names.{name_in, set_name_in}
 
 -- a line that is shown, if there is one; otherwise nothing is written
@@ -32,15 +34,20 @@ Shows None shown text text_new = (shown ≡ false) × (text_new ≡ text)
 
 -- ---- links
 
-abbrev pub link_text : (name : List ℕ) → LinkView → List ℕ
-link_text name v =
+-- a link that is barred from opening says so
+abbrev pub bar_text : (is_barred : Bool) → List ℕ
+bar_text is_barred = if is_barred then codes " barred" else []
+
+abbrev pub link_text : (name : List ℕ) → LinkView → (is_barred : Bool) → List ℕ
+link_text name v is_barred =
     codes "link " ++ name ++ codes " " ++ standing_name v.standing ++ codes " waiting " ++ decimal v.waiting
-    ++ codes " fsn " ++ decimal v.last_sent ++ codes " bsn " ++ decimal v.last_accepted
+    ++ codes " fsn " ++ decimal v.last_sent ++ codes " bsn " ++ decimal v.last_accepted ++ bar_text is_barred
 
 -- the line of link k
 abbrev pub link_line : {Q : Type 0} → QueueKind Q → State Q → ℕ → Option (List ℕ)
 link_line q s k =
-    option_and_then (λ row. option_map (λ v. link_text row.name v) (link_view q s k)) (slice_get s.settings.links k)
+    option_and_then (λ row. option_map (λ v. link_text row.name v (is_barred_at s k)) (link_view q s k))
+    (slice_get s.settings.links k)
 
 -- ---- routes
 
@@ -90,6 +97,11 @@ abbrev pub expired_text : (name : List ℕ) → ChangeoverTimer → List ℕ
 expired_text name T1 = codes "expired T1 " ++ name
 expired_text name T2 = codes "expired T2 " ++ name
 
+-- this link isn't barred any more though its answer didn't come: by T2, or by the operator
+abbrev pub unbarred_text : (name : List ℕ) → Unbarring → List ℕ
+unbarred_text name unbarring.T2 = codes "unbarred T2 " ++ name
+unbarred_text name unbarring.Operator = codes "unbarred operator " ++ name
+
 -- a changeback ended by its timer: T3 of this link, or T4 of this code
 abbrev pub late_link_text : (name : List ℕ) → List ℕ
 late_link_text name = codes "late T3 " ++ name
@@ -104,6 +116,7 @@ notice_text points c (Failed link reason) = failed_text (name_in c link) reason
 notice_text points c (Lost cause point sls) = lost_text points cause point sls
 notice_text points c (Unsent cause point) = unsent_text points cause point
 notice_text points c (Expired timer link) = expired_text (name_in c link) timer
+notice_text points c (Unbarred by link) = unbarred_text (name_in c link) by
 notice_text points c (Late T3 link) = late_link_text (name_in c link)
 notice_text points c (Late T4 code) = late_code_text code
 
@@ -112,17 +125,24 @@ abbrev pub notice_line : {Q : Type 0} → PointFormat → State Q → ℕ → Op
 notice_line points s k =
     option_map (λ notice. notice_text points s.settings notice) (slice_get s.node.parts.notices.last k)
 
--- ---- flags
+-- ---- flags and losses
 
--- a flag by its word, and how often it was raised
-abbrev pub flag_text : (word : List ℕ) (times : ℕ) → List ℕ
-flag_text word times = word ++ decimal times
+-- a count behind the words that say of what
+abbrev pub count_text : (word : List ℕ) (count : ℕ) → List ℕ
+count_text word count = word ++ decimal count
 
--- the line of flag k
+-- the line of flag k: how often it was raised
 abbrev pub flag_line : {Q : Type 0} → State Q → ℕ → Option (List ℕ)
-flag_line s zero = Some (flag_text (codes "flag lost_any ") s.node.parts.times_lost)
-flag_line s (suc zero) = Some (flag_text (codes "flag late_any ") s.node.parts.times_late)
+flag_line s zero = Some (count_text (codes "flag lost_any ") s.node.parts.times_lost)
+flag_line s (suc zero) = Some (count_text (codes "flag late_any ") s.node.parts.times_late)
 flag_line s (suc (suc k)) = None
+
+-- the line of count k: the messages that were named as lost; and how often it wasn't known for sure what the other end
+-- has of a link
+abbrev pub loss_line : {Q : Type 0} → State Q → ℕ → Option (List ℕ)
+loss_line s zero = Some (count_text (codes "loss messages_lost ") s.node.parts.messages_lost)
+loss_line s (suc zero) = Some (count_text (codes "loss times_broken ") s.node.parts.times_broken)
+loss_line s (suc (suc k)) = None
 
 -- ---- translation rows
 

@@ -24,17 +24,19 @@ pub enum Command {
     Activate,
     /// `deactivate LINK`: the link goes out of service, and can't open.
     Deactivate,
+    /// `release LINK`: the link may open though the answer to its changeover order is awaited.
+    Release,
     /// `title add T P N DIGITS POINT ROUTE SSN`, then `backup POINT` if there is a backup, and
     /// `changed PLAN NATURE REMOVE ADD` if titles change, or `title remove T P N DIGITS`: a translation row is added or
     /// removed.
     Title,
-    /// `show links`, `show routes`, `show titles`, `show subsystems`, `show notices` or `show flags`.
+    /// `show links`, `show routes`, `show titles`, `show subsystems`, `show notices`, `show flags` or `show losses`.
     Show,
 }
 
 impl Command {
     /// All commands.
-    pub const ALL: [Command; 11] = [
+    pub const ALL: [Command; 12] = [
         Command::Up,
         Command::Down,
         Command::Frame,
@@ -44,6 +46,7 @@ impl Command {
         Command::Wants,
         Command::Activate,
         Command::Deactivate,
+        Command::Release,
         Command::Title,
         Command::Show,
     ];
@@ -62,6 +65,7 @@ impl Command {
             Command::Wants => "wants",
             Command::Activate => "activate",
             Command::Deactivate => "deactivate",
+            Command::Release => "release",
             Command::Title => "title",
             Command::Show => "show",
         }

@@ -1,11 +1,11 @@
 //! The text of the flags.
 
-ghost use Rattle.std.specs.Prelude.{◌≡◌, ◌+◌, ◌≤◌, length};
+ghost use Rattle.std.specs.Prelude.{◌≡◌};
 ghost use Rattle.exchange_rules.specs.First.{Abstract};
 ghost use Rattle.exchange.specs.Calls.{StandsFor};
-ghost use Rattle.console.specs.Texts.{Shows, flag_line, flag_text};
+ghost use Rattle.console.specs.Texts.{Shows, flag_line};
 
-use crate::line::{LINE_OCTETS, push_number};
+use crate::line::{LINE_OCTETS, write_count};
 use arrayvec::ArrayString;
 use exchange::Exchange;
 
@@ -25,17 +25,9 @@ pub fn show_flags(exchange: &Exchange, k: usize, out: &mut ArrayString<LINE_OCTE
     ensures kept_line { Shows (flag_line exchange.now k) result out.old.bytes out.new.bytes }
 {
     match k {
-        0 => write_flag("flag lost_any ", exchange.times_lost(), out),
-        1 => write_flag("flag late_any ", exchange.times_late(), out),
+        0 => write_count("flag lost_any ", exchange.times_lost(), out),
+        1 => write_count("flag late_any ", exchange.times_late(), out),
         _ => return false,
     }
     true
-}
-
-fn write_flag(word: &str, times: u64, out: &mut ArrayString<LINE_OCTETS>)
-    requires { length word.now + 20 ≤ LINE_OCTETS }
-    ensures { out.new.bytes ≡ flag_text word.now times }
-{
-    out.clear();
-    push_number(out, word, times);
 }

@@ -1,7 +1,7 @@
 //! The words of a line, one after another.
 
 ghost use Rattle.std.specs.Prelude.{◌≡◌, ◌+◌, ◌≤◌, ◌++◌, length, decimal};
-ghost use Rattle.console.specs.Texts.{cause_text};
+ghost use Rattle.console.specs.Texts.{cause_text, count_text};
 ghost use Rattle.point_format.specs.Points.{point_text};
 
 use arrayvec::ArrayString;
@@ -11,6 +11,15 @@ use settings::{Cause, PointCode};
 
 /// Octets of a line, at most: a translation row with a backup and a change of titles has the longest one.
 pub const LINE_OCTETS: usize = 136;
+
+/// Writes a line of some words and a count.
+pub(crate) fn write_count(words: &str, count: u64, line: &mut ArrayString<LINE_OCTETS>)
+    requires { length words.now + 20 ≤ LINE_OCTETS }
+    ensures { line.new.bytes ≡ count_text words.now count }
+{
+    line.clear();
+    push_number(line, words, count);
+}
 
 /// Puts a word and a number in decimal digits at the end of the line.
 pub(crate) fn push_number(line: &mut ArrayString<LINE_OCTETS>, word: &str, number: u64)

@@ -13,8 +13,8 @@ use exchange::{Exchange, LinkView};
 use settings::{Limits, LinkId};
 
 /// Writes line `k`, from 0, of the text of the links: `link NAME STATE waiting Q fsn F bsn B`, one line for each link
-/// in the order of the settings. Q counts the messages that aren't confirmed; F and B are the numbers of the last
-/// message sent and of the last accepted.
+/// in the order of the settings, with `barred` behind it if the link is barred from opening. Q counts the messages that
+/// aren't confirmed; F and B are the numbers of the last message sent and of the last accepted.
 ///
 /// Returns false, and writes nothing, past the last line.
 pub fn show_links(exchange: &Exchange, k: usize, out: &mut ArrayString<LINE_OCTETS>) -> bool
@@ -28,16 +28,17 @@ pub fn show_links(exchange: &Exchange, k: usize, out: &mut ArrayString<LINE_OCTE
     let Some(row) = exchange.settings().links().get(k) else {
         return false;
     };
-    let Some(view) = exchange.link(LinkId::new(k as u8)) else {
+    let link = LinkId::new(k as u8);
+    let Some(view) = exchange.link(link) else {
         return false;
     };
-    write_link(row.name(), view, out);
+    write_link(row.name(), view, exchange.is_barred(link), out);
     true
 }
 
-fn write_link(name: &str, view: LinkView, out: &mut ArrayString<LINE_OCTETS>)
+fn write_link(name: &str, view: LinkView, is_barred: bool, out: &mut ArrayString<LINE_OCTETS>)
     requires { length name.now ≤ Limits.NAME_OCTETS }
-    ensures { out.new.bytes ≡ link_text name.now view }
+    ensures { out.new.bytes ≡ link_text name.now view is_barred }
 {
     out.clear();
     out.push_str("link ");
@@ -47,4 +48,7 @@ fn write_link(name: &str, view: LinkView, out: &mut ArrayString<LINE_OCTETS>)
     push_number(out, " waiting ", view.waiting as u64);
     push_number(out, " fsn ", u64::from(view.last_sent.value()));
     push_number(out, " bsn ", u64::from(view.last_accepted.value()));
+    if is_barred {
+        out.push_str(" barred");
+    }
 }

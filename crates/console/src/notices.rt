@@ -3,7 +3,7 @@
 ghost use Rattle.std.specs.Prelude.{◌≡◌, ◌≤◌, length};
 ghost use Rattle.exchange_rules.specs.First.{Abstract};
 ghost use Rattle.exchange.specs.Calls.{StandsFor};
-ghost use Rattle.console.specs.Texts.{Shows, notice_line, notice_text, refused_text, frame_text, failed_text, lost_text, unsent_text, expired_text, late_link_text, late_code_text};
+ghost use Rattle.console.specs.Texts.{Shows, notice_line, notice_text, refused_text, frame_text, failed_text, lost_text, unsent_text, expired_text, unbarred_text, late_link_text, late_code_text};
 
 use crate::line::{LINE_OCTETS, push_cause, push_number, push_point};
 use crate::names::link_name;
@@ -12,7 +12,7 @@ use exchange::Exchange;
 use point_format::PointFormat;
 use settings::{
     Cause, ChangeoverTimer, FailureReason, FrameFault, LateTimer, Limits, LinkId, Notice,
-    PointCode, Settings, Sls,
+    PointCode, Settings, Sls, Unbarring,
 };
 
 /// Writes line `k`, from 0, of the text of the notices, the oldest that is kept first, with points in this format.
@@ -56,6 +56,7 @@ fn write_notice(
         Notice::Lost(cause, point, sls) => write_lost(*cause, *point, *sls, points, out),
         Notice::Unsent(cause, point) => write_unsent(*cause, *point, points, out),
         Notice::Expired(timer, link) => write_expired(link_name(settings, *link), *timer, out),
+        Notice::Unbarred(by, link) => write_unbarred(link_name(settings, *link), *by, out),
         Notice::Late(LateTimer::T3, number) => {
             write_late_link(link_name(settings, LinkId::new(*number)), out);
         }
@@ -138,6 +139,19 @@ fn write_expired(name: &str, timer: ChangeoverTimer, out: &mut ArrayString<LINE_
     out.push_str(match timer {
         ChangeoverTimer::T1 => "expired T1 ",
         ChangeoverTimer::T2 => "expired T2 ",
+    });
+    out.push_str(name);
+}
+
+/// The link of this name isn't barred any more though its answer didn't come.
+fn write_unbarred(name: &str, by: Unbarring, out: &mut ArrayString<LINE_OCTETS>)
+    requires { length name.now ≤ Limits.NAME_OCTETS }
+    ensures { out.new.bytes ≡ unbarred_text name.now by }
+{
+    out.clear();
+    out.push_str(match by {
+        Unbarring::T2 => "unbarred T2 ",
+        Unbarring::Operator => "unbarred operator ",
     });
     out.push_str(name);
 }

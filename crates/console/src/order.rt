@@ -26,6 +26,12 @@ pub enum OrderText<'a> {
         /// The link's name; no link need have it.
         link: &'a [u8],
     },
+    /// `release LINK`: the link may open though the answer to its changeover order is awaited, once its changeover is
+    /// complete.
+    Release {
+        /// The link's name; no link need have it.
+        link: &'a [u8],
+    },
     /// `title add T P N DIGITS POINT ROUTE SSN`, then `backup POINT` if there is a backup, and
     /// `changed PLAN NATURE REMOVE ADD` if titles change: the translation row is added.
     AddTitle {
@@ -88,6 +94,10 @@ impl OrderText<'_> {
             OrderText::Deactivate { link } => {
                 let link = settings.link_named(link)?;
                 Some(Order::Deactivate(link))
+            }
+            OrderText::Release { link } => {
+                let link = settings.link_named(link)?;
+                Some(Order::Release(link))
             }
             OrderText::AddTitle { row } => Some(Order::AddTitle(row)),
             OrderText::RemoveTitle { key, digits } => Some(Order::RemoveTitle(key, digits)),

@@ -2,7 +2,7 @@
 use Rattle.std.proofs.Common.{◌≡◌, ℤ, pos, true, List, [], ◌∷◌, None, map, refl, codes, string_bytes}
 use Rattle.std.specs.declared.alloc.Global.{Global}
 use Rattle.std.specs.Prelude.{String}
-use Rattle.settings.specs.FirstFault.{first_fault, scalars_fault, timers_fault, link_tests_fault, arrays_fault, tables_fault, sets_fault, links_fault, destinations_fault, unreached_fault, set_list_fault, is_first_name}
+use Rattle.settings.specs.FirstFault.{first_fault, scalars_fault, timers_fault, link_tests_fault, bar_fault, arrays_fault, tables_fault, sets_fault, links_fault, destinations_fault, unreached_fault, set_list_fault, is_first_name}
 use Rattle.settings.specs.TitleFaults.{titles_fault}
 use Rattle.settings.specs.Checks.{numbers_fault}
 use Rattle.settings_rows.specs.declared.key.Key.{Key}
@@ -27,7 +27,7 @@ unfolding numbers_fault
 subsystems ns h = rw h refl
 
 timers : timers_fault built_in_ticks ≡ None
-unfolding timers_fault link_tests_fault
+unfolding timers_fault link_tests_fault bar_fault
 timers = refl
 
 sets : (ss : List SetDraft) → IsSets ss → sets_fault 1 ss ≡ None

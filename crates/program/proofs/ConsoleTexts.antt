@@ -10,13 +10,14 @@ use Rattle.signalling_types.specs.Causes.{cause_number, cause_name}
 use Rattle.signalling_types.specs.declared.cause.Cause.{Cause}
 use Rattle.signalling_types.specs.declared.cause.Cause.TheVariants as cause
 use Rattle.signalling_types.specs.declared.notice.Notice.{Notice}
-use Rattle.signalling_types.specs.declared.notice.Notice.TheVariants.{Refused, Frame, Failed, Lost, Unsent, Expired, Late}
+use Rattle.signalling_types.specs.declared.notice.Notice.TheVariants.{Refused, Frame, Failed, Lost, Unsent, Expired, Late, Unbarred}
+use Rattle.signalling_types.specs.declared.notice.Unbarring.TheVariants as unbarring
 use Rattle.signalling_types.specs.declared.notice.ChangeoverTimer.TheVariants.{T1, T2}
 use Rattle.signalling_types.specs.declared.notice.LateTimer.TheVariants.{T3, T4}
 use Rattle.signalling_types.specs.declared.outcome.Outcome.TheVariants as outcome
 use Rattle.exchange.specs.Calls.{Kept}
 use Rattle.console.specs.Names.{name_in}
-use Rattle.console.specs.Texts.{refused_text, notice_text, flag_line}
+use Rattle.console.specs.Texts.{refused_text, notice_text, flag_line, loss_line}
 use Rattle.program.specs.ConsoleAnswers.{blanks, is_answer, is_last, is_refusal}
 use Rattle.served_node.specs.Clients.{ClientState}
 use Rattle.served_node.specs.WholeLines.{IsTold, IsRefused}
@@ -143,6 +144,8 @@ notices points c (Lost why point sls) = refl
 notices points c (Unsent why point) = refl
 notices points c (Expired T1 link) = refl
 notices points c (Expired T2 link) = refl
+notices points c (Unbarred unbarring.T2 link) = refl
+notices points c (Unbarred unbarring.Operator link) = refl
 notices points c (Late T3 link) = refl
 notices points c (Late T4 code) = refl
 
@@ -155,14 +158,20 @@ flags s zero line e = there _ line refl e
 flags s (suc zero) line e = there _ line refl e
 flags s (suc (suc k)) line e = cc e
 
+losses : (s : Kept) (k : ℕ) (line : List ℕ) → loss_line s k ≡ Some line → IsNone line
+losses s zero line e = there _ line refl e
+losses s (suc zero) line e = there _ line refl e
+losses s (suc (suc k)) line e = cc e
+
 pub shown : ShownAnswersNone
 shown = record {
-  links = λ name v. refl;
+  links = λ name v is_barred. refl;
   routes = λ points c v. refl;
   titles = λ points row. refl;
   subsystems = λ points subsystem. refl;
   notices = notices;
   flags = flags;
+  losses = losses;
   counters = λ counter name value. refl;
   datagrams = λ name value. refl;
 }

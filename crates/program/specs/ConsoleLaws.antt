@@ -14,7 +14,7 @@ use Rattle.exchange.specs.Calls.{Kept}
 use Rattle.served_link.specs.Counting.{NodeCounters}
 use Rattle.served_link.specs.declared.counter.Counter.{Counter}
 use Rattle.served_link.specs.Lines.{counter_line, datagram_line}
-use Rattle.console.specs.Texts.{link_text, route_text, title_text, subsystem_text, notice_text, flag_line}
+use Rattle.console.specs.Texts.{link_text, route_text, title_text, subsystem_text, notice_text, flag_line, loss_line}
 use Rattle.script.specs.Texts.{outcome_line}
 use Rattle.served_node.specs.Clients.{ClientState, told_of}
 use Rattle.served_node.specs.Lines.{Heard as Line, HearsUsers, HearsNotices, HearsFrames, HearsHelp, HearsStop}
@@ -82,11 +82,12 @@ IsNone line = is_answer (take 64 line) ≡ false
 
 -- what is shown, and notices, answer none
 pub record ShownAnswersNone : Type 0 where
-  pub links : (name : List ℕ) (v : LinkView) → IsNone (link_text name v)
+  pub links : (name : List ℕ) (v : LinkView) (is_barred : Bool) → IsNone (link_text name v is_barred)
   pub routes : (points : PointFormat) (c : Configuration) (v : RouteView) → IsNone (route_text points c v)
   pub titles : (points : PointFormat) (row : TitleEntry) → IsNone (title_text points row)
   pub subsystems : (points : PointFormat) (subsystem : Subsystem) → IsNone (subsystem_text points subsystem)
   pub notices : (points : PointFormat) (c : Configuration) (notice : Notice) → IsNone (notice_text points c notice)
   pub flags : (s : Kept) (k : ℕ) (line : List ℕ) → flag_line s k ≡ Some line → IsNone line
+  pub losses : (s : Kept) (k : ℕ) (line : List ℕ) → loss_line s k ≡ Some line → IsNone line
   pub counters : (counter : Counter) (name : List ℕ) (value : ℕ) → IsNone (counter_line counter name value)
   pub datagrams : (name : List ℕ) (value : ℕ) → IsNone (datagram_line name value)

@@ -2,6 +2,7 @@
 use Rattle.script.proofs.Basics.{◌≡◌, ◌∙◌, ◌+◌, ◌<◌, ◌-◌, ℕ, zero, suc, List, [], ◌∷◌, ◌++◌, Option, length, take, refl, sym, ap, subst, arith, option_map, option_and_then, slice_get, Result, Ok, Err, OnErr, Appends, Abstract, StandsFor, kept_of, kept, whole, AppendsFirst, line_of, most_lines, ended, first_lines, shown_text}
 use Rattle.exchange.specs.declared.view.LinkView.{LinkView}
 use Rattle.exchange.proofs.Showing.{stands-link}
+use Rattle.exchange.specs.Views.{is_barred_at}
 use Rattle.console.specs.Texts.{link_text}
 use Rattle.script.specs.declared.line.Show.{Show}
 use Rattle.script.specs.declared.line.Show.TheVariants.{Links, Routes}
@@ -11,7 +12,7 @@ use Rattle.script.proofs.Appending.{appends-first, appends-nothing}
 
 line-stands : (what : Show) (k : ℕ) (a : Abstract) → StandsFor (kept_of a) a → line_of kept what (kept_of a) k ≡ line_of whole what a k
 line-stands Links k a s =
-    ap (λ (v : Option LinkView). option_and_then (λ row. option_map (λ w. link_text row.name w) v) (slice_get a.settings.links k)) (stands-link k (kept_of a) a s)
+    ap (λ (v : Option LinkView). option_and_then (λ row. option_map (λ w. link_text row.name w (is_barred_at a k)) v) (slice_get a.settings.links k)) (stands-link k (kept_of a) a s)
 line-stands (Routes points) k a s = refl
 line-stands what k a s = refl
 

@@ -4,7 +4,7 @@ use Rattle.std.specs.Prelude.{Option, None, Some, Result, Ok, Err, bytes_eq}
 use Rattle.std.specs.Option.{option_map}
 use Rattle.console.specs.Commands.{command_named}
 use Rattle.console.specs.Numbers.{number_within}
-use Rattle.console.specs.Orders.{Instruction, ToActivate, ToDeactivate, instruction, instructed_by, is_some_word}
+use Rattle.console.specs.Orders.{Instruction, ToActivate, ToDeactivate, ToRelease, instruction, instructed_by, is_some_word}
 use Rattle.point_format.specs.declared.point.PointFormat.{PointFormat}
 use Rattle.console.specs.Words.{words}
 use Rattle.console.specs.declared.commands.Command.{Command}
@@ -15,7 +15,7 @@ use Rattle.script.specs.declared.line.Line.{Line}
 use Rattle.script.specs.declared.line.Line.TheVariants as line
 use Rattle.script.specs.declared.line.Malformed.{Malformed}
 use Rattle.script.specs.declared.line.Show.{Show}
-use Rattle.script.specs.declared.line.Show.TheVariants.{Links, Routes, Titles, Subsystems, Notices, Flags}
+use Rattle.script.specs.declared.line.Show.TheVariants.{Links, Routes, Titles, Subsystems, Notices, Flags, Losses}
 
 -- what a line asks for; a link goes by a name, which no link need have
 pub data Asked : Type 0 where
@@ -38,6 +38,7 @@ show_named points word =
     else if bytes_eq word (codes "subsystems") then Some (Subsystems points)
     else if bytes_eq word (codes "notices") then Some (Notices points)
     else if bytes_eq word (codes "flags") then Some Flags
+    else if bytes_eq word (codes "losses") then Some Losses
     else None
 
 -- a command with one word after it
@@ -52,6 +53,7 @@ asked_with_one points command.Submit word = if is_octets word then Some (AskSubm
 asked_with_one points command.Activate word =
     if is_some_word word then Some (AskOrder (ToActivate word false)) else None
 asked_with_one points command.Deactivate word = if is_some_word word then Some (AskOrder (ToDeactivate word)) else None
+asked_with_one points command.Release word = if is_some_word word then Some (AskOrder (ToRelease word)) else None
 asked_with_one points command.Title word = None
 asked_with_one points command.Show word = option_map (λ what. AskShow what) (show_named points word)
 

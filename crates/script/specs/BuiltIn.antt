@@ -26,6 +26,7 @@ built_in_ticks = record {
   link_tests = None;
   l4e = None;
   sst = None;
+  t2_bar = None;
 }
 
 -- one set, `east`, to point 2
@@ -101,6 +102,7 @@ built_in_settings = record {
     link_tests = None;
     l4e = None;
     sst = None;
+    t2_bar = None;
   };
   sets = record { name = codes "east"; adjacent = 2 } ∷ [];
   links = record { name = codes "e0"; set = 0; slc = 0; share = None } ∷ [];

@@ -1,10 +1,11 @@
 -- What is shown, line by line.
 use Rattle.std.specs.Prelude.{ℕ, zero, suc, List, [], ◌++◌, length, codes, Option, Some, None}
 use Rattle.exchange_rules.specs.State.{QueueKind, State}
-use Rattle.console.specs.Texts.{link_line, route_line, title_line, subsystem_line, notice_line, flag_line}
+use Rattle.console.specs.Texts.{link_line, route_line, title_line, subsystem_line, notice_line, flag_line, loss_line}
 use Rattle.console.specs.declared.flags.TheConstants.{FLAGS}
+use Rattle.console.specs.declared.losses.TheConstants.{LOSSES}
 use Rattle.script.specs.declared.line.Show.{Show}
-use Rattle.script.specs.declared.line.Show.TheVariants.{Links, Routes, Titles, Subsystems, Notices, Flags}
+use Rattle.script.specs.declared.line.Show.TheVariants.{Links, Routes, Titles, Subsystems, Notices, Flags, Losses}
 
 -- a line of a text by its number, from 0
 abbrev pub line_of : {Q : Type 0} → QueueKind Q → Show → State Q → ℕ → Option (List ℕ)
@@ -14,6 +15,7 @@ line_of q (Titles points) s k = title_line points s k
 line_of q (Subsystems points) s k = subsystem_line points s k
 line_of q (Notices points) s k = notice_line points s k
 line_of q Flags s k = flag_line s k
+line_of q Losses s k = loss_line s k
 
 -- how many lines it has, at most
 abbrev pub most_lines : {Q : Type 0} → Show → State Q → ℕ
@@ -23,6 +25,7 @@ most_lines (Titles points) s = length s.node.parts.titles.rows
 most_lines (Subsystems points) s = length s.node.parts.titles.prohibited
 most_lines (Notices points) s = length s.node.parts.notices.last
 most_lines Flags s = FLAGS
+most_lines Losses s = LOSSES
 
 -- a line with its line feed, if there is one
 abbrev pub ended : Option (List ℕ) → List ℕ

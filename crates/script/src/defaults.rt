@@ -68,6 +68,7 @@ fn timers() -> TimersDraft
         link_tests: None,
         l4e: None,
         sst: None,
+        t2_bar: None,
     }
 }
 

@@ -35,6 +35,8 @@ pub enum Show {
     Notices(PointFormat),
     /// The flags.
     Flags,
+    /// The counts of losses.
+    Losses,
 }
 
 /// What a line of a script asks for.
@@ -77,14 +79,14 @@ pub enum Line<'a> {
         /// The service information octet, and the signalling information field after it.
         octets: HexOctets<'a>,
     },
-    /// `activate LINK`, then perhaps `emergency`; `deactivate LINK`, `title add ..` or `title remove ..`: an order of
-    /// the operator.
+    /// `activate LINK`, then perhaps `emergency`; `deactivate LINK`, `release LINK`, `title add ..` or `title remove
+    /// ..`: an order of the operator.
     Order {
         /// The order.
         order: OrderText<'a>,
     },
-    /// `show links`, `show routes`, `show titles`, `show subsystems`, `show notices` or `show flags`: a text of the
-    /// console.
+    /// `show links`, `show routes`, `show titles`, `show subsystems`, `show notices`, `show flags` or `show losses`: a
+    /// text of the console.
     Show {
         /// Which.
         what: Show,
@@ -156,6 +158,10 @@ pub fn line_with_one_word(command: Command, word: &[u8], points: PointFormat) ->
             let order = OrderText::Deactivate { link: word };
             Some(Line::Order { order })
         }
+        Command::Release if !word.is_empty() => {
+            let order = OrderText::Release { link: word };
+            Some(Line::Order { order })
+        }
         Command::Tick => {
             let ticks = read_number(word, 1, MOST_TICKS)?;
             Some(Line::Tick { ticks })
@@ -211,6 +217,8 @@ fn show_named(word: &[u8], points: PointFormat) -> Option<Show>
         Some(Show::Notices(points))
     } else if word == b"flags".as_slice() {
         Some(Show::Flags)
+    } else if word == b"losses".as_slice() {
+        Some(Show::Losses)
     } else {
         None
     }

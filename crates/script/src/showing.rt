@@ -14,8 +14,8 @@ use crate::sink::{Sink, WriteFailed};
 use crate::text::console_line;
 use arrayvec::ArrayString;
 use console::{
-    FLAGS, LINE_OCTETS, show_flags, show_links, show_notices, show_routes, show_subsystems,
-    show_titles,
+    FLAGS, LINE_OCTETS, LOSSES, show_flags, show_links, show_losses, show_notices, show_routes,
+    show_subsystems, show_titles,
 };
 use exchange::Exchange;
 
@@ -85,6 +85,7 @@ fn write_line(
         Show::Subsystems(points) => show_subsystems(exchange, k, points, line),
         Show::Notices(points) => show_notices(exchange, k, points, line),
         Show::Flags => show_flags(exchange, k, line),
+        Show::Losses => show_losses(exchange, k, line),
     }
 }
 
@@ -99,5 +100,6 @@ fn most_lines(exchange: &Exchange, what: Show) -> usize
         Show::Subsystems(_) => exchange.titles().prohibited_len(),
         Show::Notices(_) => exchange.notices().len(),
         Show::Flags => FLAGS,
+        Show::Losses => LOSSES,
     }
 }

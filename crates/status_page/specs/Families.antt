@@ -20,7 +20,8 @@ use Rattle.status_page.specs.declared.family.Kind.{Kind}
 use Rattle.status_page.specs.declared.family.Kind.TheVariants.{Counter as Growing, Gauge}
 use Rattle.status_page.specs.declared.family.Family.{Family}
 use Rattle.status_page.specs.declared.family.Family.TheVariants.{Build, Uptime, PoolLimit, Pool, Held, Notices, Flags}
-use Rattle.status_page.specs.declared.family.Family.TheVariants.{Raised, InService, ChangingOver, Queue}
+use Rattle.status_page.specs.declared.family.Family.TheVariants.{Raised, Lost, Broken, InService, ChangingOver}
+use Rattle.status_page.specs.declared.family.Family.TheVariants.{Barred, Queue}
 use Rattle.status_page.specs.declared.family.Family.TheVariants.{FramesReceived, OctetsReceived, FramesSent}
 use Rattle.status_page.specs.declared.family.Family.TheVariants.{OctetsSent, Forwarded, Delivered, Refused}
 use Rattle.status_page.specs.declared.family.Family.TheVariants.{Failures, Retries}
@@ -34,9 +35,9 @@ use Rattle.status_page.specs.declared.noticed.NoticeKind.TheVariants as noticed
 -- all families, in the order in which they are shown
 abbrev pub families : List Family
 families =
-    Build ∷ Uptime ∷ PoolLimit ∷ Pool ∷ Held ∷ Notices ∷ Flags ∷ Raised ∷ InService ∷ ChangingOver ∷ Queue ∷
-    FramesReceived ∷ OctetsReceived ∷ FramesSent ∷ OctetsSent ∷ Forwarded ∷ Delivered ∷ Refused ∷ Failures ∷
-    Retries ∷ []
+    Build ∷ Uptime ∷ PoolLimit ∷ Pool ∷ Held ∷ Notices ∷ Flags ∷ Raised ∷ Lost ∷ Broken ∷ InService ∷
+    ChangingOver ∷ Barred ∷ Queue ∷ FramesReceived ∷ OctetsReceived ∷ FramesSent ∷ OctetsSent ∷ Forwarded ∷
+    Delivered ∷ Refused ∷ Failures ∷ Retries ∷ []
 
 -- the name: a counter ends in total, and a unit is in the name
 abbrev pub family_name : Family → List ℕ
@@ -48,8 +49,11 @@ family_name Held = codes "stp_held_messages"
 family_name Notices = codes "stp_notices_total"
 family_name Flags = codes "stp_flag"
 family_name Raised = codes "stp_flag_raised_total"
+family_name Lost = codes "stp_messages_lost_total"
+family_name Broken = codes "stp_changeovers_broken_total"
 family_name InService = codes "stp_link_in_service"
 family_name ChangingOver = codes "stp_link_changing_over"
+family_name Barred = codes "stp_link_barred"
 family_name Queue = codes "stp_queue_messages"
 family_name FramesReceived = codes "stp_frames_received_total"
 family_name OctetsReceived = codes "stp_octets_received_total"
@@ -71,8 +75,11 @@ family_help Held = codes "User messages that are held until a flow may go on."
 family_help Notices = codes "Notices since the start; missed are those whose kind nobody saw."
 family_help Flags = codes "1 if the flag is raised: a message may be lost, or may have come late."
 family_help Raised = codes "How often the flag was raised."
+family_help Lost = codes "Messages that notices named as lost."
+family_help Broken = codes "Changeovers of which it isn't known for sure what the peer has of the link."
 family_help InService = codes "1 if the link is in service, else 0."
 family_help ChangingOver = codes "1 if the link is down and its changeover isn't over, else 0."
+family_help Barred = codes "1 if the link can't open until its changeover order is answered, else 0."
 family_help Queue = codes "Messages of the link that the peer hasn't confirmed, sent or not."
 family_help FramesReceived = codes "Frames that came in on the link."
 family_help OctetsReceived = codes "Octets of the frames that came in on the link."
@@ -94,8 +101,11 @@ kind_of Held = Gauge
 kind_of Notices = Growing
 kind_of Flags = Gauge
 kind_of Raised = Growing
+kind_of Lost = Growing
+kind_of Broken = Growing
 kind_of InService = Gauge
 kind_of ChangingOver = Gauge
+kind_of Barred = Gauge
 kind_of Queue = Gauge
 kind_of FramesReceived = Growing
 kind_of OctetsReceived = Growing
@@ -126,7 +136,7 @@ reasons = Association ∷ Timer ∷ Sequence ∷ Status ∷ Length ∷ Changeove
 abbrev pub notice_kinds : List NoticeKind
 notice_kinds =
     noticed.Refused ∷ noticed.Frame ∷ noticed.Failed ∷ noticed.Lost ∷ noticed.Unsent ∷ noticed.Expired ∷
-    noticed.Late ∷ noticed.Missed ∷ []
+    noticed.Unbarred ∷ noticed.Late ∷ noticed.Missed ∷ []
 
 -- a counter of each link
 abbrev pub counted : Counter → Metric
@@ -142,8 +152,11 @@ metrics_of Held = Node of_node.Held ∷ []
 metrics_of Notices = map (λ kind. Node (of_node.Notices kind)) notice_kinds
 metrics_of Flags = Node of_node.LostAny ∷ Node of_node.LateAny ∷ []
 metrics_of Raised = Node of_node.TimesLost ∷ Node of_node.TimesLate ∷ []
+metrics_of Lost = Node of_node.MessagesLost ∷ []
+metrics_of Broken = Node of_node.TimesBroken ∷ []
 metrics_of InService = Link of_link.InService ∷ []
 metrics_of ChangingOver = Link of_link.ChangingOver ∷ []
+metrics_of Barred = Link of_link.Barred ∷ []
 metrics_of Queue = Link of_link.Waiting ∷ []
 metrics_of FramesReceived = counted counting.FramesIn ∷ []
 metrics_of OctetsReceived = counted counting.OctetsIn ∷ []

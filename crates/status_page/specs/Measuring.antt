@@ -11,7 +11,7 @@ use Rattle.exchange_rules.specs.State.{QueueKind, State, lost_any, late_any}
 use Rattle.exchange.specs.declared.view.LinkStanding.{LinkStanding}
 use Rattle.exchange.specs.declared.view.LinkStanding.TheVariants.{Down, NotAligned, Aligned, Proving}
 use Rattle.exchange.specs.declared.view.LinkStanding.TheVariants.{AlignedReady, InService}
-use Rattle.exchange.specs.Views.{link_view, may_restart_at}
+use Rattle.exchange.specs.Views.{link_view, may_restart_at, is_barred_at}
 use Rattle.status_page.specs.declared.metric.NodeMetric.{NodeMetric}
 use Rattle.status_page.specs.declared.metric.NodeMetric.TheVariants as of_node
 use Rattle.status_page.specs.declared.metric.LinkMetric.{LinkMetric}
@@ -79,6 +79,7 @@ counters_at rows link = unwrap_or (slice_get rows link) no_counts
 abbrev pub link_value : {Q : Type 0} → QueueKind Q → LinkMetric → State Q → List LinkCounters → ℕ → ℕ
 link_value q of_link.InService s rows k = bit (is_in_service q s k)
 link_value q of_link.ChangingOver s rows k = bit (is_changing_over q s k)
+link_value q of_link.Barred s rows k = bit (is_barred_at s k)
 link_value q of_link.Waiting s rows k = waiting_on q s k
 link_value q (of_link.Counted counter) s rows k = value_of counter (counters_at rows k)
 
@@ -109,3 +110,5 @@ node_value q of_node.LostAny s log uptime = bit (lost_any s.node.parts)
 node_value q of_node.LateAny s log uptime = bit (late_any s.node.parts)
 node_value q of_node.TimesLost s log uptime = s.node.parts.times_lost
 node_value q of_node.TimesLate s log uptime = s.node.parts.times_late
+node_value q of_node.MessagesLost s log uptime = s.node.parts.messages_lost
+node_value q of_node.TimesBroken s log uptime = s.node.parts.times_broken

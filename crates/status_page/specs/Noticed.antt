@@ -7,7 +7,7 @@ use Rattle.exchange_rules.specs.State.{Noted, made_since}
 use Rattle.served_link.specs.Counting.{saturated}
 use Rattle.status_page.specs.declared.noticed.NoticeKind.{NoticeKind}
 use Rattle.status_page.specs.declared.noticed.NoticeKind.TheVariants.{Refused, Frame, Failed, Lost, Unsent, Expired}
-use Rattle.status_page.specs.declared.noticed.NoticeKind.TheVariants.{Late, Missed}
+use Rattle.status_page.specs.declared.noticed.NoticeKind.TheVariants.{Unbarred, Late, Missed}
 use Rattle.status_page.specs.declared.noticed.NoticeLog.{NoticeLog}
 use Rattle.status_page.specs.declared.noticed.TheConstants.{NOTICE_KINDS}
 
@@ -19,6 +19,7 @@ notice_kind (notices.Failed link reason) = Failed
 notice_kind (notices.Lost cause point sls) = Lost
 notice_kind (notices.Unsent cause point) = Unsent
 notice_kind (notices.Expired timer link) = Expired
+notice_kind (notices.Unbarred by link) = Unbarred
 notice_kind (notices.Late timer number) = Late
 
 abbrev pub kind_place : NoticeKind → ℕ
@@ -28,8 +29,9 @@ kind_place Failed = 2
 kind_place Lost = 3
 kind_place Unsent = 4
 kind_place Expired = 5
-kind_place Late = 6
-kind_place Missed = 7
+kind_place Unbarred = 6
+kind_place Late = 7
+kind_place Missed = 8
 
 -- there was no notice yet
 abbrev pub no_notices : NoticeLog

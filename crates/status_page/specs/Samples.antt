@@ -35,6 +35,7 @@ kind_labels noticed.Failed = codes "{kind=\"failed\"}"
 kind_labels noticed.Lost = codes "{kind=\"lost\"}"
 kind_labels noticed.Unsent = codes "{kind=\"unsent\"}"
 kind_labels noticed.Expired = codes "{kind=\"expired\"}"
+kind_labels noticed.Unbarred = codes "{kind=\"unbarred\"}"
 kind_labels noticed.Late = codes "{kind=\"late\"}"
 kind_labels noticed.Missed = codes "{kind=\"missed\"}"
 
@@ -49,6 +50,8 @@ node_labels of_node.LostAny = codes "{name=\"lost_any\"}"
 node_labels of_node.LateAny = codes "{name=\"late_any\"}"
 node_labels of_node.TimesLost = codes "{name=\"lost_any\"}"
 node_labels of_node.TimesLate = codes "{name=\"late_any\"}"
+node_labels of_node.MessagesLost = []
+node_labels of_node.TimesBroken = []
 
 -- the cause of a refusal, or the reason of a failure
 abbrev pub counter_labels : Counter → List ℕ
@@ -65,6 +68,7 @@ counter_labels Retries = []
 abbrev pub metric_labels : LinkMetric → List ℕ
 metric_labels of_link.InService = []
 metric_labels of_link.ChangingOver = []
+metric_labels of_link.Barred = []
 metric_labels of_link.Waiting = []
 metric_labels (of_link.Counted counter) = counter_labels counter
 

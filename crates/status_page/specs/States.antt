@@ -11,7 +11,7 @@ use Rattle.routes.specs.Routes.{status_name}
 use Rattle.exchange_rules.specs.State.{QueueKind, State}
 use Rattle.exchange.specs.declared.view.LinkView.{LinkView}
 use Rattle.exchange.specs.declared.view.RouteView.{RouteView}
-use Rattle.exchange.specs.Views.{link_view, route_view, standing_name}
+use Rattle.exchange.specs.Views.{link_view, is_barred_at, route_view, standing_name}
 use Rattle.console.specs.Names.{name_in, set_name_in}
 use Rattle.console.specs.Texts.{notice_line}
 use Rattle.served_link.specs.declared.counter.Counter.{Counter}
@@ -80,6 +80,7 @@ abbrev pub link_object : {Q : Type 0} → QueueKind Q → State Q → List LinkC
 link_object q s rows k v =
     object (name_members s.settings k ++ view_members v
     ++ bool_member (codes "changing_over") (is_changing_over q s k)
+    ++ bool_member (codes "barred") (is_barred_at s k)
     ++ all_counters (counters_at rows k))
 
 -- the same, if there is such a link
@@ -142,6 +143,7 @@ kind_key noticed.Failed = codes "failed"
 kind_key noticed.Lost = codes "lost"
 kind_key noticed.Unsent = codes "unsent"
 kind_key noticed.Expired = codes "expired"
+kind_key noticed.Unbarred = codes "unbarred"
 kind_key noticed.Late = codes "late"
 kind_key noticed.Missed = codes "missed"
 
@@ -165,14 +167,16 @@ place_members points c =
     ++ number_member (codes "network") c.network
     ++ number_member (codes "pool") c.pool
 
--- the user messages that the node keeps and those of them that are held, how often each flag was raised, and how many
--- notices there were
+-- the user messages that the node keeps and those of them that are held, how often each flag was raised, the counts of
+-- losses, and how many notices there were
 abbrev pub count_members : {Q : Type 0} → QueueKind Q → State Q → List Token
 count_members q s =
     number_member (codes "kept") (kept_messages q s)
     ++ number_member (codes "held") (held_users q s)
     ++ number_member (codes "times_lost") s.node.parts.times_lost
     ++ number_member (codes "times_late") s.node.parts.times_late
+    ++ number_member (codes "messages_lost") s.node.parts.messages_lost
+    ++ number_member (codes "times_broken") s.node.parts.times_broken
     ++ number_member (codes "notice_count") s.node.parts.notices.count
 
 unfoldable pub node_members : {Q : Type 0} → QueueKind Q → PointFormat → State Q → (uptime : ℕ) → List Token

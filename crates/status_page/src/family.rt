@@ -55,10 +55,16 @@ pub enum Family {
     Flags,
     /// How often each flag was raised.
     Raised,
+    /// Messages that notices named as lost.
+    Lost,
+    /// How often it wasn't known for sure what the other end has of a link.
+    Broken,
     /// Whether each link is in service.
     InService,
     /// Whether the changeover of each link isn't over.
     ChangingOver,
+    /// Whether each link is barred from opening.
+    Barred,
     /// Messages of each link that aren't confirmed.
     Queue,
     /// Frames that came in.
@@ -83,7 +89,7 @@ pub enum Family {
 
 impl Family {
     /// All families, in the order in which they are shown.
-    pub const ALL: [Family; 20] = [
+    pub const ALL: [Family; 23] = [
         Family::Build,
         Family::Uptime,
         Family::PoolLimit,
@@ -92,8 +98,11 @@ impl Family {
         Family::Notices,
         Family::Flags,
         Family::Raised,
+        Family::Lost,
+        Family::Broken,
         Family::InService,
         Family::ChangingOver,
+        Family::Barred,
         Family::Queue,
         Family::FramesReceived,
         Family::OctetsReceived,
@@ -120,8 +129,11 @@ impl Family {
             Family::Notices => "stp_notices_total",
             Family::Flags => "stp_flag",
             Family::Raised => "stp_flag_raised_total",
+            Family::Lost => "stp_messages_lost_total",
+            Family::Broken => "stp_changeovers_broken_total",
             Family::InService => "stp_link_in_service",
             Family::ChangingOver => "stp_link_changing_over",
+            Family::Barred => "stp_link_barred",
             Family::Queue => "stp_queue_messages",
             Family::FramesReceived => "stp_frames_received_total",
             Family::OctetsReceived => "stp_octets_received_total",
@@ -151,8 +163,13 @@ impl Family {
             Family::Flags =>
                 "1 if the flag is raised: a message may be lost, or may have come late.",
             Family::Raised => "How often the flag was raised.",
+            Family::Lost => "Messages that notices named as lost.",
+            Family::Broken =>
+                "Changeovers of which it isn't known for sure what the peer has of the link.",
             Family::InService => "1 if the link is in service, else 0.",
             Family::ChangingOver => "1 if the link is down and its changeover isn't over, else 0.",
+            Family::Barred =>
+                "1 if the link can't open until its changeover order is answered, else 0.",
             Family::Queue => "Messages of the link that the peer hasn't confirmed, sent or not.",
             Family::FramesReceived => "Frames that came in on the link.",
             Family::OctetsReceived => "Octets of the frames that came in on the link.",
@@ -180,9 +197,12 @@ impl Family {
             | Family::Flags
             | Family::InService
             | Family::ChangingOver
+            | Family::Barred
             | Family::Queue => Kind::Gauge,
             Family::Notices
             | Family::Raised
+            | Family::Lost
+            | Family::Broken
             | Family::FramesReceived
             | Family::OctetsReceived
             | Family::FramesSent
@@ -214,8 +234,11 @@ impl Family {
                 Metric::Node(NodeMetric::TimesLost),
                 Metric::Node(NodeMetric::TimesLate),
             ],
+            Family::Lost => &[Metric::Node(NodeMetric::MessagesLost)],
+            Family::Broken => &[Metric::Node(NodeMetric::TimesBroken)],
             Family::InService => &[Metric::Link(LinkMetric::InService)],
             Family::ChangingOver => &[Metric::Link(LinkMetric::ChangingOver)],
+            Family::Barred => &[Metric::Link(LinkMetric::Barred)],
             Family::Queue => &[Metric::Link(LinkMetric::Waiting)],
             Family::FramesReceived => &[Metric::Link(LinkMetric::Counted(Counter::FramesIn))],
             Family::OctetsReceived => &[Metric::Link(LinkMetric::Counted(Counter::OctetsIn))],
@@ -237,6 +260,7 @@ const NOTICES: [Metric; NOTICE_KINDS] = [
     Metric::Node(NodeMetric::Notices(NoticeKind::Lost)),
     Metric::Node(NodeMetric::Notices(NoticeKind::Unsent)),
     Metric::Node(NodeMetric::Notices(NoticeKind::Expired)),
+    Metric::Node(NodeMetric::Notices(NoticeKind::Unbarred)),
     Metric::Node(NodeMetric::Notices(NoticeKind::Late)),
     Metric::Node(NodeMetric::Notices(NoticeKind::Missed)),
 ];

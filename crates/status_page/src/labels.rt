@@ -28,7 +28,12 @@ pub(crate) fn node_labels(metric: NodeMetric) -> ArrayString<LABELS_OCTETS>
         NodeMetric::LostAny | NodeMetric::TimesLost => labels.push_str("{name=\"lost_any\"}"),
         NodeMetric::LateAny | NodeMetric::TimesLate => labels.push_str("{name=\"late_any\"}"),
         NodeMetric::Notices(kind) => labels.push_str(kind_labels(kind)),
-        NodeMetric::Uptime | NodeMetric::PoolLimit | NodeMetric::Pool | NodeMetric::Held => {}
+        NodeMetric::Uptime
+        | NodeMetric::PoolLimit
+        | NodeMetric::Pool
+        | NodeMetric::Held
+        | NodeMetric::MessagesLost
+        | NodeMetric::TimesBroken => {}
     }
     labels
 }
@@ -45,6 +50,7 @@ fn kind_labels(kind: NoticeKind) -> &'static str
         NoticeKind::Lost => "{kind=\"lost\"}",
         NoticeKind::Unsent => "{kind=\"unsent\"}",
         NoticeKind::Expired => "{kind=\"expired\"}",
+        NoticeKind::Unbarred => "{kind=\"unbarred\"}",
         NoticeKind::Late => "{kind=\"late\"}",
         NoticeKind::Missed => "{kind=\"missed\"}",
     }
@@ -73,7 +79,10 @@ fn push_further(metric: LinkMetric, labels: &mut ArrayString<LABELS_OCTETS>)
 {
     match metric {
         LinkMetric::Counted(counter) => push_reason(counter, labels),
-        LinkMetric::InService | LinkMetric::ChangingOver | LinkMetric::Waiting => {}
+        LinkMetric::InService
+        | LinkMetric::ChangingOver
+        | LinkMetric::Barred
+        | LinkMetric::Waiting => {}
     }
 }
 

@@ -99,6 +99,7 @@ fn put_shown(
     put_names(exchange.settings(), link, out)?;
     put_view(view, out)?;
     put_bool(out, "changing_over", is_changing_over(exchange, link))?;
+    put_bool(out, "barred", exchange.is_barred(link))?;
     put_counters(&counters_of(counters, link), out)?;
     out.end_object()
 }

@@ -36,6 +36,8 @@ pub(crate) fn node_value(
         NodeMetric::LateAny => bit(exchange.late_any()),
         NodeMetric::TimesLost => exchange.times_lost(),
         NodeMetric::TimesLate => exchange.times_late(),
+        NodeMetric::MessagesLost => exchange.messages_lost(),
+        NodeMetric::TimesBroken => exchange.times_broken(),
     }
 }
 
@@ -87,6 +89,7 @@ pub(crate) fn link_value(
     match metric {
         LinkMetric::InService => bit(is_in_service(exchange, link)),
         LinkMetric::ChangingOver => bit(is_changing_over(exchange, link)),
+        LinkMetric::Barred => bit(exchange.is_barred(link)),
         LinkMetric::Waiting => waiting_on(exchange, link),
         LinkMetric::Counted(counter) => counters_of(counters, link).get(counter),
     }

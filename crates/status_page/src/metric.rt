@@ -35,6 +35,10 @@ pub enum NodeMetric {
     TimesLost,
     /// How often messages of a flow may have gone out of order.
     TimesLate,
+    /// Messages that notices named as lost.
+    MessagesLost,
+    /// How often it wasn't known for sure what the other end has of a link.
+    TimesBroken,
 }
 
 /// What is measured of each link.
@@ -44,6 +48,8 @@ pub enum LinkMetric {
     InService,
     /// Whether it is down and its changeover isn't over.
     ChangingOver,
+    /// Whether it is barred from opening.
+    Barred,
     /// Messages of its queue that aren't confirmed.
     Waiting,
     /// What was counted for it.

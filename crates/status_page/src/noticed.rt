@@ -22,6 +22,8 @@ pub enum NoticeKind {
     Unsent,
     /// A changeover ended by its timer.
     Expired,
+    /// A link was barred no more, though its answer didn't come.
+    Unbarred,
     /// A changeback ended by its timer.
     Late,
     /// It was dropped for later ones before it was seen.
@@ -29,7 +31,7 @@ pub enum NoticeKind {
 }
 
 /// Kinds of notices.
-pub const NOTICE_KINDS: usize = 8;
+pub const NOTICE_KINDS: usize = 9;
 
 impl NoticeKind {
     /// All kinds, in the order in which they are shown.
@@ -40,6 +42,7 @@ impl NoticeKind {
         NoticeKind::Lost,
         NoticeKind::Unsent,
         NoticeKind::Expired,
+        NoticeKind::Unbarred,
         NoticeKind::Late,
         NoticeKind::Missed,
     ];
@@ -55,6 +58,7 @@ impl NoticeKind {
             Notice::Lost(_, _, _) => NoticeKind::Lost,
             Notice::Unsent(_, _) => NoticeKind::Unsent,
             Notice::Expired(_, _) => NoticeKind::Expired,
+            Notice::Unbarred(_, _) => NoticeKind::Unbarred,
             Notice::Late(_, _) => NoticeKind::Late,
         }
     }
@@ -71,8 +75,9 @@ impl NoticeKind {
             NoticeKind::Lost => 3,
             NoticeKind::Unsent => 4,
             NoticeKind::Expired => 5,
-            NoticeKind::Late => 6,
-            NoticeKind::Missed => 7,
+            NoticeKind::Unbarred => 6,
+            NoticeKind::Late => 7,
+            NoticeKind::Missed => 8,
         }
     }
 }

@@ -108,8 +108,8 @@ fn put_place(settings: &Settings, points: PointFormat, out: &mut Writer) -> Resu
     put_number(out, "pool", settings.pool() as u64)
 }
 
-/// Appends how many user messages the node keeps and how many of them are held, how often each flag was raised, and how
-/// many notices there were.
+/// Appends how many user messages the node keeps and how many of them are held, how often each flag was raised, the
+/// counts of losses, and how many notices there were.
 fn put_counts(exchange: &Exchange, out: &mut Writer) -> Result<(), AllocError>
     ensures { Adds result out.old out.new (count_members kept exchange.now) }
 {
@@ -117,6 +117,8 @@ fn put_counts(exchange: &Exchange, out: &mut Writer) -> Result<(), AllocError>
     put_number(out, "held", held_users(exchange))?;
     put_number(out, "times_lost", exchange.times_lost())?;
     put_number(out, "times_late", exchange.times_late())?;
+    put_number(out, "messages_lost", exchange.messages_lost())?;
+    put_number(out, "times_broken", exchange.times_broken())?;
     put_number(out, "notice_count", exchange.notice_count())
 }
 
@@ -292,6 +294,7 @@ fn kind_key(kind: NoticeKind) -> &'static str
         NoticeKind::Lost => "lost",
         NoticeKind::Unsent => "unsent",
         NoticeKind::Expired => "expired",
+        NoticeKind::Unbarred => "unbarred",
         NoticeKind::Late => "late",
         NoticeKind::Missed => "missed",
     }

@@ -201,6 +201,8 @@ function glance(state) {
     ['Messages held', count(state.held), ''],
     ['Perhaps lost', raised(state.times_lost), state.times_lost ? 'bad' : ''],
     ['Perhaps late', raised(state.times_late), state.times_late ? 'turning' : ''],
+    ['Messages lost', count(state.messages_lost), state.messages_lost ? 'bad' : ''],
+    ['Changeovers broken', count(state.times_broken), state.times_broken ? 'bad' : ''],
     ['Notices', count(state.notice_count), ''],
   ];
 }
@@ -280,7 +282,7 @@ function showLinks(state) {
     const [, standing, speed, chart] = body.children[i].children;
     const [kind, text] = STATES[link.state], now = rate(link.name), row = rates.get(link.name);
     const facts = [count(link.waiting) + ' waiting'];
-    if (link.changing_over) facts.unshift('changing over');
+    if (link.changing_over) facts.unshift(link.barred ? 'barred' : 'changing over');
     if (link.retries) facts.push(count(link.retries) + ' retries');
     standing.firstChild.className = kind;
     setText(standing.firstChild, text);

@@ -16,7 +16,7 @@ const CARRIAGE_RETURN: u8 = b'\r';
 pub enum ConsoleLine<'a> {
     /// Nothing: an empty line, or one that begins with `#`.
     Skipped,
-    /// `show ..`, `submit HEX`, `activate LINK`, `deactivate LINK` or `title ..`, as in a script.
+    /// `show ..`, `submit HEX`, `activate LINK`, `deactivate LINK`, `release LINK` or `title ..`, as in a script.
     Script(Line<'a>),
     /// `show counters`: the counters of each link.
     Counters,

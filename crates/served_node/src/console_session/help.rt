@@ -9,10 +9,12 @@ show titles               the translation rows
 show subsystems           the subsystems at other points that are prohibited
 show notices              the last 64 notices
 show flags                how often a message may have been lost, or flows gone out of order
+show losses               the messages named as lost, and how often that wasn't known for sure
 show counters             what passed on each link since the start: counter NAME LINK VALUE
 submit HEX                a user part submits a message: its SIO, then its SIF
 activate LINK             the link may open; activate LINK emergency: with emergency proving
 deactivate LINK           the link goes out of service, and stays out
+release LINK              the link may open though its changeover order isn't answered
 title add T P N DIGITS POINT ROUTE SSN
                           a translation row is added; behind SSN perhaps backup POINT, then perhaps
                           changed PLAN NATURE REMOVE ADD
