@@ -8,12 +8,14 @@ mod network;
 mod seen;
 mod site;
 mod sums;
+mod words;
 
 pub(crate) use doing::{Deed, Doing};
 pub(crate) use joining::{Link, Place};
 pub(crate) use network::{Network, place_of};
 pub(crate) use site::Site;
 pub(crate) use sums::{AllMessages, OnFlow, SCCP_SIO, goes_to};
+pub(crate) use words::Words;
 
 /// So many more.
 pub(crate) fn count(counted: &mut u64, more: u64) {

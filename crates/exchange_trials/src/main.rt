@@ -2,7 +2,7 @@
 //! their messages and by the outcomes of their steps, and by no contract.
 //!
 //! Without a SECTION, or with `all`, it runs all of them; it fails if there is none of this name. N is how many runs of
-//! each shape the section `networks` makes.
+//! each shape the section `networks` makes, and of each kind the section `mated`.
 #![tactic(auto)]
 
 mod dice;
@@ -44,10 +44,12 @@ fn run(rt: &HostRuntime, section: &str, runs: u64) -> io::Result<ExitCode> {
         "all" => {
             pairs::run(rt)?;
             networks::run(rt, runs)?;
+            networks::run_mated(rt, runs)?;
             octets::run(rt)?;
         }
         "pairs" => pairs::run(rt)?,
         "networks" => networks::run(rt, runs)?,
+        "mated" => networks::run_mated(rt, runs)?,
         "octets" => octets::run(rt)?,
         _ => {
             println!(rt; "no section {section}")?;

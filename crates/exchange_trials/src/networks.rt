@@ -57,8 +57,10 @@
 mod book;
 mod deliberate;
 mod judge;
+mod mated;
 mod rest;
 mod schedule;
+mod third_flag;
 mod total;
 mod world;
 
@@ -74,6 +76,13 @@ const SHAPES: [(Shape, &str); 4] = [
     (Shape::Square, "square"),
     (Shape::MatedPair, "mated pair"),
 ];
+
+/// Plays a run that shows what the flags of third nodes are for, and tries mated pairs whose orders to change over go
+/// by any route in so many runs. Prints what became of them.
+pub(crate) fn run_mated(rt: &HostRuntime, runs: u64) -> io::Result<()> {
+    third_flag::run(rt)?;
+    mated::run(rt, runs)
+}
 
 /// Tries each shape in so many runs, and prints what became of them, behind the two lines of a run that is made wrong.
 pub(crate) fn run(rt: &HostRuntime, runs: u64) -> io::Result<()> {

@@ -16,6 +16,24 @@ const OF_NETWORKS: &str = "version = 2\n\
     timers = { l1 = 10, l2 = 10, l3 = 10, l4 = 3, l6 = 20, l7 = 12, \
     t1 = 12, t2 = 12, t3 = 4, t4 = 12, t6 = 4, t8 = 3, t10 = 8 }\n";
 
+/// What those have whose orders go by any route, but for the last timer. T1 and T2 run out in some schedules.
+const OF_ANY_ROUTE: &str = "version = 4\n\
+    changeover_by_any_route = true\n\
+    timers = { l1 = 10, l2 = 10, l3 = 10, l4 = 1, l6 = 20, l7 = 12, \
+    t1 = 4, t2 = 2, t3 = 4, t4 = 12, t6 = 4, t8 = 3, t10 = 8, ";
+
+/// What the nodes of a mesh have: no timer ends a changeover,
+const OF_MESH: &str = "version = 4\n\
+    changeover_by_any_route = true\n\
+    timers = { l1 = 60000, l2 = 60000, l3 = 60000, l4 = 1, l6 = 60000, l7 = 60000, \
+    t1 = 60000, t2 = 60000, t3 = 2, t4 = 60000, t6 = 4, t8 = 3, t10 = 60000, t2_bar = 60001 }\n";
+
+/// but at the third of them.
+const OF_THIRD: &str = "version = 4\n\
+    changeover_by_any_route = true\n\
+    timers = { l1 = 60000, l2 = 60000, l3 = 60000, l4 = 1, l6 = 60000, l7 = 60000, \
+    t1 = 60000, t2 = 3, t3 = 2, t4 = 60000, t6 = 4, t8 = 3, t10 = 60000, t2_bar = 4 }\n";
+
 /// What all have.
 const COMMON: &str = "network = 2\n\
     window = 128\n\
@@ -25,17 +43,27 @@ const COMMON: &str = "network = 2\n\
 
 /// The settings of a node. None where memory ran out.
 pub(crate) fn settings_at(alloc: Global, shape: Shape, point: u16) -> Option<Settings> {
-    let first = if shape.has_ends() {
-        OF_ENDS
-    } else {
-        OF_NETWORKS
-    };
-    let mut text = String::from_str(alloc, first).ok()?;
-    text.push_str(COMMON).ok()?;
+    let mut text = String::from_str(alloc, COMMON).ok()?;
+    write_first(&mut text, shape, point).ok()?;
     write_sets(&mut text, shape, point).ok()?;
     write_links(&mut text, shape, point).ok()?;
     write_destinations(&mut text, shape, point).ok()?;
     read(alloc, text.as_str()).ok()
+}
+
+/// The version, and the timers.
+fn write_first(text: &mut String, shape: Shape, point: u16) -> Result<(), AllocError> {
+    match shape {
+        Shape::AnyRoute(bar) => {
+            text.push_str(OF_ANY_ROUTE)?;
+            write!(text, "t2_bar = {bar} }}\n")
+        }
+        Shape::Mesh => text.push_str(if point == 3 { OF_THIRD } else { OF_MESH }),
+        Shape::Pair(_) | Shape::Ring => text.push_str(OF_ENDS),
+        Shape::Line | Shape::Triangle | Shape::Square | Shape::MatedPair => text.push_str(
+            OF_NETWORKS,
+        ),
+    }
 }
 
 /// A set for each adjacent point.

@@ -19,6 +19,11 @@ pub(crate) enum Shape {
     Square,
     /// Two ends, points 1 and 4, and two transfer points, each joined to both ends and to the other.
     MatedPair,
+    /// The same, where orders to change over go by any route, and links are barred for so many ticks. The mate leads to
+    /// each adjacent point, too.
+    AnyRoute(u8),
+    /// Four nodes, each joined to each, whose orders to change over go by any route.
+    Mesh,
 }
 
 /// A point that some nodes lead messages to, but that isn't there: the last one on the way doesn't know it.
@@ -35,7 +40,7 @@ impl Shape {
         match self {
             Shape::Pair(_) => &[1, 2],
             Shape::Triangle => &[1, 2, 3],
-            Shape::Ring | Shape::Line | Shape::Square | Shape::MatedPair => &[1, 2, 3, 4],
+            _ => &[1, 2, 3, 4],
         }
     }
 
@@ -45,7 +50,9 @@ impl Shape {
             Shape::Pair(links) => links,
             Shape::Ring if one > 2 && other > 2 => 1,
             Shape::Line => 3,
-            Shape::Ring | Shape::Triangle | Shape::Square | Shape::MatedPair => 2,
+            Shape::Mesh => 1,
+            Shape::AnyRoute(_) if !is_wide(one, other) => 1,
+            _ => 2,
         }
     }
 
@@ -67,9 +74,11 @@ impl Shape {
             (Shape::Triangle, _) => &[1, 2],
             (Shape::Square, 1 | 3) => &[2, 4],
             (Shape::Square, _) => &[1, 3],
-            (Shape::MatedPair, 2) => &[1, 3, 4],
-            (Shape::MatedPair, 3) => &[1, 2, 4],
-            (Shape::MatedPair, _) => &[2, 3],
+            (Shape::MatedPair | Shape::AnyRoute(_) | Shape::Mesh, 2) => &[1, 3, 4],
+            (Shape::MatedPair | Shape::AnyRoute(_) | Shape::Mesh, 3) => &[1, 2, 4],
+            (Shape::Mesh, 1) => &[2, 3, 4],
+            (Shape::Mesh, _) => &[1, 2, 3],
+            (Shape::MatedPair | Shape::AnyRoute(_), _) => &[2, 3],
         }
     }
 
@@ -96,6 +105,8 @@ impl Shape {
             (Shape::MatedPair, 1, UNKNOWN) => &[3, 2],
             (Shape::MatedPair, 2, UNKNOWN) => &[4, 3],
             (Shape::MatedPair, 3, UNKNOWN) => &[4, 2],
+            (Shape::AnyRoute(_), _, _) => ways_of_mates(from, to),
+            (Shape::Mesh, _, _) => ways_of_mesh(from, to),
             _ => &[],
         }
     }
@@ -105,9 +116,26 @@ impl Shape {
         self.neighbours(one).contains(&other)
     }
 
+    /// Whether two nodes are adjacent, and no other way leads from one to the other.
+    pub(crate) fn leads_alone(self, one: u16, other: u16) -> bool {
+        self.are_adjacent(one, other) && !self.orders_by_any_route()
+    }
+
     /// Whether a node shares its messages for another among two sets.
     pub(crate) fn shares(self, from: u16, to: u16) -> bool {
-        self == Shape::MatedPair && (from == 1 && to == 4 || from == 4 && to == 1)
+        matches!(self, Shape::MatedPair | Shape::AnyRoute(_))
+            && (from == 1 && to == 4 || from == 4 && to == 1)
+    }
+
+    /// Whether orders to change over go by any route, so that a message is named as lost where a node in other shapes
+    /// could only say that one may be.
+    pub(crate) fn orders_by_any_route(self) -> bool {
+        matches!(self, Shape::AnyRoute(_) | Shape::Mesh)
+    }
+
+    /// Whether links that are alone in their sets in service seldom fail.
+    pub(crate) fn spares_sets(self) -> bool {
+        !self.has_ends() && !self.orders_by_any_route()
     }
 
     /// How many links a node has.
@@ -175,5 +203,43 @@ impl Shape {
             }
         }
         Some(links)
+    }
+}
+
+/// Whether two links join two adjacent nodes of a mated pair whose orders go by any route: points 1 and 3, and 2 and 4.
+fn is_wide(one: u16, other: u16) -> bool {
+    one % 2 == other % 2
+}
+
+/// The adjacent points by which a node of a mated pair leads to another point, where the mate leads to adjacent ones,
+/// too. Empty from one transfer point to the other, which leads there by itself alone.
+fn ways_of_mates(from: u16, to: u16) -> &'static [u16] {
+    match (from, to) {
+        (1, 2 | 4) | (4, 1 | 2) => &[2, 3],
+        (1, 3 | UNKNOWN) | (4, 3) => &[3, 2],
+        (2, 1) => &[1, 3],
+        (2, 4 | UNKNOWN) => &[4, 3],
+        (3, 1) => &[1, 2],
+        (3, 4 | UNKNOWN) => &[4, 2],
+        _ => &[],
+    }
+}
+
+/// The adjacent points by which a node of a mesh leads to another.
+fn ways_of_mesh(from: u16, to: u16) -> &'static [u16] {
+    match (from, to) {
+        (1, 2) => &[2, 3, 4],
+        (1, 3) => &[3, 2],
+        (1, 4) => &[4, 2],
+        (2, 1) => &[1, 3, 4],
+        (2, 3) => &[3, 1, 4],
+        (2, 4) => &[4, 3],
+        (3, 1) => &[1, 2],
+        (3, 2) => &[2, 4, 1],
+        (3, 4) => &[4, 1],
+        (4, 1) => &[1, 2],
+        (4, 2) => &[2, 1],
+        (4, 3) => &[3, 1],
+        _ => &[],
     }
 }

@@ -143,7 +143,7 @@ fn lose_half(network: &mut Network, link: Link) {
 
 /// Whether a link may fail: sets aren't spared, or another link of the same set is in service at both ends.
 fn may_fail(network: &Network, link: Link) -> bool {
-    network.shape.has_ends()
+    !network.shape.spares_sets()
         || network
             .links
             .iter()

@@ -20,6 +20,8 @@ pub(crate) struct LinkEnd {
     user_data: VecDeque<FrameText>,
     /// Whether it may follow the other end.
     pub may_follow: bool,
+    /// Whether it failed while no route led to its point, and no order went out since.
+    pub unasked: bool,
 }
 
 impl Model for LinkEnd {
@@ -36,6 +38,7 @@ impl Drop for LinkEnd {
             statuses: _,
             user_data: _,
             may_follow: _,
+            unasked: _,
         } = self;
     }
 }
@@ -48,6 +51,7 @@ impl LinkEnd {
             statuses: VecDeque::new(alloc),
             user_data: VecDeque::new(alloc),
             may_follow: false,
+            unasked: false,
         }
     }
 
@@ -83,5 +87,6 @@ impl LinkEnd {
         self.statuses.clear();
         self.user_data.clear();
         self.may_follow = may_follow;
+        self.unasked = false;
     }
 }

@@ -6,7 +6,7 @@ use super::site::Site;
 use crate::harness::count;
 use crate::node::Node;
 use crate::node_settings::settings_at;
-use crate::shape::Shape;
+use crate::shape::{Shape, code_of};
 use exchange::{FrameText, LinkStanding, Msu, Outcome};
 use std::alloc::Global;
 use std::marker::Model;
@@ -82,7 +82,7 @@ impl Network {
         self.sites.get(place_of(point))
     }
 
-    fn site_mut(&mut self, point: u16) -> Option<&mut Site> {
+    pub(super) fn site_mut(&mut self, point: u16) -> Option<&mut Site> {
         self.sites.get_mut(place_of(point))
     }
 
@@ -105,6 +105,12 @@ impl Network {
             && self.standing(link.there) == LinkStanding::InService
     }
 
+    /// Whether a link is proved at one of its ends.
+    pub(crate) fn is_proving(&self, link: Link) -> bool {
+        self.standing(link.here) == LinkStanding::Proving
+            || self.standing(link.there) == LinkStanding::Proving
+    }
+
     /// Whether all are of which rounds carry frames.
     pub(crate) fn serves_all(&self) -> bool {
         self.links.iter().all(|link| self.serves(*link))
@@ -117,6 +123,16 @@ impl Network {
             quiet &= site.is_quiet();
         }
         quiet
+    }
+
+    /// Whether a step at a node made more notices than that keeps.
+    pub(crate) fn overlooks(&self) -> bool {
+        self.sites.iter().any(|site| site.overlooked)
+    }
+
+    /// Whether a node counted since the books began that it isn't known what the other end of a link has.
+    pub(crate) fn is_broken(&self) -> bool {
+        self.sites.iter().any(|site| site.seen.broken_any)
     }
 
     /// How often nodes lost a link since that is counted.
@@ -161,9 +177,33 @@ impl Network {
     pub(crate) fn turn(&mut self, at: u16, doing: Doing) -> Outcome {
         count(&mut self.steps, 1);
         self.compare_now_and_then();
+        let lost = self.lost_in_service(&doing);
         let outcome = self.turn_unseen(at, doing);
+        if let Some(place) = lost {
+            self.note_failure(place);
+        }
         self.look(at);
         outcome
+    }
+
+    /// The end of a link in service that fails by what is done.
+    fn lost_in_service(&self, doing: &Doing) -> Option<Place> {
+        match doing {
+            Doing::Link(Deed::Lose | Deed::Fall | Deed::Deactivate, place) => {
+                (self.standing(*place) == LinkStanding::InService).then_some(*place)
+            }
+            _ => None,
+        }
+    }
+
+    /// A link in service failed at an end. Where no route leads to its point, no order went out.
+    fn note_failure(&mut self, place: Place) {
+        let Some(link) = self.shape.link(place.point, place.number) else {
+            return;
+        };
+        if let Some(site) = self.site_mut(place.point) {
+            site.note_failure(place.link(), code_of(link.there.point));
+        }
     }
 
     fn turn_unseen(&mut self, at: u16, doing: Doing) -> Outcome {
@@ -222,6 +262,7 @@ impl Network {
             return Outcome::Ignored;
         };
         count(&mut self.frames, link.is_between_ends() as u64);
+        self.note_word(link, &text);
         self.push(link.there, text);
         Outcome::Handled
     }

@@ -19,10 +19,14 @@ pub(crate) struct Seen {
     pub reroutings: u64,
     /// How often it had counted when the books began that a message may be lost,
     lost: u64,
-    /// and that one may be late.
+    /// and that one may be late,
     late: u64,
+    /// and that it isn't known what the other end of a link has.
+    broken: u64,
     /// Whether it counted since that one may be lost,
     pub lost_any: bool,
+    /// that it isn't known what the other end of a link has,
+    pub broken_any: bool,
     /// or that one may be late.
     pub late_any: bool,
     /// Of the messages that came to each node, those that may count on it.
@@ -49,6 +53,7 @@ impl Seen {
     pub(super) fn look(&mut self, exchange: &Exchange) {
         self.lost_any |= self.lost < exchange.times_lost();
         self.late_any |= self.late < exchange.times_late();
+        self.broken_any |= self.broken < exchange.times_broken();
         let mut changes = 0u64;
         for (destination, before) in self.first_sets.iter_mut().enumerate() {
             let now = first_set(exchange, destination);
@@ -74,8 +79,10 @@ impl Seen {
     pub(super) fn begin_anew(&mut self, exchange: &Exchange) {
         self.lost = exchange.times_lost();
         self.late = exchange.times_late();
+        self.broken = exchange.times_broken();
         self.lost_any = false;
         self.late_any = false;
+        self.broken_any = false;
         self.came = [Came {
             whole: 0,
             in_time: 0,

@@ -3,10 +3,12 @@
 use super::doing::{Deed, Doing, done, is_accepted};
 use super::link_end::LinkEnd;
 use super::seen::Seen;
+use super::words::{Words, word_in};
 use crate::harness::count;
 use crate::node::Node;
 use exchange::{
-    Event, Frame, FrameText, Label, LinkId, Msu, Order, Outcome, Settings, Wants, decode,
+    Event, Frame, FrameText, Label, LinkId, Msu, Notice, Order, Outcome, PointCode, Settings,
+    Wants, decode,
 };
 use std::alloc::Global;
 use std::marker::Model;
@@ -17,6 +19,15 @@ use std::mem::replace;
 pub(crate) struct Arrival {
     pub link: LinkId,
     pub message: Msu,
+}
+
+/// The flow of a message that a node named as lost.
+#[derive(Clone, Copy)]
+pub(crate) struct Loss {
+    /// Its destination,
+    pub to: u16,
+    /// and its signalling link selection.
+    pub flow: u8,
 }
 
 /// One node, the ends of its links, and what it booked.
@@ -30,6 +41,14 @@ pub(crate) struct Site {
     pub arrived: Vec<Arrival>,
     /// The user messages for other points that came and were refused.
     pub refused: Vec<Msu>,
+    /// Those that its notices named as lost.
+    pub named: Vec<Loss>,
+    /// How many notices were read,
+    noticed: u64,
+    /// and whether a step made more than are kept, so that some were never read.
+    pub overlooked: bool,
+    /// What it did with orders to change over and their answers.
+    pub words: Words,
     /// How many of those that came were queued or held.
     pub passed: u64,
     /// How often it lost a link.
@@ -55,6 +74,10 @@ impl Drop for Site {
             accepted: _,
             arrived: _,
             refused: _,
+            named: _,
+            noticed: _,
+            overlooked: _,
+            words: _,
             passed: _,
             failures: _,
             seen: _,
@@ -74,6 +97,10 @@ impl Site {
             accepted: Vec::new(alloc),
             arrived: Vec::new(alloc),
             refused: Vec::new(alloc),
+            named: Vec::new(alloc),
+            noticed: 0,
+            overlooked: false,
+            words: Words::default(),
             passed: 0,
             failures: 0,
             seen: Seen::default(),
@@ -99,7 +126,26 @@ impl Site {
     /// It is looked at. Says how many messages have come to it.
     pub(crate) fn look(&mut self) -> usize {
         self.seen.look(self.node.shown());
+        self.note_losses();
         self.arrived.len()
+    }
+
+    /// Reads its new notices.
+    fn note_losses(&mut self) {
+        let shown = self.node.shown();
+        let new = shown.notices_since(self.noticed);
+        self.noticed = shown.notice_count();
+        self.overlooked |= new.missed != 0;
+        let kept = shown.notices().len();
+        for k in kept.saturating_sub(new.kept)..kept {
+            if let Some(Notice::Lost(_, point, sls)) = self.node.shown().notices().get(k) {
+                let loss = Loss {
+                    to: point.code(),
+                    flow: sls.number(),
+                };
+                self.starved |= self.named.push(loss).is_err();
+            }
+        }
     }
 
     /// Its books begin anew. What it counted before counts no more.
@@ -107,6 +153,7 @@ impl Site {
         self.accepted.clear();
         self.arrived.clear();
         self.refused.clear();
+        self.named.clear();
         self.seen.begin_anew(self.node.shown());
     }
 
@@ -118,6 +165,7 @@ impl Site {
             return;
         };
         self.node = node;
+        self.noticed = 0;
         for end in self.ends.iter_mut() {
             end.clear(false);
         }
@@ -204,12 +252,58 @@ impl Site {
         } else if matches!(outcome, Outcome::Refused(_)) && self.goes_onward(&message) {
             self.starved |= self.refused.push(message).is_err();
         }
+        self.note_transit(&message, outcome);
     }
 
     /// Whether a user message is for another point than this.
     fn goes_onward(&self, message: &Msu) -> bool {
-        let own = self.node.shown().settings().own();
-        !message.is_management() && Label::at(message.sif()).dpc != own
+        !message.is_management() && Label::at(message.sif()).dpc != self.own()
+    }
+
+    fn own(&self) -> PointCode {
+        self.node.shown().settings().own()
+    }
+
+    /// An order to change over or an answer that came is counted, if it is for another point.
+    fn note_transit(&mut self, message: &Msu, outcome: &Outcome) {
+        let own = self.own().code();
+        if let Some(word) = word_in(message) {
+            let is_transit = word.to != own;
+            let is_refused = matches!(outcome, Outcome::Refused(_));
+            count(
+                &mut self.words.passed,
+                (is_transit && is_accepted(outcome)) as u64,
+            );
+            count(&mut self.words.refused, (is_transit && is_refused) as u64);
+        }
+    }
+
+    /// A link that was in service has failed. Where no route leads to this point now, no order went out about it.
+    pub(crate) fn note_failure(&mut self, link: LinkId, point: PointCode) {
+        let unasked = !self.leads_to(point);
+        if let Some(end) = self.end(link) {
+            end.unasked = unasked;
+        }
+    }
+
+    /// Whether a route leads to a point.
+    fn leads_to(&self, point: PointCode) -> bool {
+        let shown = self.node.shown();
+        match shown.settings().destination(point) {
+            Some(place) => match shown.route(place) {
+                Some(route) => !route.sets.is_empty(),
+                None => false,
+            },
+            None => false,
+        }
+    }
+
+    /// An order about a link goes out. Says whether none had gone out when it failed.
+    pub(crate) fn ask(&mut self, link: LinkId) -> bool {
+        match self.end(link) {
+            Some(end) => replace(&mut end.unasked, false),
+            None => false,
+        }
     }
 }
 
@@ -279,7 +373,7 @@ fn ends_of(alloc: Global, links: usize) -> Option<Vec<LinkEnd>> {
 }
 
 /// The message of a frame.
-fn carried(octets: &[u8]) -> Option<Msu> {
+pub(super) fn carried(octets: &[u8]) -> Option<Msu> {
     match decode(octets) {
         Ok(Frame::Message { sio, sif, .. }) => Msu::new(sio, sif).ok(),
         Ok(Frame::Empty { .. }) | Ok(Frame::Status { .. }) | Err(_) => None,

@@ -4,7 +4,7 @@ use super::book::{Entry, is_marked};
 use super::total::Total;
 use super::world::World;
 use crate::harness::{Site, count, place_of};
-use crate::shape::Shape;
+use crate::shape::{Shape, UNKNOWN};
 use exchange::{Limits, Msu};
 use std::alloc::Global;
 use std::marker::Model;
@@ -12,29 +12,48 @@ use std::marker::Model;
 /// Points of nodes are below this.
 const POINTS: usize = 8;
 
+/// Destinations are below this.
+const DESTINATIONS: usize = UNKNOWN as usize + 1;
+
 /// So many flows there are from a point to another.
 const FLOWS: usize = Limits::SELECTIONS as usize;
 
 /// What is promised of a run since the books began.
 #[derive(Clone, Copy)]
 pub(super) struct Promise {
-    /// Whether no node counted since that a message may be lost.
+    /// Whether no node counted since that a message may be lost; where orders go by any route, whether each knew what
+    /// the other end of each link had.
     pub whole: bool,
+    /// Whether none comes twice.
+    pub single: bool,
     /// Whether besides no node counted that one may be late, and no first set of a destination changed.
     pub steady: bool,
 }
 
 impl Promise {
+    /// That each message comes once.
+    pub(super) const WHOLE: Promise = Promise {
+        whole: true,
+        single: true,
+        steady: false,
+    };
+
     /// What is promised of a network.
     pub(super) fn of(world: &World) -> Promise {
         let mut whole = true;
         let mut steady = true;
+        let names_losses = world.network.shape.orders_by_any_route();
         for site in world.network.sites.as_slice() {
-            whole &= !site.seen.lost_any;
+            whole &= if names_losses {
+                !site.seen.broken_any
+            } else {
+                !site.seen.lost_any
+            };
             steady &= !site.seen.late_any && site.seen.reroutings == 0;
         }
         Promise {
             whole,
+            single: whole || !names_losses,
             steady: steady && whole,
         }
     }
@@ -48,7 +67,7 @@ impl Promise {
         };
         let shape = world.network.shape;
         let is_in_time = number < site.seen.came(place_of(entry.to)).in_time;
-        self.whole && is_in_time && shape.are_adjacent(entry.from, entry.to)
+        self.whole && is_in_time && shape.leads_alone(entry.from, entry.to)
             || self.steady && shape == Shape::Line
     }
 }
@@ -62,11 +81,13 @@ struct Fate {
     refused: u8,
 }
 
-/// What became of each message of a run, and of each flow the last that came.
+/// What became of each message of a run; of each flow the last that came; and of each destination and selection how
+/// many were named as lost that aren't yet taken for one of those that are missing.
 #[derive(Drop)]
 struct Fates {
     fates: Vec<Fate>,
     last: Vec<usize>,
+    named: Vec<u64>,
 }
 
 impl Model for Fates {
@@ -88,24 +109,12 @@ pub(super) fn judge(world: &World, promise: Promise, total: &mut Total) -> Optio
     {
         fates.read_arrived(world, promise, *point, site, total);
         fates.read_refused(world, site);
+        fates.read_named(site);
     }
-    for (entry, fate) in entries.iter().zip(fates.fates.as_slice()) {
-        add(total, *entry, *fate, promise.whole);
+    for (place, entry) in entries.iter().enumerate() {
+        fates.add(place, *entry, promise, total);
     }
     Some(())
-}
-
-/// Adds what became of a message, in a run in which none may be lost, or some may.
-fn add(total: &mut Total, entry: Entry, Fate { came, refused }: Fate, whole: bool) {
-    let judged = entry.accepted && whole;
-    let lost = came == 0 && refused == 0 || came == 1 && refused != 0;
-    count(&mut total.submitted, 1);
-    count(&mut total.accepted, entry.accepted as u64);
-    count(&mut total.received, (came != 0) as u64);
-    count(&mut total.refused, (refused != 0) as u64);
-    count(&mut total.judged, judged as u64);
-    count(&mut total.lost, (judged && lost) as u64);
-    count(&mut total.doubled, (came > 1 || refused > 1) as u64);
 }
 
 impl Fates {
@@ -113,7 +122,46 @@ impl Fates {
     fn new(alloc: Global, messages: usize) -> Option<Fates> {
         let fates = vec![in alloc; Fate::default(); messages].ok()?;
         let last = vec![in alloc; 0; POINTS * POINTS * FLOWS].ok()?;
-        Some(Fates { fates, last })
+        let named = vec![in alloc; 0; DESTINATIONS * FLOWS].ok()?;
+        Some(Fates { fates, last, named })
+    }
+
+    /// Adds what became of a message, in a run in which none may be lost unless it is named, or some may.
+    fn add(&mut self, place: usize, entry: Entry, promise: Promise, total: &mut Total) {
+        let Fate { came, refused } = self.fates.get(place).copied().unwrap_or_default();
+        let judged = entry.accepted && promise.whole;
+        let missing = came == 0 && refused == 0;
+        let named = judged && missing && self.take_name(entry);
+        let lost = missing && !named || came == 1 && refused != 0;
+        let doubled = came > 1 || refused > 1;
+        count(&mut total.submitted, 1);
+        count(&mut total.accepted, entry.accepted as u64);
+        count(&mut total.received, (came != 0) as u64);
+        count(&mut total.refused, (refused != 0) as u64);
+        count(&mut total.named, named as u64);
+        count(&mut total.judged, judged as u64);
+        count(&mut total.lost, (judged && lost) as u64);
+        count(&mut total.doubled, (promise.single && doubled) as u64);
+    }
+
+    /// Takes one of those that were named as lost for this message. Says whether there was one.
+    fn take_name(&mut self, entry: Entry) -> bool {
+        match self.named.get_mut(place_of_loss(entry.to, entry.flow)) {
+            Some(named) if *named != 0 => {
+                *named = named.wrapping_sub(1);
+                true
+            }
+            _ => false,
+        }
+    }
+
+    /// Reads what a node named as lost.
+    fn read_named(&mut self, site: &Site) {
+        for loss in site.named.as_slice() {
+            if let Some(named) = self.named.get_mut(place_of_loss(loss.to, loss.flow)) {
+                count(named, 1);
+            }
+        }
     }
 
     /// Reads what came to the node at a point.
@@ -178,4 +226,9 @@ impl Fates {
 fn place_of_flow(entry: Entry) -> usize {
     let pair = entry.from as usize % POINTS * POINTS + entry.to as usize % POINTS;
     pair * FLOWS + entry.flow as usize % FLOWS
+}
+
+/// The place of a destination and a selection among all.
+fn place_of_loss(to: u16, flow: u8) -> usize {
+    to as usize % DESTINATIONS * FLOWS + flow as usize % FLOWS
 }

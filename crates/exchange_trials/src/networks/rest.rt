@@ -58,7 +58,7 @@ fn pass_ticks(network: &mut Network, count: u8) -> bool {
 }
 
 /// A tick passes at each node.
-fn tick_all(network: &mut Network) {
+pub(super) fn tick_all(network: &mut Network) {
     for point in network.shape.points() {
         network.tick(*point, 1);
     }

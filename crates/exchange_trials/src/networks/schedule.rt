@@ -21,7 +21,7 @@ const SEES: usize = 8;
 /// In one of so many runs nodes start again behind a schedule, and another one passes.
 const ANEW: usize = 4;
 
-/// What is thrown.
+/// What is thrown where sets are spared.
 const ODDS: Odds = Odds {
     times: 256,
     throws: [
@@ -36,6 +36,24 @@ const ODDS: Odds = Odds {
         (9, Throw::Reopen),
         (8, Throw::Do(Deed::OpenSecond)),
         (11, Throw::Round),
+    ],
+};
+
+/// What is thrown where whole sets fail.
+const ODDS_OF_ANY_ROUTE: Odds = Odds {
+    times: 256,
+    throws: [
+        (40, Throw::Submit),
+        (62, Throw::Do(Deed::Take)),
+        (62, Throw::Deliver),
+        (1, Throw::Do(Deed::LoseStatus)),
+        (1, Throw::Do(Deed::DoubleStatus)),
+        (3, Throw::Lose),
+        (10, Throw::Tick),
+        (0, Throw::Operate),
+        (24, Throw::Reopen),
+        (28, Throw::Do(Deed::OpenSecond)),
+        (25, Throw::Round),
     ],
 };
 
@@ -68,7 +86,7 @@ fn pass_run(world: &mut World, totals: &mut Totals) {
 /// Some links come up, a schedule passes, all links come back, and frames are carried until nothing moves. It ends well
 /// if nothing does, and all links are in service. Says how many steps the schedule took and how often a node lost a
 /// link in it, and whether it ended well.
-fn pass_schedule(world: &mut World) -> Ending {
+pub(super) fn pass_schedule(world: &mut World) -> Ending {
     open_some(world);
     bring_into_service(&mut world.network);
     world.network.count_anew();
@@ -130,7 +148,12 @@ fn see(world: &mut World) {
 
 /// A throw.
 fn throw_once(world: &mut World) {
-    match thrown(world.network.shape, &mut world.dice, ODDS) {
+    let odds = if world.network.shape.spares_sets() {
+        ODDS
+    } else {
+        ODDS_OF_ANY_ROUTE
+    };
+    match thrown(world.network.shape, &mut world.dice, odds) {
         Some((Throw::Submit, link)) => submit(world, link.here.point),
         Some((what, link)) => {
             play(&mut world.network, &mut world.dice, what, link);

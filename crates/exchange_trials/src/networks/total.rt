@@ -3,7 +3,7 @@
 use super::judge::{Promise, judge};
 use super::rest::fall_to_rest;
 use super::world::World;
-use crate::harness::count;
+use crate::harness::{Words, count};
 use std::io;
 
 /// How a schedule ended.
@@ -28,6 +28,7 @@ pub(super) struct Total {
     pub accepted: u64,
     pub received: u64,
     pub refused: u64,
+    pub named: u64,
     pub judged: u64,
     pub lost: u64,
     pub doubled: u64,
@@ -37,6 +38,8 @@ pub(super) struct Total {
     pub lost_any: u64,
     pub steady: u64,
     pub unended: u64,
+    /// What all nodes did with orders to change over and their answers.
+    pub words: Words,
     /// Whether memory ran out: then not all was done.
     pub starved: bool,
 }
@@ -50,6 +53,7 @@ impl Total {
         count(&mut self.failures, ending.failures);
         for site in world.network.sites.as_slice() {
             count(&mut self.reroutings, site.seen.reroutings);
+            self.words.add(site.words);
         }
         count(&mut self.lost_any, !promise.whole as u64);
         count(&mut self.steady, promise.steady as u64);
@@ -58,8 +62,22 @@ impl Total {
         self.starved |= judge(world, promise, self).is_none();
     }
 
-    /// Prints it.
+    /// Prints it, without the end of the line.
     fn print(&self, rt: &HostRuntime) -> io::Result<()> {
+        self.print_counts(rt)?;
+        self.print_judged(rt, "all once or refused")?;
+        match self.out_of_order {
+            0 => print!(rt; "in order ({})", self.in_order)?,
+            turned => print!(rt; "{turned} out of order ({})", self.in_order)?,
+        }
+        print!(rt;
+            "; lost_any {}, steady {}; unended {}",
+            self.lost_any, self.steady, self.unended
+        )
+    }
+
+    /// Prints what was done, and how many messages there were.
+    pub(super) fn print_counts(&self, rt: &HostRuntime) -> io::Result<()> {
         print!(rt;
             "{} runs, {} steps, {} failures, {} reroutings; ",
             self.runs, self.steps, self.failures, self.reroutings
@@ -67,28 +85,18 @@ impl Total {
         print!(rt;
             "{} submitted, {} accepted, {} received, {} refused in transit; ",
             self.submitted, self.accepted, self.received, self.refused
-        )?;
-        self.print_verdict(rt)?;
-        print!(rt;
-            "; lost_any {}, steady {}; unended {}",
-            self.lost_any, self.steady, self.unended
         )
     }
 
-    /// Prints how many were judged, whether each came once or was refused, and whether those came in order that were
-    /// promised to.
-    fn print_verdict(&self, rt: &HostRuntime) -> io::Result<()> {
+    /// Prints how many were judged, and if all is well this, else what isn't.
+    pub(super) fn print_judged(&self, rt: &HostRuntime, well: &str) -> io::Result<()> {
         let hundred = self.judged.wrapping_mul(100);
         print!(rt; "{}% judged, ", hundred / self.accepted.max(1))?;
         match (self.lost, self.doubled, self.made_up) {
-            (0, 0, 0) => print!(rt; "all once or refused, ")?,
+            (0, 0, 0) => print!(rt; "{well}, "),
             (lost, doubled, made_up) => {
-                print!(rt; "{lost} lost, {doubled} doubled, {made_up} made up, ")?
+                print!(rt; "{lost} lost, {doubled} doubled, {made_up} made up, ")
             }
-        }
-        match self.out_of_order {
-            0 => print!(rt; "in order ({})", self.in_order),
-            turned => print!(rt; "{turned} out of order ({})", self.in_order),
         }
     }
 }
