@@ -46,7 +46,7 @@ pub sum-added : (f g h : ℕ → ℕ) (n : ℕ) → ((k : ℕ) → f k ≡ g k +
 sum-added f g h zero e = refl
 sum-added f g h (suc n) e = omega (arith, sum-added f g h n e, e n)
 
-sum-holds : (f : ℕ → ℕ) (n link : ℕ) → link < n → f link ≤ sum_to f n
+pub sum-holds : (f : ℕ → ℕ) (n link : ℕ) → link < n → f link ≤ sum_to f n
 sum-holds f zero link l = absurd (omega arith)
 sum-holds f (suc n) link l =
     ⊎_elim

@@ -63,6 +63,11 @@ module _ (shape : Shape) (read : Message → Saying) where
   unbroken p none (broken point e) = both e (none point)
   unbroken p none (sound h) = h
 
+  -- from where all laws hold they hold after every list of moves, while no node is broken
+  pub sound-after : (p : Network) (networks : List Network) → Moves shape read p networks → Sound shape read p →
+      ((point : ℕ) → (last_of p networks).broken point ≡ false) → Sound shape read (last_of p networks)
+  sound-after p networks ms h none = unbroken (last_of p networks) none (all-kept p networks ms (sound h))
+
   pub sound-always : (start : Network) (networks : List Network) → IsQuiet read start → Moves shape read start networks →
       ((point : ℕ) → (last_of start networks).broken point ≡ false) → Sound shape read (last_of start networks)
   sound-always start networks quiet ms none =

@@ -1,0 +1,157 @@
+-- Steps of a network that change one node, or the link statuses in flight to it: by moves.
+use Rattle.node_moves.proofs.Basics.{◌≡◌, ◌≢◌, ℕ, Bool, ◌<◌, List, [], ◌++◌, length, Some, refl, ap, sym, subst, ◌∙◌, ⊎_elim, cases_eq}
+use Rattle.node_moves.proofs.Machine.{Network, Shape, line_at, node_at, Move, Moves, last_of}
+use Rattle.node_moves.proofs.Definitions.{Message, Configuration, IsWell, Node, WholeQueues, whole}
+use Rattle.node_moves.proofs.Reading.{IsShape, says_of}
+use Rattle.node_moves.proofs.Shown.{Mid, Shows}
+use Rattle.node_moves.proofs.Going.{IsAt, Goes, goes-both}
+use Rattle.node_moves.proofs.Handling.{mid}
+use Rattle.node_moves.proofs.Own.{K}
+use Rattle.node_moves.proofs.Bringing.{submitted}
+use Rattle.node_moves.proofs.Events.{settles, ticked-goes, down-goes, activate-goes, deactivate-goes, release_bar-goes, added-goes, removed-goes}
+use Rattle.node_moves.proofs.World.{IsFlown, AreStatuses, Shown, rests, at-work, at-rest, place_at}
+use Rattle.node_moves.proofs.Relining.{Leads, leads-none, leads-one, leads-goes, with_line}
+use Rattle.node_moves.proofs.Flights.{IsSameFlight, same-flight, changed-here, changed-other, updated-here, updated-other, only-changed, statuses-changed}
+use Rattle.node_moves.specs.Networks.{NetworkNode, NetworkState, IsNode, changed, happens, takes_in, with_statuses, state_of}
+use Rattle.node_moves.specs.Laws.{AreTheirs, IsUnbroken}
+use Rattle.exchange_rules.specs.Conserving.{brought_in, brought_to}
+unfoldable use Rattle.exchange_rules.specs.Exchange.{apply}
+use Rattle.exchange_rules.specs.Exchange.{handle_event, outcome_of}
+use Rattle.exchange_rules.specs.Messages.{whither_goes}
+use Rattle.exchange_rules.specs.State.{Happening, WentDown, Ticked, Submitted, Activated, Deactivated, Released, TitleAdded, TitleRemoved}
+use Rattle.network_moves.specs.Carrying.{with_statuses_left}
+use Rattle.signalling_types.specs.declared.outcome.Outcome.{Outcome}
+use Rattle.sccp_codec.specs.declared.title.TitleKey.{TitleKey}
+use Rattle.settings_rows.specs.Configuration.{TitleEntry}
+
+pub outcome-same : (c : Configuration) (what : Happening) (n : Node WholeQueues) → outcome_of whole what (record { settings = c; node = n }) ≡ (handle_event whole c what n).outcome
+unfolding apply
+outcome-same c what n = refl
+
+module _ (shape : Shape) (o : IsShape shape) (c : Configuration) (well : IsWell c) where
+  -- what ends an event, after its rule
+  pub event-ends : (what : Happening) (v : Mid) (n : Node WholeQueues) (k : List Message) → Goes shape c v (mid (handle_event whole c what n).left [] [] k) → Goes shape c v (mid (apply whole c what n).left [] [] k)
+  unfolding apply
+  event-ends what v n k e = goes-both shape c v (mid (handle_event whole c what n).left [] [] k) _ e ((settles shape o c well (handle_event whole c what n).left).each [] [] k)
+
+module _ (settings : (point : ℕ) → Configuration) (t : AreTheirs settings) (shape : Shape) (o : IsShape shape) where
+  pub record Reaches (p : Network) (v : NetworkState) : Type 0 where
+    pub networks : List Network
+    pub moves : Moves shape says_of p networks
+    pub broken : (point : ℕ) → (last_of p networks).broken point ≡ p.broken point
+    pub shown : Shown settings t v (last_of p networks)
+
+  pub record StepGoes (w v : NetworkState) : Type 0 where
+    pub unbroken : IsUnbroken settings v → IsUnbroken settings w
+    pub goes : IsUnbroken settings v → (p : Network) → IsAt shape p → Shown settings t w p → Reaches p v
+
+  pub step-none : (w : NetworkState) → StepGoes w w
+  step-none w = record { unbroken = λ e. e; goes = λ e p h s. record { networks = []; moves = tt; broken = λ point. refl; shown = s } }
+
+  -- once a node is at rest
+  pub finish : (p : Network) (w v : NetworkState) (x : ℕ) (u : Mid) → Leads settings t shape o p w x u → u ≡ rests settings t (v.node x) → ((y : ℕ) → y ≢ x → v.node y ≡ w.node y)
+      → ((l : ℕ) → IsSameFlight (w.node x) (v.node x) l) → Reaches p v
+  finish p w v x u l same others flights = record {
+    networks = l.networks;
+    moves = l.moves;
+    broken = l.broken;
+    shown = at-rest settings t v x (last_of p l.networks) (record {
+      here = subst (λ (m : Mid). Shows (settings x) (last_of p l.networks) m) same l.shown.here;
+      others = λ y fy d. subst (λ (e : NetworkNode). Shows (settings y) (last_of p l.networks) (rests settings t e)) (sym (others y d)) (l.shown.others y fy d);
+      flown = λ y i fy k.
+          ⊎_elim
+          (λ (is : y ≡ x).
+          subst (λ (j : ℕ). IsFlown (v.node j) i (line_at (last_of p l.networks) (place_at settings t j i))) (sym is)
+          (same-flight (w.node x) (v.node x) i (line_at (last_of p l.networks) (place_at settings t x i)) (flights i)
+          (subst (λ (j : ℕ). IsFlown (w.node j) i (line_at (last_of p l.networks) (place_at settings t j i))) is (l.shown.flown y i fy k))))
+          (λ (d : y ≢ x). subst (λ (e : NetworkNode). IsFlown e i (line_at (last_of p l.networks) (place_at settings t y i))) (sym (others y d)) (l.shown.flown y i fy k))
+          (cases_eq y x);
+      idle = l.shown.idle;
+    });
+  }
+
+  -- what is broken afterwards was so before, where one node changed
+  pub broken-before : (w v : NetworkState) (x : ℕ) → IsNode settings x → ((y : ℕ) → y ≢ x → v.node y ≡ w.node y) → ((v.node x).node.parts.times_broken ≡ 0 → (w.node x).node.parts.times_broken ≡ 0)
+      → IsUnbroken settings v → IsUnbroken settings w
+  broken-before w v x fx others here none y fy =
+      ⊎_elim
+      (λ (same : y ≡ x). subst (λ (j : ℕ). (w.node j).node.parts.times_broken ≡ 0) (sym same) (here (none x fx)))
+      (λ (d : y ≢ x). subst (λ (e : NetworkNode). e.node.parts.times_broken ≡ 0) (others y d) (none y fy))
+      (cases_eq y x)
+
+  -- ---- an event that nothing in flight brings about
+
+  pub step-by-goes : (w : NetworkState) (x : ℕ) (f : NetworkNode → NetworkNode) → IsNode settings x → ((l : ℕ) → IsSameFlight (w.node x) (f (w.node x)) l)
+      → Goes shape (settings x) (rests settings t (w.node x)) (rests settings t (f (w.node x))) → StepGoes w (changed x f w)
+  step-by-goes w x f fx flights g =
+      let v : NetworkState = changed x f w in
+      let is : v.node x ≡ f (w.node x) = changed-here x f w in
+      record {
+        unbroken = broken-before w v x fx (λ y d. changed-other x f w y d) (λ none. g.unbroken (ap (λ (e : NetworkNode). e.node.parts.times_broken) (sym is) ∙ none));
+        goes = λ none p h s.
+            finish p w v x (rests settings t (f (w.node x)))
+            (leads-goes settings t shape o p w x (rests settings t (w.node x)) (rests settings t (f (w.node x))) fx h
+            (leads-none settings t shape o p w x (rests settings t (w.node x)) (at-work settings t w x p fx s)) g (ap (λ (e : NetworkNode). e.node.parts.times_broken) (sym is) ∙ none x fx))
+            (ap (rests settings t) (sym is)) (λ y d. changed-other x f w y d) (λ l. subst (λ (e : NetworkNode). IsSameFlight (w.node x) e l) (sym is) (flights l));
+      }
+
+  happening : (w : NetworkState) (x : ℕ) (what : Happening) → (fx : IsNode settings x) → K shape o (settings x) (t.well x fx) (w.node x).node (handle_event whole (settings x) what (w.node x).node).left
+      → StepGoes w (changed x (happens (settings x) what) w)
+  happening w x what fx e =
+      step-by-goes w x (happens (settings x) what) fx (λ l. record { user_data = refl; statuses = refl; follows = refl; came = refl })
+      (event-ends shape o (settings x) (t.well x fx) what _ (w.node x).node (w.node x).accepted (e.each [] [] (w.node x).accepted))
+
+  pub loses-step : (w : NetworkState) (x link : ℕ) → IsNode settings x → StepGoes w (changed x (happens (settings x) (WentDown link)) w)
+  loses-step w x link fx = happening w x (WentDown link) fx (down-goes shape o (settings x) (t.well x fx) link (w.node x).node)
+
+  pub ticks-step : (w : NetworkState) (x : ℕ) → IsNode settings x → StepGoes w (changed x (happens (settings x) Ticked) w)
+  ticks-step w x fx = happening w x Ticked fx (ticked-goes shape o (settings x) (t.well x fx) (w.node x).node)
+
+  pub activates-step : (w : NetworkState) (x link : ℕ) (emergency : Bool) → IsNode settings x → StepGoes w (changed x (happens (settings x) (Activated link emergency)) w)
+  activates-step w x link emergency fx = happening w x (Activated link emergency) fx (activate-goes shape o (settings x) (t.well x fx) emergency link (w.node x).node)
+
+  pub deactivates-step : (w : NetworkState) (x link : ℕ) → IsNode settings x → StepGoes w (changed x (happens (settings x) (Deactivated link)) w)
+  deactivates-step w x link fx = happening w x (Deactivated link) fx (deactivate-goes shape o (settings x) (t.well x fx) link (w.node x).node)
+
+  pub releases-step : (w : NetworkState) (x link : ℕ) → IsNode settings x → StepGoes w (changed x (happens (settings x) (Released link)) w)
+  releases-step w x link fx = happening w x (Released link) fx (release_bar-goes shape o (settings x) (t.well x fx) link (w.node x).node)
+
+  pub adds-step : (w : NetworkState) (x : ℕ) (row : TitleEntry) (refused : Bool) → IsNode settings x → StepGoes w (changed x (happens (settings x) (TitleAdded row refused)) w)
+  adds-step w x row refused fx = happening w x (TitleAdded row refused) fx (added-goes shape o (settings x) (t.well x fx) row refused (w.node x).node)
+
+  pub removes-step : (w : NetworkState) (x : ℕ) (key : TitleKey) (digits : List ℕ) → IsNode settings x → StepGoes w (changed x (happens (settings x) (TitleRemoved key digits)) w)
+  removes-step w x key digits fx = happening w x (TitleRemoved key digits) fx (removed-goes shape o (settings x) (t.well x fx) key digits (w.node x).node)
+
+  -- a user part hands a message over
+  pub submits-step : (w : NetworkState) (x : ℕ) (m : Message) → IsNode settings x → StepGoes w (changed x (takes_in (settings x) (Submitted m)) w)
+  submits-step w x m fx =
+      let c : Configuration = settings x in
+      let e : NetworkNode = w.node x in
+      step-by-goes w x (takes_in c (Submitted m)) fx (λ l. record { user_data = refl; statuses = refl; follows = refl; came = refl })
+      (event-ends shape o c (t.well x fx) (Submitted m) _ e.node (e.accepted ++ brought_in (Submitted m) (state_of c e))
+      (subst (λ (r : Outcome). Goes shape c (mid e.node [] [] e.accepted) (mid (handle_event whole c (Submitted m) e.node).left [] [] (e.accepted ++ brought_to (whither_goes c m) r c m e.node))) (sym (outcome-same c (Submitted m) e.node))
+      (submitted shape o c (t.well x fx) (whither_goes c m) e.node m [] [] e.accepted refl)))
+
+  -- ---- link statuses that are lost, or come twice
+
+  pub statuses-step : (w : NetworkState) (x link : ℕ) (text : List ℕ) (left : List (List ℕ)) → IsNode settings x → link < length (settings x).links
+      → ((p : Network) → Shown settings t w p → (count : ℕ) × AreStatuses left count
+      × Move shape says_of p (with_line shape p (place_at settings t x link) (with_statuses_left (line_at p (place_at settings t x link)) count) (node_at shape p (place_at settings t x link))))
+      → StepGoes w (changed x (with_statuses (Some text) link left) w)
+  statuses-step w x link text left fx inside f =
+      let g : NetworkNode → NetworkNode = with_statuses (Some text) link left in
+      let v : NetworkState = changed x g w in
+      let is : v.node x ≡ g (w.node x) = changed-here x g w in
+      record {
+        unbroken = broken-before w v x fx (λ y d. changed-other x g w y d) (λ none. ap (λ (e : NetworkNode). e.node.parts.times_broken) (sym is) ∙ none);
+        goes = λ none p h s.
+            let it : (count : ℕ) × AreStatuses left count
+            × Move shape says_of p (with_line shape p (place_at settings t x link) (with_statuses_left (line_at p (place_at settings t x link)) count) (node_at shape p (place_at settings t x link))) = f p s in
+            finish p v v x (rests settings t (w.node x))
+            (leads-one settings t shape o p _ v x (rests settings t (w.node x)) it.2 (λ point. refl)
+            (statuses-changed settings t shape o w v x link (rests settings t (w.node x)) p it.0 fx inside (at-work settings t w x p fx s)
+            (only-changed settings t shape o w x link g (λ l d. record { user_data = refl; statuses = updated-other (w.node x).statuses link left l d; follows = refl; came = refl }))
+            (ap (λ (e : NetworkNode). e.user_data link) is) (ap (λ (e : NetworkNode). e.follows link) is) (ap (λ (e : NetworkNode). e.came link) is)
+            (subst (λ (xs : List (List ℕ)). AreStatuses xs it.0) (sym (ap (λ (e : NetworkNode). e.statuses link) is ∙ updated-here (w.node x).statuses link left)) it.1)))
+            (ap (rests settings t) (sym is)) (λ y d. refl) (λ l. record { user_data = refl; statuses = refl; follows = refl; came = refl });
+      }

@@ -1,0 +1,82 @@
+-- The node law of exchanges in a network.
+use Rattle.std.specs.Prelude.{◌≡◌, ◌<◌, ◌≤◌, ◌+◌, ◌-◌, ◌^◌, ◌&&◌, ℕ, Bool, true, not, nat_lt, List, [], length, drop, min, count_by, Option, Some, None, is_some}
+use Rattle.signalling_types.specs.Message.{Message, is_management}
+use Rattle.signalling_types.specs.declared.limits.TheConstants.Limits.{SIF_OCTETS}
+use Rattle.settings.specs.Well.{IsWell}
+use Rattle.settings_rows.specs.Configuration.{Configuration}
+use Rattle.exchange_rules.specs.Queues.{queue_at}
+use Rattle.network_moves.specs.Networks.{sum_to}
+use Rattle.node_moves.specs.Networks.{NetworkState, LinkEnd, Step, IsNode, other_end, after_steps, first_network}
+
+-- user messages are those of which nodes take in: of service indicators 2 to 15, and no longer than a signalling
+-- information field
+abbrev pub is_user : Message → Bool
+is_user m = not (nat_lt SIF_OCTETS (length m.sif)) && not (is_management m)
+
+-- how many user messages of a list pass a test
+abbrev pub users_that : (Message → Bool) → List Message → ℕ
+users_that test ms = count_by (λ m. is_user m && test m) ms
+
+-- the most that a node counts
+abbrev pub most : ℕ
+most = 2 ^ 64 - 1
+
+-- ---- what becomes of the messages that a node accepted
+
+module _ (settings : (point : ℕ) → Configuration) (w : NetworkState) where
+  -- what came by a link to the other end of it, and how many messages that accepted since the link opened
+  abbrev pub came_by : Option LinkEnd → List Message
+  came_by (Some there) = (w.node there.point).came there.link
+  came_by None = []
+
+  abbrev pub received_by : Option LinkEnd → ℕ
+  received_by (Some there) = (queue_at (w.node there.point).node.queues there.link).received
+  received_by None = 0
+
+  -- the messages of a link that the other end hasn't
+  abbrev pub waiting_on : (point link : ℕ) → List Message
+  waiting_on point link =
+      drop (received_by (other_end settings point link)) (queue_at (w.node point).node.queues link).all
+
+  module _ (test : Message → Bool) (point : ℕ) where
+    abbrev pub accepted_at : ℕ
+    accepted_at = users_that test (w.node point).accepted
+
+    -- to a neighbour, by any of the node's links
+    abbrev pub came_from : ℕ
+    came_from =
+        sum_to (λ link. users_that test (came_by (other_end settings point link))) (length (settings point).links)
+
+    -- in Held, or on a link
+    abbrev pub waits_at : ℕ
+    waits_at =
+        users_that test (w.node point).node.queues.held
+        + sum_to (λ link. users_that test (waiting_on point link)) (length (settings point).links)
+
+    -- and what of it neither came nor waits
+    abbrev pub gone_at : ℕ
+    gone_at = accepted_at - (came_from + waits_at)
+
+  -- of every kind of user messages, each that a node accepted came to a neighbour once, by one link; or waits; or is
+  -- gone. And no more are gone than the node counts as named in notices of loss (`messages_lost`)
+  pub record EndsOnce (point : ℕ) : Type 0 where
+    pub once : (test : Message → Bool) →
+        accepted_at test point ≡ came_from test point + waits_at test point + gone_at test point
+    pub named : (test : Message → Bool) → min (gone_at test point) most ≤ (w.node point).node.parts.messages_lost
+
+  -- no node is broken: none awaited an answer no longer that hadn't come, nor heard a number that names no count
+  abbrev pub IsUnbroken : Type 0
+  IsUnbroken = (point : ℕ) → IsNode settings point → (w.node point).node.parts.times_broken ≡ 0
+
+-- each node is at its point, its settings are checked, and each of its links has another end
+pub record AreTheirs (settings : (point : ℕ) → Configuration) : Type 0 where
+  pub own : (point : ℕ) → IsNode settings point → (settings point).own ≡ point
+  pub well : (point : ℕ) → IsNode settings point → IsWell (settings point)
+  pub joined : (point link : ℕ) → IsNode settings point → link < length (settings point).links →
+      is_some (other_end settings point link) ≡ true
+
+abbrev pub each_message_ends_once : Type 0
+each_message_ends_once =
+    (settings : (point : ℕ) → Configuration) (steps : List Step) (point : ℕ) → AreTheirs settings → IsNode settings point →
+    IsUnbroken settings (after_steps settings steps (first_network settings)) →
+    EndsOnce settings (after_steps settings steps (first_network settings)) point
