@@ -32,3 +32,10 @@ pub mod Outgoing
 pub mod Sending
 pub mod Running
 pub mod Ending
+pub mod Mated
+pub mod LaidOut
+pub mod Unheld
+pub mod Offering
+pub mod Delivered
+pub mod MatedRun
+pub mod ByTheMate

@@ -1,2 +1,4 @@
 pub mod Networks
 pub mod Laws
+pub mod MatedPair
+pub mod MatedRun
