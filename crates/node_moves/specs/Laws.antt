@@ -1,5 +1,6 @@
 -- The node law of exchanges in a network.
-use Rattle.std.specs.Prelude.{◌≡◌, ◌<◌, ◌≤◌, ◌+◌, ◌-◌, ◌^◌, ◌&&◌, ℕ, Bool, true, not, nat_lt, List, [], length, drop, min, count_by, Option, Some, None, is_some}
+use Rattle.std.specs.Prelude.{◌≡◌, ◌<◌, ◌≤◌, ◌+◌, ◌-◌, ◌^◌, ◌&&◌, ℕ, Bool, true, not, nat_lt, List, [], length, drop}
+use Rattle.std.specs.Prelude.{min, count_by, Option, Some, None, is_some}
 use Rattle.signalling_types.specs.Message.{Message, is_management}
 use Rattle.signalling_types.specs.declared.limits.TheConstants.Limits.{SIF_OCTETS}
 use Rattle.settings.specs.Well.{IsWell}
@@ -77,6 +78,6 @@ pub record AreTheirs (settings : (point : ℕ) → Configuration) : Type 0 where
 
 abbrev pub each_message_ends_once : Type 0
 each_message_ends_once =
-    (settings : (point : ℕ) → Configuration) (steps : List Step) (point : ℕ) → AreTheirs settings → IsNode settings point →
-    IsUnbroken settings (after_steps settings steps (first_network settings)) →
+    (settings : (point : ℕ) → Configuration) (steps : List Step) (point : ℕ) → AreTheirs settings →
+    IsNode settings point → IsUnbroken settings (after_steps settings steps (first_network settings)) →
     EndsOnce settings (after_steps settings steps (first_network settings)) point

@@ -12,7 +12,9 @@ use Rattle.exchange_rules.specs.ChangingOver.{changeover_of}
 use Rattle.exchange_rules.specs.State.{down, lost_any}
 use Rattle.node_moves.specs.Laws.{AreTheirs, IsUnbroken, waits_at}
 use Rattle.node_moves.specs.MatedPair.{mated}
-use Rattle.node_moves.specs.Networks.{NetworkNode, NetworkState, LinkEnd, Doing, Submits, Takes, Delivers, DeliversStatus, Loses, Ticks, OpensFirst, OpensSecond, Step, after_steps, first_network}
+use Rattle.node_moves.specs.Networks.{NetworkNode, NetworkState, LinkEnd, Doing, Submits, Takes, Delivers}
+use Rattle.node_moves.specs.Networks.{DeliversStatus, Loses, Ticks, OpensFirst, OpensSecond, Step, after_steps}
+use Rattle.node_moves.specs.Networks.{first_network}
 
 -- two messages of the ISDN user part from point 1 to point 3, with selection 0
 abbrev pub message_one : Message
@@ -76,7 +78,8 @@ fails l = done_at l.here Loses ∷ done_at l.there Loses ∷ []
 -- what waits at each end goes out, a frame of each
 abbrev pub round : List Step
 round =
-    sends direct ++ sends (turned direct) ++ sends onward ++ sends (turned onward) ++ sends cross ++ sends (turned cross)
+    sends direct ++ sends (turned direct) ++ sends onward ++ sends (turned onward) ++ sends cross
+    ++ sends (turned cross)
 
 -- all that the nodes tell each other of routes comes
 abbrev pub settling : List Step

@@ -1,6 +1,7 @@
 -- A network of nodes of any shape, with whatever routes: what is done at one of them, and the frames in flight between
 -- them (RFC 4165 §4.1.2).
-use Rattle.std.specs.Prelude.{◌≡◌, ◌&&◌, ℕ, Bool, true, false, nat_eq, nat_lt, List, [], ◌∷◌, ◌++◌, drop, length, take, Option, Some, None, slice_get, option_to_list, if◌then◌else◌}
+use Rattle.std.specs.Prelude.{◌≡◌, ◌&&◌, ℕ, Bool, true, false, nat_eq, nat_lt, List, [], ◌∷◌, ◌++◌, drop, length}
+use Rattle.std.specs.Prelude.{take, Option, Some, None, slice_get, option_to_list, if◌then◌else◌}
 use Rattle.std.specs.Option.{option_map}
 use Rattle.signalling_types.specs.Message.{Message}
 use Rattle.settings_rows.specs.Configuration.{Configuration, TitleEntry}
@@ -19,7 +20,8 @@ use Rattle.exchange_rules.specs.Queues.{WholeQueues, whole}
 use Rattle.exchange_rules.specs.Receiving.{new_message}
 use Rattle.exchange_rules.specs.Routing.{entry_of, peer_of}
 use Rattle.exchange_rules.specs.Sending.{frame_taken, after_take}
-use Rattle.exchange_rules.specs.State.{Happening, CameUp, WentDown, FrameCame, Ticked, Submitted, Activated, Deactivated, Released, TitleAdded, TitleRemoved, Node, down}
+use Rattle.exchange_rules.specs.State.{Happening, CameUp, WentDown, FrameCame, Ticked, Submitted, Activated}
+use Rattle.exchange_rules.specs.State.{Deactivated, Released, TitleAdded, TitleRemoved, Node, down}
 
 -- a node: its exchange; what is in flight to it on each link, on two streams, the first that went out first; on which
 -- links it may follow the other end, which opened first; all messages that it accepted, whoever sent them; and all that

@@ -1,19 +1,21 @@
-//! What holds in each network that steps reach from the first (`specs/Networks.antt`), of any shape and with any routes.
+//! What holds in each network that steps reach from the first (`specs/Networks.antt`), of any shape and with any
+//! routes.
 
 ghost use Rattle.node_moves.specs.Laws.{each_message_ends_once};
 ghost use Rattle.node_moves.specs.MatedRun.{ComesByTheMate};
 
-/// The node law. While no node is broken: of each kind of user messages, those that a node accepted came to a neighbour
-/// once, by one link; or wait, in Held or on a link; or are gone. And no more are gone than the node names in notices of
-/// loss.
+/// The node law. While no node is broken: of each kind of user messages, those that a node accepted came to a
+/// neighbour once, by one link; or wait, in Held or on a link; or are gone. And no more are gone than the node names in
+/// notices of loss.
 pub fn each_message_of_a_node_ends_once()
     ensures { each_message_ends_once }
 {}
 
-/// The law isn't of nothing. Of a mated pair and two points that it transfers for, whose orders to change over go by any
-/// route: the only link between one of the pair and one of the points fails, with a message on it that came and wasn't
-/// confirmed, and one that didn't come. The orders and the answers go by the mate, and so does the second message. Each
-/// comes once, nothing is broken or lost, and the link may open again. The settings and the run are what the law asks.
+/// The law isn't of nothing. Of a mated pair and two points that it transfers for, whose orders to change over go by
+/// any route: the only link between one of the pair and one of the points fails, with a message on it that came and
+/// wasn't confirmed, and one that didn't come. The orders and the answers go by the mate, and so does the second
+/// message. Each comes once, nothing is broken or lost, and the link may open again. The settings and the run are what
+/// the law asks.
 pub fn messages_come_by_the_mate()
     ensures { ComesByTheMate }
 {}
