@@ -1,4 +1,4 @@
--- The keys of the table `serve`, each with the first fault of its value.
+-- The table `serve` and its keys, each with the first fault of its value.
 use Rattle.std.specs.Prelude.{ℕ, ℤ, pos, negsuc, Bool, false, List, [], ◌∷◌, ◌&&◌, ◌||◌, Option, Some, None}
 use Rattle.std.specs.Prelude.{Result, Ok, Err, if◌then◌else◌, bytes_eq, codes, nat_le, nat_lt}
 use Rattle.std.specs.declared.net.socket_addr.SocketAddr.{SocketAddr}
@@ -12,7 +12,7 @@ use Rattle.settings_file.specs.declared.serve.fault.ServeFault.{ServeFault}
 use Rattle.settings_file.specs.declared.serve.fault.ServeFault.TheVariants.{Missing, Kind, Range, Duplicate}
 use Rattle.settings_file.specs.Addresses.{Spelling, is_loopback, is_address_of}
 use Rattle.settings_file.specs.ServeKeys.{key_name, found_at}
-use Rattle.settings_file.specs.Shapes.{and_then, value_at, integer_in, truth_in, text_in}
+use Rattle.settings_file.specs.Shapes.{and_then, value_at, integer_in, truth_in, text_in, table_in}
 
 -- an address, whose port isn't 0
 abbrev pub with_port : ServeKey → Option SocketAddr → Result SocketAddr ServeFault
@@ -36,6 +36,10 @@ number_or key least most usual (Some d) = and_then (integer_in (Kind key) d) (nu
 abbrev pub truth_or : ServeKey → (usual : Bool) → Option Data → Result Bool ServeFault
 truth_or key usual None = Ok usual
 truth_or key usual (Some d) = truth_in (Kind key) d
+
+-- the table `serve` of a file
+unfoldable pub serve_at : Members → Result Members ServeFault
+serve_at t = and_then (value_at (key_name key.Serve) (Missing key.Serve) t) (table_in (Kind key.Serve))
 
 -- how long a tick is: 10 to 10,000 ms
 unfoldable pub tick_ms_at : Members → Result ℕ ServeFault

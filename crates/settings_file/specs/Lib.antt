@@ -5,6 +5,9 @@ pub mod Places
 pub mod NodeKeys
 pub mod Written
 pub mod Entries
+pub mod Durations
+pub mod Ticks
+pub mod Timers
 pub mod Document
 pub mod Parsed
 pub mod Reading

@@ -9,21 +9,17 @@ use Rattle.settings_file.specs.declared.fault.SettingsFault.{SettingsFault}
 use Rattle.settings_file.specs.declared.fault.SettingsFault.TheVariants as found
 use Rattle.settings_file.specs.declared.serve.key.ServeKey.TheVariants.{Serve, Console}
 use Rattle.settings_file.specs.declared.serve.fault.ServeFault.{ServeFault}
-use Rattle.settings_file.specs.declared.serve.fault.ServeFault.TheVariants.{Settings, Missing, Kind}
+use Rattle.settings_file.specs.declared.serve.fault.ServeFault.TheVariants.{Settings, Missing}
 use Rattle.settings_file.specs.Addresses.{Spelling}
 use Rattle.settings_file.specs.ServeFaults.{fault_of}
-use Rattle.settings_file.specs.ServeKeys.{key_name, found_at}
-use Rattle.settings_file.specs.Shapes.{and_then, value_at, table_in}
-use Rattle.settings_file.specs.Keyed.{tick_ms_at, console_open_at, is_open, capture_at, points_at}
+use Rattle.settings_file.specs.ServeKeys.{found_at}
+use Rattle.settings_file.specs.Shapes.{and_then}
+use Rattle.settings_file.specs.Keyed.{serve_at, tick_ms_at, console_open_at, is_open, capture_at, points_at}
 use Rattle.settings_file.specs.Keyed.{udp_at, page_open_at, page_at}
 use Rattle.settings_file.specs.Consoles.{Place, address_of, console_at}
 use Rattle.settings_file.specs.Times.{times_at}
 use Rattle.settings_file.specs.Endpoints.{endpoints_at}
 use Rattle.settings_file.specs.Served.{Served}
-
--- the table `serve` of a file
-unfoldable pub serve_at : Members → Result Members ServeFault
-serve_at t = and_then (value_at (key_name Serve) (Missing Serve) t) (table_in (Kind Serve))
 
 -- what a file says of its server: the keys in this order, and the first fault among them is the file's
 unfoldable pub document : Spelling → Members → Result Served ServeFault

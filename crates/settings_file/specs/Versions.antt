@@ -30,6 +30,7 @@ has_joined version =
 abbrev pub has_extensions : ℤ → Bool
 has_extensions version = int_eq version THIRD_VERSION || int_eq version LAST_VERSION
 
--- whether a file of this version may ask that an order to change over goes out by any route
+-- whether a file of this version may ask that an order to change over goes out by any route, may have durations, and
+-- may leave out timers, which then run as usual
 abbrev pub has_additions : ℤ → Bool
 has_additions version = int_eq version LAST_VERSION

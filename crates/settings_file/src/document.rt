@@ -15,6 +15,7 @@ use crate::documents::parse;
 use crate::fault::SettingsFault;
 use crate::limits::FirstLimits;
 use crate::node_keys::{integer, integers, truth};
+use crate::ticks::clock_of;
 use crate::timers::timers;
 use crate::versions::{
     has_additions, has_extensions, has_joined, is_first_version, is_known_version,
@@ -139,7 +140,8 @@ fn contents(alloc: Global, table: &Table) -> Result<Document, SettingsFault>
     let users = integers(alloc, table, Key::Users)?;
     let subsystems = integers(alloc, table, Key::Subsystems)?;
     let services = asked_services(numbers.has_extensions(), numbers.has_additions(), table)?;
-    let timers = timers(numbers.has_extensions(), numbers.has_additions(), table)?;
+    let clock = clock_of(numbers.has_additions(), table);
+    let timers = timers(numbers.has_extensions(), clock, table)?;
     let sets = sets(alloc, table)?;
     let links = links(alloc, numbers.has_extensions(), table)?;
     let destinations = destinations(alloc, numbers.has_joined(), table)?;

@@ -15,7 +15,7 @@ pub struct KeyRow {
     pub entry: Option<usize>,
     /// The key in its entry; empty for the entry itself, and for a key that is in no array.
     pub name: &'static str,
-    /// The type of the value.
+    /// The type of the value; in a file of the last version, if versions differ.
     pub kind: &'static str,
     /// What a value of this type must be; in a file of the last version, if versions differ.
     pub demand: &'static str,
@@ -63,7 +63,15 @@ const POINT: &str = "0 to 16383";
 
 const FAR_POINT: &str = "0 to 16383, and not the node's own";
 
-const TICKS: &str = "1 to 65535";
+/// What the value of a timer is where there are durations.
+const TICKS_OR_DURATION: &str = "an integer, or a duration such as \"1.5s\"";
+
+/// What a timer must be where there are durations.
+const TICKS: &str =
+    "1 to 65535, or a duration of that many ticks such as \"800ms\", \"1.5s\" or \"2min\"";
+
+/// What a timer must be in versions without durations.
+pub(crate) const TICKS_ALONE: &str = "1 to 65535";
 
 const BAR_TICKS: &str = "more than timers.t2, and at most 65535";
 
@@ -140,8 +148,8 @@ fn lone_row(key: Key) -> KeyRow
         Key::OutOfService => lone_key("out_of_service", TRUTH, ""),
         Key::ChangeoverByAnyRoute => lone_key("changeover_by_any_route", TRUTH, ""),
         Key::Timers => lone_key("timers", TABLE, ""),
-        Key::Timer(TimerKey::T2Bar) => lone_key("timers.t2_bar", INTEGER, BAR_TICKS),
-        Key::Timer(timer) => lone_key(timer.path(), INTEGER, TICKS),
+        Key::Timer(TimerKey::T2Bar) => lone_key("timers.t2_bar", TICKS_OR_DURATION, BAR_TICKS),
+        Key::Timer(timer) => lone_key(timer.path(), TICKS_OR_DURATION, TICKS),
         Key::Set => lone_key("set", TABLES, "1 to 32"),
         Key::Link => lone_key("link", TABLES, "1 to 64"),
         Key::Destination => lone_key("destination", TABLES, "1 to 4096"),

@@ -5,6 +5,7 @@
 mod arrays;
 mod document;
 mod documents;
+mod durations;
 pub mod fault;
 mod key_rows;
 mod known_keys;
@@ -15,6 +16,7 @@ mod places;
 mod sentences;
 pub mod serve;
 mod shapes;
+mod ticks;
 mod timers;
 mod unknown;
 mod values;

@@ -4,9 +4,11 @@ ghost use Rattle.std.specs.Prelude.{◌≡◌, Some, IfOk, string_bytes};
 ghost use Rattle.settings_rows.specs.declared.key.Key.{Key};
 ghost use Rattle.settings_file.specs.Sentences.{IsAbout, Names, key_of};
 
-use crate::key_rows::{KeyRow, key_row};
+use crate::key_rows::{INTEGER, KeyRow, TICKS_ALONE, key_row};
+use crate::known_keys::{has_since, version_of};
 use crate::phrases::{missing, must_be, value_is};
 use crate::places::{about, value_at};
+use crate::versions::Since;
 use crate::{SettingsFault, versions};
 use settings::{DraftFault, FaultKind, Key};
 use std::alloc::{AllocError, Global};
@@ -30,6 +32,7 @@ pub fn sentence(
         return format!(in alloc; "{file}: out of memory\n");
     };
     let row = KeyRow {
+        kind: kind(document, key),
         demand: demand(document, key),
         ..key_row(key)
     };
@@ -49,13 +52,27 @@ fn key_of(fault: SettingsFault) -> Option<Key>
     }
 }
 
+/// The type of the value of a key in this file, as its version says.
+fn kind(document: &Table, key: Key) -> &'static str {
+    match key {
+        Key::Timer(_) if !has_additions(document) => INTEGER,
+        _ => key_row(key).kind,
+    }
+}
+
 /// What the value of a key must be in this file, as its version says.
 fn demand(document: &Table, key: Key) -> &'static str {
     match key {
         Key::Window if is_first_version(document) => "1 to 4096 in version 1",
         Key::Destination if is_first_version(document) => "1 to 1024 in version 1",
+        Key::Timer(_) if !has_additions(document) => TICKS_ALONE,
         _ => key_row(key).demand,
     }
+}
+
+/// Whether a file has what version 4 brought.
+fn has_additions(document: &Table) -> bool {
+    has_since(version_of(document), Since::Fourth)
 }
 
 /// Whether a file is of the first version.

@@ -16,9 +16,11 @@ pub mod server;
 mod times;
 
 pub use console_place::ConsolePlace;
+pub(crate) use document::serve_in;
 pub use document::{check_server, read, read_console, read_server};
 pub use fault::ServeFault;
 pub use key::ServeKey;
+pub(crate) use keys::tick_ms;
 pub use sctp::{Remote, SctpTimes};
 pub use sentences::sentence;
 pub use server::{Endpoint, ServeSettings};

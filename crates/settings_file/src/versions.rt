@@ -15,7 +15,7 @@ const SECOND_VERSION: i64 = 2;
 /// changed titles, and timers of tests and of emergency proving.
 const THIRD_VERSION: i64 = 3;
 
-/// The version that brought orders to change over by any route, and bars of T2.
+/// The version that brought orders to change over by any route, bars of T2, durations, and usual times of timers.
 const LAST_VERSION: i64 = 4;
 
 /// The version that brought a key: the first, the second, the third or the last.
@@ -62,7 +62,7 @@ pub(crate) fn has_extensions(version: i64) -> bool
     version == THIRD_VERSION || version == LAST_VERSION
 }
 
-/// Whether a file of this version has the keys that version 4 brought.
+/// Whether a file of this version has what version 4 brought: its keys, durations, and usual times of timers.
 pub(crate) fn has_additions(version: i64) -> bool
     ensures { result ≡ has_additions version }
 {

@@ -8,8 +8,9 @@ ghost use Rattle.settings_file.specs.Reading.{IsReadAs};
 ghost use Rattle.settings_file.specs.Addresses.{Spelling};
 ghost use Rattle.settings_file.specs.Faults.{Answers};
 ghost use Rattle.settings_file.specs.ServeFaults.{AnswersOrNoMemory};
-ghost use Rattle.settings_file.specs.ServeReading.{serve_at, document, checked, console_told, reading, IsFirstFault};
+ghost use Rattle.settings_file.specs.ServeReading.{document, checked, console_told, reading, IsFirstFault};
 ghost use Rattle.settings_file.specs.Consoles.{place_of};
+ghost use Rattle.settings_file.specs.Keyed.{serve_at};
 
 use crate::serve::console_place::{ConsolePlace, address_of, kept};
 use crate::serve::endpoints::endpoints;
@@ -27,8 +28,8 @@ use std::alloc::{AllocError, Global};
 use toml::Table;
 
 /// The table `serve` of a file.
-#[tactic(auto, unfolding(crate::specs::ServeReading::serve_at))]
-fn serve_in(table: &Table) -> Result<&Table, ServeFault>
+#[tactic(auto, unfolding(crate::specs::Keyed::serve_at))]
+pub(crate) fn serve_in(table: &Table) -> Result<&Table, ServeFault>
     ensures { Answers (λ serve. table_view serve.now) (serve_at (table_view table.now)) result }
 {
     let value = value(
