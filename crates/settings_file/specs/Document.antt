@@ -8,7 +8,7 @@ use Rattle.settings_file.specs.declared.document.Numbers.{Numbers}
 use Rattle.settings_file.specs.declared.document.Services.{Services}
 use Rattle.settings_file.specs.Versions.{has_joined, has_extensions, has_additions}
 use Rattle.settings_file.specs.Shapes.{and_then}
-use Rattle.settings_file.specs.NodeKeys.{integer_at, integers_at, truth_at}
+use Rattle.settings_file.specs.NodeKeys.{integer_at, point_at, integers_if_any_at, truth_at}
 use Rattle.settings_file.specs.Written.{Written}
 use Rattle.settings_file.specs.Entries.{sets_at, links_at, destinations_at, titles_at}
 use Rattle.settings_file.specs.Ticks.{clock_of}
@@ -18,7 +18,7 @@ use Rattle.settings_file.specs.Timers.{timers_at}
 unfoldable pub numbers_at : Members → Result Numbers SettingsFault
 numbers_at t =
     and_then (integer_at key.Version t) (λ version.
-    and_then (integer_at key.Own t) (λ own.
+    and_then (point_at (has_additions version) key.Own t) (λ own.
     and_then (integer_at key.Network t) (λ network.
     and_then (integer_at key.Window t) (λ window.
     and_then (integer_at key.Pool t) (λ pool.
@@ -52,14 +52,14 @@ pub record Document : Type 0 where
 unfoldable pub document : Members → Result Document SettingsFault
 document t =
     and_then (numbers_at t) (λ numbers.
-    and_then (integers_at key.Users t) (λ users.
-    and_then (integers_at key.Subsystems t) (λ subsystems.
+    and_then (integers_if_any_at (has_additions numbers.version) key.Users t) (λ users.
+    and_then (integers_if_any_at (has_additions numbers.version) key.Subsystems t) (λ subsystems.
     and_then (services_at (has_extensions numbers.version) (has_additions numbers.version) t) (λ services.
     and_then (timers_at (has_extensions numbers.version) (clock_of (has_additions numbers.version) t) t) (λ timers.
-    and_then (sets_at t) (λ sets.
+    and_then (sets_at (has_additions numbers.version) t) (λ sets.
     and_then (links_at (has_extensions numbers.version) t) (λ links.
-    and_then (destinations_at (has_joined numbers.version) t) (λ destinations.
-    and_then (titles_at (has_extensions numbers.version) t) (λ titles.
+    and_then (destinations_at (has_joined numbers.version) (has_additions numbers.version) t) (λ destinations.
+    and_then (titles_at (has_extensions numbers.version) (has_additions numbers.version) t) (λ titles.
     Ok (record {
       version = numbers.version;
       settings = record {

@@ -7,16 +7,17 @@ use Rattle.settings_rows.specs.declared.key.Key.TheVariants as key
 use Rattle.settings_file.specs.declared.fault.SettingsFault.{SettingsFault}
 use Rattle.settings_file.specs.declared.fault.SettingsFault.TheVariants.{Missing, Kind}
 use Rattle.settings_file.specs.NodeKeys.{found_at, integer_at, optional_integer_at, truth_at, text_at, optional_text_at}
+use Rattle.settings_file.specs.NodeKeys.{point_at, optional_point_at}
 use Rattle.settings_file.specs.NodeKeys.{texts_at, entries_at}
 use Rattle.settings_file.specs.Shapes.{and_then, each, table_in, array_in, integer_in}
 use Rattle.settings_file.specs.Written.{WrittenSet, WrittenLink, WrittenDestination, WrittenChange, WrittenTitle}
 
 -- a link set: its name and its adjacent point
-unfoldable pub set_in : ℕ → Data → Result WrittenSet SettingsFault
-set_in i d =
+unfoldable pub set_in : (has_texts : Bool) → ℕ → Data → Result WrittenSet SettingsFault
+set_in has_texts i d =
     and_then (table_in (Kind (key.SetEntry i)) d) (λ t.
     and_then (text_at (key.SetName i) t) (λ name.
-    and_then (integer_at (key.SetAdjacent i) t) (λ adjacent.
+    and_then (point_at has_texts (key.SetAdjacent i) t) (λ adjacent.
     Ok (record { name = name; adjacent = adjacent }))))
 
 -- a link: its name, the name of its set, its signalling link code and its share of the pool, which may be left out
@@ -30,10 +31,10 @@ link_entry_in has_share i d =
     Ok (record { name = name; set = set; slc = slc; share = share }))))))
 
 -- a destination: its point, the names of the sets that lead to it, and whether the first two are joined
-unfoldable pub destination_in : (has_joined : Bool) → ℕ → Data → Result WrittenDestination SettingsFault
-destination_in has_joined i d =
+unfoldable pub destination_in : (has_joined has_texts : Bool) → ℕ → Data → Result WrittenDestination SettingsFault
+destination_in has_joined has_texts i d =
     and_then (table_in (Kind (key.DestinationEntry i)) d) (λ t.
-    and_then (integer_at (key.DestinationPoint i) t) (λ point.
+    and_then (point_at has_texts (key.DestinationPoint i) t) (λ point.
     and_then (texts_at (key.DestinationSets i) t) (λ sets.
     and_then (truth_at has_joined (key.DestinationJoined i) t) (λ joined.
     Ok (record { point = point; sets = sets; joined = joined })))))
@@ -59,15 +60,15 @@ change_at has_keys i t =
 
 -- a translation row, in a file whose version has the keys of backups and of changed titles, or doesn't have them: there
 -- they are ignored
-unfoldable pub title_in : (has_extensions : Bool) → ℕ → Data → Result WrittenTitle SettingsFault
-title_in has_extensions i d =
+unfoldable pub title_in : (has_extensions has_texts : Bool) → ℕ → Data → Result WrittenTitle SettingsFault
+title_in has_extensions has_texts i d =
     and_then (table_in (Kind (key.TitleEntry i)) d) (λ t.
     and_then (integer_at (key.TitleTranslation i) t) (λ translation.
     and_then (integer_at (key.TitlePlan i) t) (λ plan.
     and_then (integer_at (key.TitleNature i) t) (λ nature.
     and_then (text_at (key.TitleDigits i) t) (λ digits.
-    and_then (integer_at (key.TitlePoint i) t) (λ point.
-    and_then (optional_integer_at has_extensions (key.TitleBackup i) t) (λ backup.
+    and_then (point_at has_texts (key.TitlePoint i) t) (λ point.
+    and_then (optional_point_at has_extensions has_texts (key.TitleBackup i) t) (λ backup.
     and_then (text_at (key.TitleRoute i) t) (λ route.
     and_then (ssn_at i route t) (λ ssn.
     and_then (change_at has_extensions i t) (λ change.
@@ -84,19 +85,20 @@ title_in has_extensions i d =
     })))))))))))
 
 -- the arrays of a file, of which only that of translation rows may be left out or empty
-unfoldable pub sets_at : Members → Result (List WrittenSet) SettingsFault
-sets_at t = and_then (entries_at key.Set t) (each set_in 0)
+unfoldable pub sets_at : (has_texts : Bool) → Members → Result (List WrittenSet) SettingsFault
+sets_at has_texts t = and_then (entries_at key.Set t) (each (set_in has_texts) 0)
 
 unfoldable pub links_at : (has_share : Bool) → Members → Result (List WrittenLink) SettingsFault
 links_at has_share t = and_then (entries_at key.Link t) (each (link_entry_in has_share) 0)
 
-unfoldable pub destinations_at : (has_joined : Bool) → Members → Result (List WrittenDestination) SettingsFault
-destinations_at has_joined t =
-    and_then (entries_at key.Destination t) (each (destination_in has_joined) 0)
+unfoldable pub destinations_at : (has_joined has_texts : Bool) → Members → Result (List WrittenDestination) SettingsFault
+destinations_at has_joined has_texts t =
+    and_then (entries_at key.Destination t) (each (destination_in has_joined has_texts) 0)
 
-abbrev pub titles_in : (has_extensions : Bool) → Option Data → Result (List WrittenTitle) SettingsFault
-titles_in has_extensions None = Ok []
-titles_in has_extensions (Some d) = and_then (array_in (Kind key.Title) d) (each (title_in has_extensions) 0)
+abbrev pub titles_in : (has_extensions has_texts : Bool) → Option Data → Result (List WrittenTitle) SettingsFault
+titles_in has_extensions has_texts None = Ok []
+titles_in has_extensions has_texts (Some d) =
+    and_then (array_in (Kind key.Title) d) (each (title_in has_extensions has_texts) 0)
 
-unfoldable pub titles_at : (has_extensions : Bool) → Members → Result (List WrittenTitle) SettingsFault
-titles_at has_extensions t = titles_in has_extensions (found_at key.Title t)
+unfoldable pub titles_at : (has_extensions has_texts : Bool) → Members → Result (List WrittenTitle) SettingsFault
+titles_at has_extensions has_texts t = titles_in has_extensions has_texts (found_at key.Title t)

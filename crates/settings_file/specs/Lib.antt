@@ -2,10 +2,11 @@ pub mod Versions
 pub mod Faults
 pub mod Shapes
 pub mod Places
+pub mod Durations
+pub mod PointTexts
 pub mod NodeKeys
 pub mod Written
 pub mod Entries
-pub mod Durations
 pub mod Ticks
 pub mod Timers
 pub mod Document

@@ -1,8 +1,10 @@
 -- The values of the node's keys: each is missing, of another type, or what is read.
 use Rattle.std.specs.Prelude.{ℕ, ℤ, Bool, false, List, [], ◌∷◌, Option, Some, None, Result, Ok, Err, if◌then◌else◌}
-use Rattle.toml.specs.Data.{Data, Members, get_member}
+use Rattle.std.specs.Prelude.{◌&&◌, not, is_some}
+use Rattle.toml.specs.Data.{Data, Members, get_member, as_str}
 use Rattle.settings_rows.specs.declared.key.Key.{Key}
 use Rattle.settings_file.specs.Places.{key_name}
+use Rattle.settings_file.specs.PointTexts.{point_said}
 use Rattle.settings_file.specs.Shapes.{and_then, each, value_at, integer_in, truth_in, text_in, array_in}
 use Rattle.settings_file.specs.declared.fault.SettingsFault.{SettingsFault}
 use Rattle.settings_file.specs.declared.fault.SettingsFault.TheVariants.{Missing, Kind}
@@ -35,6 +37,25 @@ integer_if_any key (Some d) = and_then (integer_in (Kind key) d) (λ n. Ok (Some
 unfoldable pub optional_integer_at : (has_key : Bool) → Key → Members → Result (Option ℤ) SettingsFault
 optional_integer_at has_key key t = if has_key then integer_if_any key (found_at key t) else Ok None
 
+-- the point that a value says: its integer; in a file that has texts of points, a text too
+abbrev pub point_or_said : Key → Option (List ℕ) → Data → Result ℤ SettingsFault
+point_or_said key (Some text) d = Ok (point_said text)
+point_or_said key None d = integer_in (Kind key) d
+
+unfoldable pub point_in : (has_texts : Bool) → Key → Data → Result ℤ SettingsFault
+point_in has_texts key d = if has_texts then point_or_said key (as_str d) d else integer_in (Kind key) d
+
+unfoldable pub point_at : (has_texts : Bool) → Key → Members → Result ℤ SettingsFault
+point_at has_texts key t = and_then (required_at key t) (point_in has_texts key)
+
+-- a point that may be left out, at a key that the version of the file has, or doesn't have: there it is ignored
+abbrev pub point_if_any : (has_texts : Bool) → Key → Option Data → Result (Option ℤ) SettingsFault
+point_if_any has_texts key None = Ok None
+point_if_any has_texts key (Some d) = and_then (point_in has_texts key d) (λ n. Ok (Some n))
+
+unfoldable pub optional_point_at : (has_key has_texts : Bool) → Key → Members → Result (Option ℤ) SettingsFault
+optional_point_at has_key has_texts key t = if has_key then point_if_any has_texts key (found_at key t) else Ok None
+
 -- a text that may be left out, and is empty then
 abbrev pub text_or_empty : Key → Option Data → Result (List ℕ) SettingsFault
 text_or_empty key None = Ok []
@@ -50,6 +71,11 @@ text_at key t = and_then (required_at key t) (text_in (Kind key))
 unfoldable pub integers_at : Key → Members → Result (List ℤ) SettingsFault
 integers_at key t =
     and_then (required_at key t) (λ d. and_then (array_in (Kind key) d) (each (λ _. integer_in (Kind key)) 0))
+
+-- the same list at a key that may be left out, in some versions: it is empty then
+unfoldable pub integers_if_any_at : (may_miss : Bool) → Key → Members → Result (List ℤ) SettingsFault
+integers_if_any_at may_miss key t =
+    if may_miss && not (is_some (found_at key t)) then Ok [] else integers_at key t
 
 -- the list of texts at a key; the fault of an entry is one of the list
 unfoldable pub texts_at : Key → Members → Result (List (List ℕ)) SettingsFault

@@ -11,21 +11,22 @@ ghost use Rattle.settings_file.specs.Entries.{sets_at, links_at, destinations_at
 
 use crate::fault::SettingsFault;
 use crate::node_keys::{
-    entries, found_at, integer, optional_integer, optional_text, text, texts, truth,
+    entries, found_at, integer, optional_integer, optional_point, optional_text, point, text,
+    texts, truth,
 };
 use crate::shapes::{array_in, integer_in, table_in};
 use settings::{ChangeDraft, DestinationDraft, Key, LinkDraft, SetDraft, TitleDraft};
 use std::alloc::Global;
 use toml::{Table, Value};
 
-/// A link set.
+/// A link set, in a file whose version has texts of points or doesn't have them.
 #[tactic(auto, unfolding(crate::specs::Entries::set_in))]
-fn set(alloc: Global, i: usize, value: &Value) -> Result<SetDraft, SettingsFault>
-    ensures { AnswersOrNoMemory set_written (set_in i (view value.now)) result }
+fn set(alloc: Global, has_texts: bool, i: usize, value: &Value) -> Result<SetDraft, SettingsFault>
+    ensures { AnswersOrNoMemory set_written (set_in has_texts i (view value.now)) result }
 {
     let table = table_in(value, SettingsFault::Kind(Key::SetEntry(i)))?;
     let name = text(alloc, table, Key::SetName(i))?;
-    let adjacent = integer(table, Key::SetAdjacent(i))?;
+    let adjacent = point(has_texts, table, Key::SetAdjacent(i))?;
     Ok(SetDraft { name, adjacent })
 }
 
@@ -47,18 +48,19 @@ fn link(alloc: Global, has_share: bool, i: usize, value: &Value) -> Result<LinkD
     })
 }
 
-/// A destination, in a file whose version has the key `joined` or doesn't have it.
+/// A destination, in a file whose version has the key `joined` and texts of points or doesn't have them.
 #[tactic(auto, unfolding(crate::specs::Entries::destination_in))]
 fn destination(
     alloc: Global,
     has_joined: bool,
+    has_texts: bool,
     i: usize,
     value: &Value,
 ) -> Result<DestinationDraft, SettingsFault>
-    ensures { AnswersOrNoMemory destination_written (destination_in has_joined i (view value.now)) result }
+    ensures { AnswersOrNoMemory destination_written (destination_in has_joined has_texts i (view value.now)) result }
 {
     let table = table_in(value, SettingsFault::Kind(Key::DestinationEntry(i)))?;
-    let point = integer(table, Key::DestinationPoint(i))?;
+    let point = point(has_texts, table, Key::DestinationPoint(i))?;
     let sets = texts(alloc, table, Key::DestinationSets(i))?;
     let joined = truth(has_joined, table, Key::DestinationJoined(i))?;
     Ok(DestinationDraft {
@@ -103,23 +105,25 @@ fn change(
     })
 }
 
-/// A translation row, in a file whose version has the keys of backups and changed titles or doesn't have them.
+/// A translation row, in a file whose version has the keys of backups and changed titles, and texts of points, or
+/// doesn't have them.
 #[tactic(auto, unfolding(crate::specs::Entries::title_in))]
 fn title(
     alloc: Global,
     has_extensions: bool,
+    has_texts: bool,
     i: usize,
     value: &Value,
 ) -> Result<TitleDraft, SettingsFault>
-    ensures { AnswersOrNoMemory title_written (title_in has_extensions i (view value.now)) result }
+    ensures { AnswersOrNoMemory title_written (title_in has_extensions has_texts i (view value.now)) result }
 {
     let table = table_in(value, SettingsFault::Kind(Key::TitleEntry(i)))?;
     let translation = integer(table, Key::TitleTranslation(i))?;
     let plan = integer(table, Key::TitlePlan(i))?;
     let nature = integer(table, Key::TitleNature(i))?;
     let digits = text(alloc, table, Key::TitleDigits(i))?;
-    let point = integer(table, Key::TitlePoint(i))?;
-    let backup = optional_integer(has_extensions, table, Key::TitleBackup(i))?;
+    let point = point(has_texts, table, Key::TitlePoint(i))?;
+    let backup = optional_point(has_extensions, has_texts, table, Key::TitleBackup(i))?;
     let route = text(alloc, table, Key::TitleRoute(i))?;
     let ssn = ssn(table, i, route.as_str())?;
     let change = change(alloc, has_extensions, i, table)?;
@@ -137,13 +141,17 @@ fn title(
 }
 
 /// The link sets that values are.
-fn each_set(alloc: Global, values: &[Value]) -> Result<Vec<SetDraft>, SettingsFault>
+fn each_set(
+    alloc: Global,
+    has_texts: bool,
+    values: &[Value],
+) -> Result<Vec<SetDraft>, SettingsFault>
     ensures { AnswersOrNoMemory (λ sets. map set_written sets.items)
-        (each set_in 0 (map view values.now)) result }
+        (each (set_in has_texts) 0 (map view values.now)) result }
 {
     let mut sets = Vec::with_capacity(alloc, values.len())?;
     for i in 0..values.len() {
-        let set = set(alloc, i, &values[i])?;
+        let set = set(alloc, has_texts, i, &values[i])?;
         sets.push(set)?;
     }
     Ok(sets)
@@ -170,14 +178,15 @@ fn each_link(
 fn each_destination(
     alloc: Global,
     has_joined: bool,
+    has_texts: bool,
     values: &[Value],
 ) -> Result<Vec<DestinationDraft>, SettingsFault>
     ensures { AnswersOrNoMemory (λ destinations. map destination_written destinations.items)
-        (each (destination_in has_joined) 0 (map view values.now)) result }
+        (each (destination_in has_joined has_texts) 0 (map view values.now)) result }
 {
     let mut destinations = Vec::with_capacity(alloc, values.len())?;
     for i in 0..values.len() {
-        let destination = destination(alloc, has_joined, i, &values[i])?;
+        let destination = destination(alloc, has_joined, has_texts, i, &values[i])?;
         destinations.push(destination)?;
     }
     Ok(destinations)
@@ -187,27 +196,32 @@ fn each_destination(
 fn each_title(
     alloc: Global,
     has_extensions: bool,
+    has_texts: bool,
     values: &[Value],
 ) -> Result<Vec<TitleDraft>, SettingsFault>
     ensures { AnswersOrNoMemory (λ titles. map title_written titles.items)
-        (each (title_in has_extensions) 0 (map view values.now)) result }
+        (each (title_in has_extensions has_texts) 0 (map view values.now)) result }
 {
     let mut titles = Vec::with_capacity(alloc, values.len())?;
     for i in 0..values.len() {
-        let title = title(alloc, has_extensions, i, &values[i])?;
+        let title = title(alloc, has_extensions, has_texts, i, &values[i])?;
         titles.push(title)?;
     }
     Ok(titles)
 }
 
-/// The link sets of a file.
+/// The link sets of a file, whose version has texts of points or doesn't have them.
 #[tactic(auto, unfolding(crate::specs::Entries::sets_at))]
-pub(crate) fn sets(alloc: Global, table: &Table) -> Result<Vec<SetDraft>, SettingsFault>
+pub(crate) fn sets(
+    alloc: Global,
+    has_texts: bool,
+    table: &Table,
+) -> Result<Vec<SetDraft>, SettingsFault>
     ensures { AnswersOrNoMemory (λ sets. map set_written sets.items)
-        (sets_at (table_view table.now)) result }
+        (sets_at has_texts (table_view table.now)) result }
 {
     let values = entries(table, Key::Set)?;
-    each_set(alloc, values)
+    each_set(alloc, has_texts, values)
 }
 
 /// The links of a file, whose version has the key `share` or doesn't have it.
@@ -224,35 +238,37 @@ pub(crate) fn links(
     each_link(alloc, has_share, values)
 }
 
-/// The destinations of a file, whose version has the key `joined` or doesn't have it.
+/// The destinations of a file, whose version has the key `joined` and texts of points or doesn't have them.
 #[tactic(auto, unfolding(crate::specs::Entries::destinations_at))]
 pub(crate) fn destinations(
     alloc: Global,
     has_joined: bool,
+    has_texts: bool,
     table: &Table,
 ) -> Result<Vec<DestinationDraft>, SettingsFault>
     ensures { AnswersOrNoMemory (λ destinations. map destination_written destinations.items)
-        (destinations_at has_joined (table_view table.now)) result }
+        (destinations_at has_joined has_texts (table_view table.now)) result }
 {
     let values = entries(table, Key::Destination)?;
-    each_destination(alloc, has_joined, values)
+    each_destination(alloc, has_joined, has_texts, values)
 }
 
-/// The translation rows of a file, which may have none, and whose version has the keys of changed titles or doesn't
-/// have them.
+/// The translation rows of a file, which may have none, and whose version has the keys of changed titles, and texts of
+/// points, or doesn't have them.
 #[tactic(auto, unfolding(crate::specs::Entries::titles_at))]
 pub(crate) fn titles(
     alloc: Global,
     has_extensions: bool,
+    has_texts: bool,
     table: &Table,
 ) -> Result<Vec<TitleDraft>, SettingsFault>
     ensures { AnswersOrNoMemory (λ titles. map title_written titles.items)
-        (titles_at has_extensions (table_view table.now)) result }
+        (titles_at has_extensions has_texts (table_view table.now)) result }
 {
     match found_at(table, Key::Title) {
         Some(value) => {
             let values = array_in(value, SettingsFault::Kind(Key::Title))?;
-            each_title(alloc, has_extensions, values)
+            each_title(alloc, has_extensions, has_texts, values)
         }
         None => Ok(Vec::new(alloc)),
     }

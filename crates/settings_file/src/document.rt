@@ -14,7 +14,7 @@ use crate::arrays::{destinations, links, sets, titles};
 use crate::documents::parse;
 use crate::fault::SettingsFault;
 use crate::limits::FirstLimits;
-use crate::node_keys::{integer, integers, truth};
+use crate::node_keys::{integer, integers_if_any, point, truth};
 use crate::ticks::clock_of;
 use crate::timers::timers;
 use crate::versions::{
@@ -102,9 +102,10 @@ impl Document {
 fn leading_numbers(table: &Table) -> Result<Numbers, SettingsFault>
     ensures { result ≡ numbers_at (table_view table.now) }
 {
+    let version = integer(table, Key::Version)?;
     Ok(Numbers {
-        version: integer(table, Key::Version)?,
-        own: integer(table, Key::Own)?,
+        version,
+        own: point(has_additions(version), table, Key::Own)?,
         network: integer(table, Key::Network)?,
         window: integer(table, Key::Window)?,
         pool: integer(table, Key::Pool)?,
@@ -137,15 +138,16 @@ fn contents(alloc: Global, table: &Table) -> Result<Document, SettingsFault>
         (document (table_view table.now)) result }
 {
     let numbers = leading_numbers(table)?;
-    let users = integers(alloc, table, Key::Users)?;
-    let subsystems = integers(alloc, table, Key::Subsystems)?;
-    let services = asked_services(numbers.has_extensions(), numbers.has_additions(), table)?;
-    let clock = clock_of(numbers.has_additions(), table);
+    let additions = numbers.has_additions();
+    let users = integers_if_any(alloc, additions, table, Key::Users)?;
+    let subsystems = integers_if_any(alloc, additions, table, Key::Subsystems)?;
+    let services = asked_services(numbers.has_extensions(), additions, table)?;
+    let clock = clock_of(additions, table);
     let timers = timers(numbers.has_extensions(), clock, table)?;
-    let sets = sets(alloc, table)?;
+    let sets = sets(alloc, additions, table)?;
     let links = links(alloc, numbers.has_extensions(), table)?;
-    let destinations = destinations(alloc, numbers.has_joined(), table)?;
-    let titles = titles(alloc, numbers.has_extensions(), table)?;
+    let destinations = destinations(alloc, numbers.has_joined(), additions, table)?;
+    let titles = titles(alloc, numbers.has_extensions(), additions, table)?;
     Ok(Document {
         version: numbers.version,
         draft: Draft {

@@ -111,7 +111,7 @@ fn first_behind(text: &[u8]) -> Option<usize>
 }
 
 /// The number of these digits, one at least.
-fn number_in(digits: &[u8]) -> Option<u64>
+pub(crate) fn number_in(digits: &[u8]) -> Option<u64>
     ensures value { result ≡ number_in digits.now }
     ensures below { IfSome result (λ number. number ≤ 9999999) }
 {

@@ -59,9 +59,19 @@ const TABLES: &str = "an array of tables";
 
 const NAME: &str = "1 to 16 of a to z, 0 to 9 and -";
 
-const POINT: &str = "0 to 16383";
+/// What the value of a point is where there are texts of points.
+const POINT_KIND: &str = "a point, such as 4237 or \"2-17-5\"";
 
-const FAR_POINT: &str = "0 to 16383, and not the node's own";
+const POINT: &str = "a point from 0 to 16383, or from \"0-0-0\" to \"7-255-7\"";
+
+const FAR_POINT: &str =
+    "another point than the node, from 0 to 16383, or from \"0-0-0\" to \"7-255-7\"";
+
+/// What a point must be in versions without texts of points.
+pub(crate) const POINT_ALONE: &str = "0 to 16383";
+
+/// The same of another point than the node.
+pub(crate) const FAR_POINT_ALONE: &str = "0 to 16383, and not the node's own";
 
 /// What the value of a timer is where there are durations.
 const TICKS_OR_DURATION: &str = "an integer, or a duration such as \"1.5s\"";
@@ -101,14 +111,14 @@ pub(crate) fn key_row(key: Key) -> KeyRow
     match key {
         Key::SetEntry(i) => entry_key("set", i, "", TABLE, ""),
         Key::SetName(i) => entry_key("set", i, "name", TEXT, NAME),
-        Key::SetAdjacent(i) => entry_key("set", i, "adjacent", INTEGER, FAR_POINT),
+        Key::SetAdjacent(i) => entry_key("set", i, "adjacent", POINT_KIND, FAR_POINT),
         Key::LinkEntry(i) => entry_key("link", i, "", TABLE, ""),
         Key::LinkName(i) => entry_key("link", i, "name", TEXT, NAME),
         Key::LinkSet(i) => entry_key("link", i, "set", TEXT, NAME),
         Key::LinkSlc(i) => entry_key("link", i, "slc", INTEGER, "0 to 15"),
         Key::LinkShare(i) => entry_key("link", i, "share", INTEGER, "1 to 65535"),
         Key::DestinationEntry(i) => entry_key("destination", i, "", TABLE, ""),
-        Key::DestinationPoint(i) => entry_key("destination", i, "point", INTEGER, FAR_POINT),
+        Key::DestinationPoint(i) => entry_key("destination", i, "point", POINT_KIND, FAR_POINT),
         Key::DestinationSets(i) => entry_key("destination", i, "sets", TEXTS, SET_NAMES),
         Key::DestinationJoined(i) => entry_key("destination", i, "joined", TRUTH, ALONE),
         Key::TitleEntry(i) => entry_key("title", i, "", TABLE, ""),
@@ -116,8 +126,8 @@ pub(crate) fn key_row(key: Key) -> KeyRow
         Key::TitlePlan(i) => entry_key("title", i, "plan", INTEGER, PLAN),
         Key::TitleNature(i) => entry_key("title", i, "nature", INTEGER, NATURE),
         Key::TitleDigits(i) => entry_key("title", i, "digits", TEXT, DIGITS),
-        Key::TitlePoint(i) => entry_key("title", i, "point", INTEGER, POINT),
-        Key::TitleBackup(i) => entry_key("title", i, "backup", INTEGER, POINT),
+        Key::TitlePoint(i) => entry_key("title", i, "point", POINT_KIND, POINT),
+        Key::TitleBackup(i) => entry_key("title", i, "backup", POINT_KIND, POINT),
         Key::TitleRoute(i) => entry_key("title", i, "route", TEXT, "\"title\" or \"ssn\""),
         Key::TitleSsn(i) => entry_key("title", i, "ssn", INTEGER, "1 to 255"),
         Key::TitleNewPlan(i) => entry_key("title", i, "new_plan", INTEGER, PLAN),
@@ -135,7 +145,7 @@ fn lone_row(key: Key) -> KeyRow
 {
     match key {
         Key::Version => lone_key("version", INTEGER, "1, 2, 3 or 4"),
-        Key::Own => lone_key("own", INTEGER, POINT),
+        Key::Own => lone_key("own", POINT_KIND, POINT),
         Key::Network => lone_key("network", INTEGER, "0 to 3"),
         Key::Window => lone_key("window", INTEGER, "1 to 16384"),
         Key::Pool => lone_key("pool", INTEGER, "1 to 65535"),

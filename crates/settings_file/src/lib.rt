@@ -13,6 +13,7 @@ pub mod limits;
 mod node_keys;
 mod phrases;
 mod places;
+mod point_texts;
 mod sentences;
 pub mod serve;
 mod shapes;

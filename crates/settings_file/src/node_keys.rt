@@ -7,9 +7,11 @@ ghost use Rattle.settings_file.specs.Faults.{Answers, AnswersOrNoMemory};
 ghost use Rattle.settings_file.specs.Shapes.{integer_in, text_in, each};
 ghost use Rattle.settings_file.specs.NodeKeys.{found_at, required_at, integer_at, truth_at, text_at};
 ghost use Rattle.settings_file.specs.NodeKeys.{optional_integer_at, optional_text_at, integers_at, texts_at, entries_at};
+ghost use Rattle.settings_file.specs.NodeKeys.{point_in, point_at, optional_point_at, integers_if_any_at};
 
 use crate::fault::SettingsFault;
 use crate::key_rows::key_name;
+use crate::point_texts::point_said;
 use crate::shapes::{array_in, found, integer_in, text_in, truth_in, value};
 use settings::Key;
 use std::alloc::Global;
@@ -67,6 +69,45 @@ pub(crate) fn optional_integer(
     }
     match found_at(table, key) {
         Some(value) => Ok(Some(integer_in(value, SettingsFault::Kind(key))?)),
+        None => Ok(None),
+    }
+}
+
+/// The point that a value says, in a file whose version has texts of points or doesn't have them.
+#[tactic(auto, unfolding(crate::specs::NodeKeys::point_in))]
+fn point_in(has_texts: bool, value: &Value, key: Key) -> Result<i64, SettingsFault>
+    ensures { result ≡ point_in has_texts key (view value.now) }
+{
+    match value.as_str() {
+        Some(text) if has_texts => Ok(point_said(text)),
+        _ => integer_in(value, SettingsFault::Kind(key)),
+    }
+}
+
+/// The point at a key.
+#[tactic(auto, unfolding(crate::specs::NodeKeys::point_at))]
+pub(crate) fn point(has_texts: bool, table: &Table, key: Key) -> Result<i64, SettingsFault>
+    ensures { result ≡ point_at has_texts key (table_view table.now) }
+{
+    let value = required(table, key)?;
+    point_in(has_texts, value, key)
+}
+
+/// The point at a key, which may be left out. If the file's version doesn't have the key it is ignored.
+#[tactic(auto, unfolding(crate::specs::NodeKeys::optional_point_at))]
+pub(crate) fn optional_point(
+    has_key: bool,
+    has_texts: bool,
+    table: &Table,
+    key: Key,
+) -> Result<Option<i64>, SettingsFault>
+    ensures { result ≡ optional_point_at has_key has_texts key (table_view table.now) }
+{
+    if !has_key {
+        return Ok(None);
+    }
+    match found_at(table, key) {
+        Some(value) => Ok(Some(point_in(has_texts, value, key)?)),
         None => Ok(None),
     }
 }
@@ -133,13 +174,30 @@ fn each_text(alloc: Global, values: &[Value], key: Key) -> Result<Vec<String>, S
 
 /// The list of integers at a key.
 #[tactic(auto, unfolding(crate::specs::NodeKeys::integers_at))]
-pub(crate) fn integers(alloc: Global, table: &Table, key: Key) -> Result<Vec<i64>, SettingsFault>
+fn integers(alloc: Global, table: &Table, key: Key) -> Result<Vec<i64>, SettingsFault>
     ensures { AnswersOrNoMemory (λ integers. integers.items)
         (integers_at key (table_view table.now)) result }
 {
     let value = required(table, key)?;
     let values = array_in(value, SettingsFault::Kind(key))?;
     each_integer(alloc, values, key)
+}
+
+/// The list of integers at a key, which may be left out if the file's version says so, and is empty then.
+#[tactic(auto, unfolding(crate::specs::NodeKeys::integers_if_any_at))]
+pub(crate) fn integers_if_any(
+    alloc: Global,
+    may_miss: bool,
+    table: &Table,
+    key: Key,
+) -> Result<Vec<i64>, SettingsFault>
+    ensures { AnswersOrNoMemory (λ integers. integers.items)
+        (integers_if_any_at may_miss key (table_view table.now)) result }
+{
+    if may_miss && found_at(table, key).is_none() {
+        return Ok(Vec::new(alloc));
+    }
+    integers(alloc, table, key)
 }
 
 /// The list of texts at a key.

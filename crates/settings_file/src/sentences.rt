@@ -4,7 +4,7 @@ ghost use Rattle.std.specs.Prelude.{◌≡◌, Some, IfOk, string_bytes};
 ghost use Rattle.settings_rows.specs.declared.key.Key.{Key};
 ghost use Rattle.settings_file.specs.Sentences.{IsAbout, Names, key_of};
 
-use crate::key_rows::{INTEGER, KeyRow, TICKS_ALONE, key_row};
+use crate::key_rows::{FAR_POINT_ALONE, INTEGER, KeyRow, POINT_ALONE, TICKS_ALONE, key_row};
 use crate::known_keys::{has_since, version_of};
 use crate::phrases::{missing, must_be, value_is};
 use crate::places::{about, value_at};
@@ -55,7 +55,13 @@ fn key_of(fault: SettingsFault) -> Option<Key>
 /// The type of the value of a key in this file, as its version says.
 fn kind(document: &Table, key: Key) -> &'static str {
     match key {
-        Key::Timer(_) if !has_additions(document) => INTEGER,
+        Key::Timer(_)
+        | Key::Own
+        | Key::SetAdjacent(_)
+        | Key::DestinationPoint(_)
+        | Key::TitlePoint(_)
+        | Key::TitleBackup(_)
+            if !has_additions(document) => { INTEGER }
         _ => key_row(key).kind,
     }
 }
@@ -66,6 +72,12 @@ fn demand(document: &Table, key: Key) -> &'static str {
         Key::Window if is_first_version(document) => "1 to 4096 in version 1",
         Key::Destination if is_first_version(document) => "1 to 1024 in version 1",
         Key::Timer(_) if !has_additions(document) => TICKS_ALONE,
+        Key::Own | Key::TitlePoint(_) | Key::TitleBackup(_) if !has_additions(document) => {
+            POINT_ALONE
+        }
+        Key::SetAdjacent(_) | Key::DestinationPoint(_) if !has_additions(document) => {
+            FAR_POINT_ALONE
+        }
         _ => key_row(key).demand,
     }
 }
@@ -115,7 +127,7 @@ fn at_key(
         FaultKind::Range | FaultKind::TooMany => must_be(alloc, value, row.demand),
         FaultKind::Duplicate if value.is_array() => String::from_str(alloc, "has an entry twice"),
         FaultKind::Duplicate => value_is(alloc, value, "which another entry has too"),
-        FaultKind::UnknownName if value.is_integer() => value_is(
+        FaultKind::UnknownName if row.name == "adjacent" => value_is(
             alloc,
             value,
             "and no [[destination]] of this point names this set first",
