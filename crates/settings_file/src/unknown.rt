@@ -1,6 +1,6 @@
 //! Keys of a settings file that no table knows.
 
-ghost use Rattle.std.specs.Prelude.{◌≡◌, IfOk, OnOk, string_bytes};
+ghost use Rattle.std.specs.Prelude.{◌≡◌, ◌<◌, IfOk, OnOk, string_bytes};
 ghost use Rattle.settings_file.specs.Warnings.{Ignored, warning, AreWarnings, IsSoFar, GoesOn};
 
 use crate::known_keys::{arrays, has_key, has_since, sctp, serve, timers, top, version_of};
@@ -21,13 +21,17 @@ const OCTETS_PER_EDIT: usize = 3;
 struct WarningText<'a> {
     file: &'a str,
     version: Option<i64>,
+    /// The latest version of which the file has a key, as far as that was told.
+    told: u8,
     text: String,
     count: usize,
 }
 
 /// A warning for each of the first 20 keys that no table knows of the document that a settings file of
 /// this name is. It names the nearest known key, if one is near: `node.toml: windw is ignored; the
-/// nearest key is window`, `node.toml: colour is ignored: no such key`. Each ends with a line feed.
+/// nearest key is window`, `node.toml: colour is ignored: no such key`. Of the keys that came with a later version than
+/// the document's, one tells it: `node.toml: out_of_service is ignored: it needs version = 3`. Each ends with a line
+/// feed.
 ///
 /// `AllocError` if memory ran out.
 pub fn warnings(alloc: Global, file: &str, document: &Table) -> Result<String, AllocError>
@@ -36,6 +40,7 @@ pub fn warnings(alloc: Global, file: &str, document: &Table) -> Result<String, A
     let mut warnings = WarningText {
         file,
         version: version_of(document),
+        told: Since::First.number(),
         text: String::new(alloc),
         count: 0,
     };
@@ -139,7 +144,8 @@ impl WarningText<'_> {
         Ok(())
     }
 
-    /// Warns of a key, unless there are enough warnings.
+    /// Warns of a key, unless there are enough warnings. Of the keys that came with one version, or with those before it,
+    /// only the first is told.
     fn add(
         &mut self,
         alloc: Global,
@@ -153,10 +159,81 @@ impl WarningText<'_> {
         if self.count >= MOST_WARNINGS {
             return Ok(());
         }
-        let warning = warning(alloc, self.file, self.version, front, key, known)?;
-        self.count += 1;
-        self.text.push_str(warning.as_str())
+        match since_of(known, key) {
+            Some(since) => self.add_later(alloc, front, key, since.number()),
+            None => self.add_unknown(alloc, front, key, known),
+        }
     }
+
+    /// Warns of a key that came with a later version than the file has, unless that version, or one behind it, was told.
+    fn add_later(
+        &mut self,
+        alloc: Global,
+        front: &str,
+        key: &str,
+        version: u8,
+    ) -> Result<(), AllocError>
+        requires so_far { IsSoFar self.old }
+        requires room { self.old.count < 20 }
+        ensures { OnOk result (GoesOn self.old self.new) }
+    {
+        if version <= self.told {
+            return Ok(());
+        }
+        let warning = later_warning(alloc, self.file, front, key, version)?;
+        self.told = version;
+        self.push(warning.as_str())
+    }
+
+    /// Warns of a key that no version knows.
+    fn add_unknown(
+        &mut self,
+        alloc: Global,
+        front: &str,
+        key: &str,
+        known: &[(&str, Since)],
+    ) -> Result<(), AllocError>
+        requires so_far { IsSoFar self.old }
+        requires room { self.old.count < 20 }
+        ensures { OnOk result (GoesOn self.old self.new) }
+    {
+        let warning = warning(alloc, self.file, self.version, front, key, known)?;
+        self.push(warning.as_str())
+    }
+
+    /// Puts a warning behind the others.
+    fn push(&mut self, line: &str) -> Result<(), AllocError>
+        requires so_far { IsSoFar self.old }
+        requires room { self.old.count < 20 }
+        requires line { (i : Ignored) × (line.now ≡ warning self.old.file.now i) }
+        ensures { OnOk result (GoesOn self.old self.new) }
+    {
+        self.count += 1;
+        self.text.push_str(line)
+    }
+}
+
+/// The version that brought a key, if it is one of these.
+fn since_of(known: &[(&str, Since)], key: &str) -> Option<Since> {
+    for (name, since) in known {
+        if *name == key {
+            return Some(*since);
+        }
+    }
+    None
+}
+
+/// The warning of a key that came with a version, whose path begins like this.
+fn later_warning(
+    alloc: Global,
+    file: &str,
+    front: &str,
+    key: &str,
+    version: u8,
+) -> Result<String, AllocError>
+    ensures { IfOk result (λ text. (i : Ignored) × (string_bytes text ≡ warning file.now i)) }
+{
+    format!(in alloc; "{file}: {front}{key} is ignored: it needs version = {version}\n")
 }
 
 /// The warning of a key, whose path begins like this.

@@ -31,6 +31,18 @@ pub(crate) enum Since {
     Fourth,
 }
 
+impl Since {
+    /// The number of the version.
+    pub(crate) fn number(self) -> u8 {
+        match self {
+            Since::First => 1,
+            Since::Second => 2,
+            Since::Third => 3,
+            Since::Fourth => 4,
+        }
+    }
+}
+
 /// Whether this is the first version.
 pub(crate) fn is_first_version(version: i64) -> bool
     ensures { result ≡ int_eq version FIRST_VERSION }

@@ -2,7 +2,7 @@
 use Rattle.settings_file.proofs.Basics.{arith, refl, ◌≡◌, ◌≤◌, ◌++◌, ◌+◌, ◌∙◌, ℕ, List, [], ◌∷◌, ap, sym, append_assoc, append-nil, length-append, string_bytes, Result, Ok, Err, Ignored, warning, warnings_of, HasWarned, IsSoFar, GoesOn}
 use Rattle.std.specs.Prelude.{OnOk, is_ok, if◌then◌else◌}
 use Rattle.settings_file.specs.declared.unknown.WarningText.{WarningText}
-use Rattle.settings_file.proofs.unknown.WarningText.add.Goals as goal
+use Rattle.settings_file.proofs.unknown.WarningText.push.Goals as goal
 
 warnings-more : (file : List ℕ) (ignored : List Ignored) (i : Ignored)
     → warnings_of file (ignored ++ i ∷ []) ≡ warnings_of file ignored ++ warning file i
@@ -34,5 +34,5 @@ more-pushed (Ok x) old new line i f n few l t h = record {
 more-pushed (Err e) old new line i f n few l t h = tt
 
 pub returns : goal.returns
-returns c = more-pushed c.push_str.result c.args.self.now _ c.as_str.result.now c.in_ok-warning.ensures.0 refl refl
-    (omega (arith, c.if-self-ge-MOST_WARNINGS.false)) (rw c.as_str.ensures.value c.in_ok-warning.ensures.1) c.push_str.ensures.bytes c.requires
+returns c = more-pushed c.push_str.result c.args.self.now _ c.args.line.now c.requires.line.0 refl refl
+    (omega (arith, c.requires.room)) c.requires.line.1 c.push_str.ensures.bytes c.requires.so_far
