@@ -9,7 +9,7 @@ use Rattle.exchange_rules.specs.Queues.{queue_at}
 use Rattle.network_moves.specs.Networks.{sum_to}
 use Rattle.node_moves.specs.Networks.{NetworkState, LinkEnd, Step, IsNode, other_end, after_steps, first_network}
 
--- user messages are those of which nodes take in: of service indicators 2 to 15, and no longer than a signalling
+-- user messages, of the lengths that nodes take in: of service indicators 2 to 15, and no longer than a signalling
 -- information field
 abbrev pub is_user : Message → Bool
 is_user m = not (nat_lt SIF_OCTETS (length m.sif)) && not (is_management m)
@@ -34,7 +34,7 @@ module _ (settings : (point : ℕ) → Configuration) (w : NetworkState) where
   received_by (Some there) = (queue_at (w.node there.point).node.queues there.link).received
   received_by None = 0
 
-  -- the messages of a link that the other end hasn't
+  -- the messages in a link's queue that the other end hasn't received: these wait on the link
   abbrev pub waiting_on : (point link : ℕ) → List Message
   waiting_on point link =
       drop (received_by (other_end settings point link)) (queue_at (w.node point).node.queues link).all
@@ -48,24 +48,28 @@ module _ (settings : (point : ℕ) → Configuration) (w : NetworkState) where
     came_from =
         sum_to (λ link. users_that test (came_by (other_end settings point link))) (length (settings point).links)
 
-    -- in Held, or on a link
+    -- in Held, or on a link's queue and not received at its other end
     abbrev pub waits_at : ℕ
     waits_at =
         users_that test (w.node point).node.queues.held
         + sum_to (λ link. users_that test (waiting_on point link)) (length (settings point).links)
 
-    -- and what of it neither came nor waits
+    -- and how many of those accepted neither came nor wait. One that was named as lost while it was in flight is among
+    -- them, but may still come
     abbrev pub gone_at : ℕ
     gone_at = accepted_at - (came_from + waits_at)
 
-  -- of every kind of user messages, each that a node accepted came to a neighbour once, by one link; or waits; or is
-  -- gone. And no more are gone than the node counts as named in notices of loss (`messages_lost`)
+  -- of every kind of user messages, those that came and those that wait are together no more than the node accepted:
+  -- so much `once` says, since `gone_at` is what is left of these, or 0. So each message came to one neighbour at most,
+  -- once at most, and doesn't wait if it came. And no more are gone than the node counts as named in notices of loss
+  -- (`messages_lost`), up to the most that it counts
   pub record EndsOnce (point : ℕ) : Type 0 where
     pub once : (test : Message → Bool) →
         accepted_at test point ≡ came_from test point + waits_at test point + gone_at test point
     pub named : (test : Message → Bool) → min (gone_at test point) most ≤ (w.node point).node.parts.messages_lost
 
-  -- no node is broken: none awaited an answer no longer that hadn't come, nor heard a number that names no count
+  -- no node is broken: none stopped waiting for an answer that hadn't come, and none was given a number that names no
+  -- count
   abbrev pub IsUnbroken : Type 0
   IsUnbroken = (point : ℕ) → IsNode settings point → (w.node point).node.parts.times_broken ≡ 0
 
