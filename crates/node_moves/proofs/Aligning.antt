@@ -4,7 +4,7 @@ use Rattle.node_moves.proofs.Machine.{LinkEnd, Network, Shape, Place, line_at}
 use Rattle.node_moves.proofs.Definitions.{Message, Configuration, IsWell, Node, WholeQueues, Parts, whole, with_parts, answer, link_at, links_with, in_service, down, Link, is_down, is_in_service}
 use Rattle.node_moves.proofs.Reading.{IsShape}
 use Rattle.node_moves.proofs.Sets.{end-set}
-use Rattle.node_moves.proofs.Shown.{Mid, Shows, IsShown, IsSized, IsSilent, shown_in, is_heard, place, shown-alike, link-inside, own-inside}
+use Rattle.node_moves.proofs.Shown.{Books, Mid, Shows, IsShown, IsSized, IsSilent, shown_in, is_heard, place, shown-alike, link-inside, own-inside}
 use Rattle.node_moves.proofs.Going.{IsAt, Arrives, arrives-here, arrives-both, at-last, is_broken}
 use Rattle.node_moves.proofs.Handling.{mid}
 use Rattle.node_moves.proofs.Own.{K, both, stays, either, relinked}
@@ -42,7 +42,7 @@ module _ (shape : Shape) (o : IsShape shape) (c : Configuration) (well : IsWell 
     pub goes : is_broken shape w ≡ 0 → (p : Network) → IsAt shape p → Shows c p v → P p → Arrives shape c p w
 
   pub record KIf (link : ℕ) (n m : Node WholeQueues) : Type 0 where
-    pub each : (a l k : List Message) → GoesIf (HeardAt link) (mid n a l k) (mid m a l k)
+    pub each : (a l : List Message) (k : Books) → GoesIf (HeardAt link) (mid n a l k) (mid m a l k)
 
   pub if-so : (link : ℕ) (n m : Node WholeQueues) → K shape o c well n m → KIf link n m
   if-so link n m e = record { each = λ a l k. record { unbroken = (e.each a l k).unbroken; goes = λ none p h s heard. (e.each a l k).goes none p h s } }
@@ -58,7 +58,7 @@ module _ (shape : Shape) (o : IsShape shape) (c : Configuration) (well : IsWell 
   }
 
   -- a node of which only a link changed, as the same network shows it
-  shows-by-end : (p : Network) (n m : Node WholeQueues) (link : ℕ) (a l k : List Message) → Shows c p (mid n a l k) → IsAlikeBut c n m link → link < length c.links
+  shows-by-end : (p : Network) (n m : Node WholeQueues) (link : ℕ) (a l : List Message) (k : Books) → Shows c p (mid n a l k) → IsAlikeBut c n m link → link < length c.links
       → IsShown m link (line_at p (place c link)).near → Shows c p (mid m a l k)
   shows-by-end p n m link a l k s e inside shown = record {
     sized = e.sized s.sized;
@@ -119,14 +119,14 @@ module _ (shape : Shape) (o : IsShape shape) (c : Configuration) (well : IsWell 
       };
     }
       where
-        stay : (a l k : List Message) (p : Network) → Shows c p (mid n a l k) → HeardAt link p → in_service n.parts link ≡ is_in_service step.state → Arrives shape c p (mid stepping a l k)
+        stay : (a l : List Message) (k : Books) (p : Network) → Shows c p (mid n a l k) → HeardAt link p → in_service n.parts link ≡ is_in_service step.state → Arrives shape c p (mid stepping a l k)
         stay a l k p s heard same =
             let near : LinkEnd = (line_at p (place c link)).near in
             let x : IsShown n link near = s.ends link (there s.sized) in
             arrives-here shape c p (mid stepping a l k) (shows-by-end p n stepping link a l k s (link-but c n stepping link next quiet its) (there s.sized)
             (shown-so near s.sized x near refl refl refl (x.serving ∙ same) refl refl heard))
 
-        by : (before after : Bool) → in_service n.parts link ≡ before → is_in_service step.state ≡ after → (a l k : List Message) (p : Network) → IsAt shape p → Shows c p (mid n a l k) → HeardAt link p
+        by : (before after : Bool) → in_service n.parts link ≡ before → is_in_service step.state ≡ after → (a l : List Message) (k : Books) (p : Network) → IsAt shape p → Shows c p (mid n a l k) → HeardAt link p
             → Arrives shape c p (mid stepping a l k)
         by true true f g a l k p h s heard = stay a l k p s heard (f ∙ sym g)
         by false false f g a l k p h s heard = stay a l k p s heard (f ∙ sym g)

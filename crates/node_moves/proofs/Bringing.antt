@@ -3,7 +3,7 @@ use Rattle.node_moves.proofs.Basics.{◌≡◌, ℕ, Bool, true, false, ◌≤�
 use Rattle.node_moves.proofs.Machine.{Shape, Other}
 use Rattle.node_moves.proofs.Definitions.{Message, flow_of, opc_of, dpc_of, is_management, service_indicator, Configuration, IsWell, Node, Done, WholeQueues, whole, with_parts, answer, refuse, in_service, waits, link_of, SIF_OCTETS, Management, MgmtFault, read_management}
 use Rattle.node_moves.proofs.Reading.{IsShape, says_of, says-user, is_long, order_at, answer_at, never}
-use Rattle.node_moves.proofs.Shown.{Mid}
+use Rattle.node_moves.proofs.Shown.{Books, accepting, Mid}
 use Rattle.node_moves.proofs.Going.{Goes, goes-none, goes-both}
 use Rattle.node_moves.proofs.Handling.{mid, accepts, holds, submits, drops, places}
 use Rattle.node_moves.proofs.Own.{K, stays, either_done, aside, routed, queued, no_route-goes, no_part-goes, test-goes, status-goes, confirmed-other}
@@ -48,44 +48,44 @@ no-sccp k e = grind (arith, nat_tests, e)
 
 module _ (shape : Shape) (o : IsShape shape) (c : Configuration) (well : IsWell c) where
   -- nothing is accepted
-  pub none-more : (v : Mid) (n : Node WholeQueues) (a l k : List Message) → Goes shape c v (mid n a l k) → Goes shape c v (mid n a l (k ++ []))
-  none-more v n a l k e = subst (λ (ms : List Message). Goes shape c v (mid n a l ms)) (sym (append-nil k)) e
+  pub none-more : (v : Mid) (n : Node WholeQueues) (a l : List Message) (k : Books) → Goes shape c v (mid n a l k) → Goes shape c v (mid n a l (accepting k []))
+  none-more v n a l k e = subst (λ (ms : List Message). Goes shape c v (mid n a l (record k { accepted = ms }))) (sym (append-nil k.accepted)) e
 
-  then-own : (v : Mid) (n m : Node WholeQueues) (a l k : List Message) → Goes shape c v (mid n a l k) → K shape o c well n m → Goes shape c v (mid m a l k)
+  then-own : (v : Mid) (n m : Node WholeQueues) (a l : List Message) (k : Books) → Goes shape c v (mid n a l k) → K shape o c well n m → Goes shape c v (mid m a l k)
   then-own v n m a l k e f = goes-both shape c v (mid n a l k) (mid m a l k) e (f.each a l k)
 
   -- ---- it is queued or held, or refused
 
-  offered : (room : Option Cause) (b : Bool) (link from : Option ℕ) (n : Node WholeQueues) (m : Message) (a l k : List Message) → link_of c n.parts (flow_of m) ≡ link
-      → Goes shape c (mid n (m ∷ a) l k) (mid (offer whole c room b link from m n).left a l (k ++ taken_in (offer whole c room b link from m n).outcome m))
+  offered : (room : Option Cause) (b : Bool) (link from : Option ℕ) (n : Node WholeQueues) (m : Message) (a l : List Message) (k : Books) → link_of c n.parts (flow_of m) ≡ link
+      → Goes shape c (mid n (m ∷ a) l k) (mid (offer whole c room b link from m n).left a l (accepting k (taken_in (offer whole c room b link from m n).outcome m)))
   offered (Some cause) b link from n m a l k e = none-more _ n a l k (drops shape o c well n m a l k)
-  offered None true link from n m a l k e = goes-both shape c _ _ _ (accepts shape o c well n m a l k) (holds shape o c well n m a l (k ++ m ∷ []))
+  offered None true link from n m a l k e = goes-both shape c _ _ _ (accepts shape o c well n m a l k) (holds shape o c well n m a l (accepting k (m ∷ [])))
   offered None false None from n m a l k e =
       none-more _ _ a l k (then-own _ n _ a l k (drops shape o c well n m a l k) (no_route-goes shape o c well from (destination_place c (dpc_of m)) n))
   offered None false (Some link) from n m a l k e =
-      goes-both shape c _ _ _ (accepts shape o c well n m a l k) (places shape o c well n link m a l (k ++ m ∷ []) (chosen_serves c n.parts (flow_of m) link e))
+      goes-both shape c _ _ _ (accepts shape o c well n m a l k) (places shape o c well n link m a l (accepting k (m ∷ [])) (chosen_serves c n.parts (flow_of m) link e))
 
-  pub transferred : (from : Option ℕ) (n : Node WholeQueues) (m : Message) (a l k : List Message)
-      → Goes shape c (mid n (m ∷ a) l k) (mid (transfer whole c from m n).left a l (k ++ taken_in (transfer whole c from m n).outcome m))
+  pub transferred : (from : Option ℕ) (n : Node WholeQueues) (m : Message) (a l : List Message) (k : Books)
+      → Goes shape c (mid n (m ∷ a) l k) (mid (transfer whole c from m n).left a l (accepting k (taken_in (transfer whole c from m n).outcome m)))
   transferred from n m a l k = by (is_destination c (dpc_of m))
     where
       into : Done WholeQueues
       into = offer whole c (no_room_for whole c m n) (waits c n.parts.holds m) (link_of c n.parts (flow_of m)) from m n
 
-      by : (b : Bool) → Goes shape c (mid n (m ∷ a) l k) (mid (if b then into else refuse causes.UnknownDestination n).left a l (k ++ taken_in (if b then into else refuse causes.UnknownDestination n).outcome m))
+      by : (b : Bool) → Goes shape c (mid n (m ∷ a) l k) (mid (if b then into else refuse causes.UnknownDestination n).left a l (accepting k (taken_in (if b then into else refuse causes.UnknownDestination n).outcome m)))
       by true = offered (no_room_for whole c m n) (waits c n.parts.holds m) (link_of c n.parts (flow_of m)) from n m a l k refl
       by false = none-more _ n a l k (drops shape o c well n m a l k)
 
   -- ---- what SCCP makes of a message for this point
 
-  module _ (n : Node WholeQueues) (m : Message) (user : is_management m ≡ false) (a l k : List Message) where
+  module _ (n : Node WholeQueues) (m : Message) (user : is_management m ≡ false) (a l : List Message) (k : Books) where
     written : (sif : List ℕ) → Fits sif
-        → Goes shape c (mid n a l k) (mid (transfer whole c None (in_place_of m sif) n).left a l (k ++ taken_in (transfer whole c None (in_place_of m sif) n).outcome (in_place_of m sif)))
+        → Goes shape c (mid n a l k) (mid (transfer whole c None (in_place_of m sif) n).left a l (accepting k (taken_in (transfer whole c None (in_place_of m sif) n).outcome (in_place_of m sif))))
     written sif f =
         goes-both shape c _ _ _ (submits shape o c well n (in_place_of m sif) a l k (says-user (in_place_of m sif) (brief-so (length sif) f.short) user))
         (transferred None n (in_place_of m sif) a l k)
 
-    answered : (udts : Option (List ℕ)) → ((sif : List ℕ) → udts ≡ Some sif → Fits sif) → Goes shape c (mid n a l k) (mid (send_udts whole c udts m n) a l (k ++ returned_in udts c m n))
+    answered : (udts : Option (List ℕ)) → ((sif : List ℕ) → udts ≡ Some sif → Fits sif) → Goes shape c (mid n a l k) (mid (send_udts whole c udts m n) a l (accepting k (returned_in udts c m n)))
     answered (Some sif) f = written sif (f sif refl)
     answered None f = none-more _ n a l k (goes-none shape c (mid n a l k))
 
@@ -97,10 +97,10 @@ module _ (shape : Shape) (o : IsShape shape) (c : Configuration) (well : IsWell 
 
     -- where it is refused, which left the node as it was
     returning : (out : Message) (result : Outcome) (left : Node WholeQueues) → ((cause : Cause) → result ≡ Refused cause → left ≡ n)
-        → Goes shape c (mid n a l k) (mid left a l (k ++ taken_in result out))
-        → Goes shape c (mid n a l k) (mid (return_outcome whole c result m left) a l (k ++ (taken_in result out ++ answered_in result c m n)))
+        → Goes shape c (mid n a l k) (mid left a l (accepting k (taken_in result out)))
+        → Goes shape c (mid n a l k) (mid (return_outcome whole c result m left) a l (accepting k (taken_in result out ++ answered_in result c m n)))
     returning out (Refused cause) left same p =
-        subst (λ (x : Node WholeQueues). Goes shape c (mid n a l k) (mid (return_outcome whole c (Refused cause) m x) a l (k ++ answered_in (Refused cause) c m n))) (sym (same cause refl))
+        subst (λ (x : Node WholeQueues). Goes shape c (mid n a l k) (mid (return_outcome whole c (Refused cause) m x) a l (accepting k (answered_in (Refused cause) c m n)))) (sym (same cause refl))
         (answered (returned own rows m.sif cause) (λ sif e. returned-fits own rows m.sif cause sif e))
     returning out (Queued link) left same p = p
     returning out Held left same p = p
@@ -112,7 +112,7 @@ module _ (shape : Shape) (o : IsShape shape) (c : Configuration) (well : IsWell 
     relayed v = relay_by whole c v m n
 
     relayed-goes : (v : relays.RelayedValue) → relays.relay own rows m.sif ≡ v
-        → Goes shape c (mid n a l k) (mid (return_outcome whole c (relayed v).outcome m (relayed v).left) a l (k ++ (relayed_in v (relayed v).outcome m ++ answered_in (relayed v).outcome c m n)))
+        → Goes shape c (mid n a l k) (mid (return_outcome whole c (relayed v).outcome m (relayed v).left) a l (accepting k (relayed_in v (relayed v).outcome m ++ answered_in (relayed v).outcome c m n)))
     relayed-goes relays.Delivered e = none-more _ n a l k (goes-none shape c (mid n a l k))
     relayed-goes (relays.Onward sif) e =
         returning (in_place_of m sif) (relayed (relays.Onward sif)).outcome (relayed (relays.Onward sif)).left (relay_by-leaves c n (relays.Onward sif) m).left (written sif (onward-fits own rows m.sif sif e))
@@ -120,11 +120,11 @@ module _ (shape : Shape) (o : IsShape shape) (c : Configuration) (well : IsWell 
         none-more _ _ a l k ((aside shape o c well n (with_titles (heard (sst_ticks c) news n.parts.titles) n.parts) refl refl refl refl).each a l k)
     relayed-goes (relays.Refused cause) e = answered (returned own rows m.sif cause) (λ sif e. returned-fits own rows m.sif cause sif e)
 
-    unitdata-goes : Goes shape c (mid n a l k) (mid (on_unitdata whole c m n).left a l (k ++ unitdata_in (on_unitdata whole c m n).outcome c m n))
+    unitdata-goes : Goes shape c (mid n a l k) (mid (on_unitdata whole c m n).left a l (accepting k (unitdata_in (on_unitdata whole c m n).outcome c m n)))
     unitdata-goes = relayed-goes (relays.relay own rows m.sif) refl
 
     -- a message for SCCP, or for a user part
-    pub local-goes : (from : Option ℕ) → Goes shape c (mid n a l k) (mid (local whole c from m n).left a l (k ++ brought_here (local whole c from m n).outcome c m n))
+    pub local-goes : (from : Option ℕ) → Goes shape c (mid n a l k) (mid (local whole c from m n).left a l (accepting k (brought_here (local whole c from m n).outcome c m n)))
     local-goes from = by (nat_eq (service_indicator m) sccp) (is_user c (service_indicator m))
       where
         origin : Option ℕ
@@ -135,31 +135,31 @@ module _ (shape : Shape) (o : IsShape shape) (c : Configuration) (well : IsWell 
 
         by : (is_sccp listed : Bool) → Goes shape c (mid n a l k)
             (mid (if is_sccp then on_unitdata whole c m n else (if listed then answer Local n else refuse causes.NoUserPart absent)).left a l
-            (k ++ (if is_sccp then unitdata_in (if is_sccp then on_unitdata whole c m n else (if listed then answer Local n else refuse causes.NoUserPart absent)).outcome c m n else [])))
+            (accepting k (if is_sccp then unitdata_in (if is_sccp then on_unitdata whole c m n else (if listed then answer Local n else refuse causes.NoUserPart absent)).outcome c m n else [])))
         by true listed = unitdata-goes
         by false true = none-more _ n a l k (goes-none shape c (mid n a l k))
         by false false = none-more _ absent a l k ((no_part-goes shape o c well from origin m n).each a l k)
 
   -- nothing of management is accepted that ends here
-  nothing-here : (v : Mid) (m : Message) (n left : Node WholeQueues) (result : Outcome) (a l k : List Message) → is_management m ≡ true → Goes shape c v (mid left a l k) → Goes shape c v (mid left a l (k ++ brought_here result c m n))
+  nothing-here : (v : Mid) (m : Message) (n left : Node WholeQueues) (result : Outcome) (a l : List Message) (k : Books) → is_management m ≡ true → Goes shape c v (mid left a l k) → Goes shape c v (mid left a l (accepting k (brought_here result c m n)))
   nothing-here v m n left result a l k managing e =
-      subst (λ (b : Bool). Goes shape c v (mid left a l (k ++ (if b then unitdata_in result c m n else [])))) (sym (no-sccp (service_indicator m) managing)) (none-more v left a l k e)
+      subst (λ (b : Bool). Goes shape c v (mid left a l (accepting k (if b then unitdata_in result c m n else [])))) (sym (no-sccp (service_indicator m) managing)) (none-more v left a l k e)
 
   -- ---- a user part hands a message over
 
-  pub submitted : (d : Discrimination) (n : Node WholeQueues) (m : Message) (a l k : List Message) → whither_goes c m ≡ d
-      → Goes shape c (mid n a l k) (mid (submit_to whole c d m n).left a l (k ++ brought_to d (submit_to whole c d m n).outcome c m n))
+  pub submitted : (d : Discrimination) (n : Node WholeQueues) (m : Message) (a l : List Message) (k : Books) → whither_goes c m ≡ d
+      → Goes shape c (mid n a l k) (mid (submit_to whole c d m n).left a l (accepting k (brought_to d (submit_to whole c d m n).outcome c m n)))
   submitted (whither.Refused cause) n m a l k e = none-more _ n a l k (goes-none shape c (mid n a l k))
   submitted (whither.Here label) n m a l k e = by (is_management m) refl
     where
       by : (b : Bool) → is_management m ≡ b
-          → Goes shape c (mid n a l k) (mid (if b then refuse causes.NotInProfile n else local whole c None m n).left a l (k ++ brought_here (if b then refuse causes.NotInProfile n else local whole c None m n).outcome c m n))
+          → Goes shape c (mid n a l k) (mid (if b then refuse causes.NotInProfile n else local whole c None m n).left a l (accepting k (brought_here (if b then refuse causes.NotInProfile n else local whole c None m n).outcome c m n)))
       by true f = nothing-here _ m n n (Refused causes.NotInProfile) a l k f (goes-none shape c (mid n a l k))
       by false f = local-goes n m f a l k None
   submitted (whither.Transfer label) n m a l k e = by (is_management m) refl
     where
       by : (b : Bool) → is_management m ≡ b
-          → Goes shape c (mid n a l k) (mid (if b then refuse causes.NotInProfile n else transfer whole c None m n).left a l (k ++ taken_in (if b then refuse causes.NotInProfile n else transfer whole c None m n).outcome m))
+          → Goes shape c (mid n a l k) (mid (if b then refuse causes.NotInProfile n else transfer whole c None m n).left a l (accepting k (taken_in (if b then refuse causes.NotInProfile n else transfer whole c None m n).outcome m)))
       by true f = none-more _ n a l k (goes-none shape c (mid n a l k))
       by false f = goes-both shape c _ _ _ (submits shape o c well n m a l k (says-user m (on-short c m label e) f)) (transferred None n m a l k)
 
@@ -187,7 +187,7 @@ module _ (shape : Shape) (o : IsShape shape) (c : Configuration) (well : IsWell 
 
   -- ---- management for this point
 
-  module _ (m : Message) (label : Label) (here : whither_goes c m ≡ whither.Here label) (managing : is_management m ≡ true) (n : Node WholeQueues) (a l k : List Message) where
+  module _ (m : Message) (label : Label) (here : whither_goes c m ≡ whither.Here label) (managing : is_management m ≡ true) (n : Node WholeQueues) (a l : List Message) (k : Books) where
     abbrev from_it : Node WholeQueues → Type 0
     from_it left = Goes shape c (mid n (m ∷ a) l k) (mid left a l k)
 
@@ -259,13 +259,13 @@ module _ (shape : Shape) (o : IsShape shape) (c : Configuration) (well : IsWell 
 
   -- ---- a message in a frame
 
-  pub delivered-to : (d : Discrimination) (link : ℕ) (m : Message) (n : Node WholeQueues) (a l k : List Message) → in_service n.parts link ≡ true → whither_goes c m ≡ d
-      → Goes shape c (mid n (m ∷ a) l k) (mid (deliver_to whole c d link m n).left a l (k ++ brought_to d (deliver_to whole c d link m n).outcome c m n))
+  pub delivered-to : (d : Discrimination) (link : ℕ) (m : Message) (n : Node WholeQueues) (a l : List Message) (k : Books) → in_service n.parts link ≡ true → whither_goes c m ≡ d
+      → Goes shape c (mid n (m ∷ a) l k) (mid (deliver_to whole c d link m n).left a l (accepting k (brought_to d (deliver_to whole c d link m n).outcome c m n)))
   delivered-to (whither.Refused cause) link m n a l k serves e = none-more _ n a l k (drops shape o c well n m a l k)
   delivered-to (whither.Here label) link m n a l k serves e = by (is_management m) refl
     where
       by : (b : Bool) → is_management m ≡ b
-          → Goes shape c (mid n (m ∷ a) l k) (mid (if b then manage whole c link m n else local whole c (Some link) m n).left a l (k ++ brought_here (if b then manage whole c link m n else local whole c (Some link) m n).outcome c m n))
+          → Goes shape c (mid n (m ∷ a) l k) (mid (if b then manage whole c link m n else local whole c (Some link) m n).left a l (accepting k (brought_here (if b then manage whole c link m n else local whole c (Some link) m n).outcome c m n)))
       by true f = nothing-here _ m n (manage whole c link m n).left (manage whole c link m n).outcome a l k f (manage-goes m label e f n a l k link serves)
       by false f = goes-both shape c _ _ _ (drops shape o c well n m a l k) (local-goes n m f a l k (Some link))
   delivered-to (whither.Transfer label) link m n a l k serves e = transferred (Some link) n m a l k

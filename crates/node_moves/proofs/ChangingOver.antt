@@ -3,10 +3,10 @@ use Rattle.node_moves.proofs.Basics.{◌≡◌, ℕ, Bool, true, false, not, ◌
 use Rattle.node_moves.proofs.Machine.{is_user_message, Shape}
 use Rattle.node_moves.proofs.Definitions.{Message, flow_of, is_management, Configuration, IsWell, Node, WholeQueues, Parts, whole, with_parts, answer, queue_at, link_at, links_with, is_link, in_service, down, changeover_of, with_changeover, link_of, no_room, Queue, first_queue, appended, last_accepted, Standing, no_changeover, Link, down_link, is_down}
 use Rattle.node_moves.proofs.Reading.{IsShape, says_of, says-managing, order_at, answer_at, across}
-use Rattle.node_moves.proofs.Shown.{Mid, most, place}
+use Rattle.node_moves.proofs.Shown.{Books, no_books, naming, Mid, most, place}
 use Rattle.node_moves.proofs.Going.{Goes, goes-none, goes-both, is_broken}
 use Rattle.node_moves.proofs.Handling.{mid, drops}
-use Rattle.node_moves.proofs.Own.{K, both, stays, either, alike, aside, sends-loose}
+use Rattle.node_moves.proofs.Own.{K, Names, named-besides, both, stays, alike, aside, sends-loose}
 use Rattle.node_moves.proofs.Failures.{answer-says, number-fits, orders, order-says}
 use Rattle.node_moves.proofs.Failing.{HasParts, gone-parts, by_order-goes, standing-but, standing-is}
 use Rattle.node_moves.proofs.Losing.{Loses, counts-each, concluded-loses, concluded-lost, concluded-right, unless-broken}
@@ -15,6 +15,7 @@ use Rattle.changeover.specs.Changeover.{users_of, managements_of, behind, accept
 use Rattle.exchange_rules.proofs.Lists.{alike-at}
 use Rattle.exchange_rules.specs.ChangingOver.{send_each, conclude, concluded, complete_if, fail_by_order, fail_by_peer, begin_by_peer, make_unavailable, bar, barred, acknowledge_changeover, on_changeover_order, on_changeover_acknowledgement, with_changeover_acknowledged, on_changeover_timer, with_expiry, bars, changeover_acknowledgement, changeover_order, unbarred, is_late, has_way, asking, order_late, lose_each}
 unfoldable use Rattle.exchange_rules.specs.ChangingOver.{order_each}
+use Rattle.exchange_rules.specs.Conserving.{gone_by_completion, gone_by_expiry, nothing_gone}
 use Rattle.exchange_rules.specs.State.{Found, once_more}
 use Rattle.exchange_rules.specs.Telling.{send, send_anew}
 use Rattle.node_links.specs.NodeLinks.{after_failure, link_in}
@@ -74,13 +75,13 @@ module _ (shape : Shape) (o : IsShape shape) (c : Configuration) (well : IsWell 
   each-number [] n = refl
   each-number (m ∷ ms) n = each-number ms (send_anew whole c m n) ∙ sent-number None (link_of c n.parts (flow_of m)) m n
 
-  pub sends-each : (ms : List Message) (n : Node WholeQueues) (a l k : List Message) → AreManaging ms → Goes shape c (mid n a (ms ++ l) k) (mid (send_each whole c ms n) a l k)
+  pub sends-each : (ms : List Message) (n : Node WholeQueues) (a l : List Message) (k : Books) → AreManaging ms → Goes shape c (mid n a (ms ++ l) k) (mid (send_each whole c ms n) a l k)
   sends-each [] n a l k e = goes-none shape c (mid n a l k)
   sends-each (m ∷ ms) n a l k e =
       goes-both shape c _ _ _ (sends-loose shape o c well None (link_of c n.parts (flow_of m)) m n a (ms ++ l) k refl (says-managing m e.0)) (sends-each ms (send_anew whole c m n) a l k e.1)
 
   -- the answer, with the number that the link had when it was made
-  acknowledges : (n m : Node WholeQueues) (a l k : List Message) → last_accepted (queue_at m.queues link) ≡ last_accepted (queue_at n.queues link)
+  acknowledges : (n m : Node WholeQueues) (a l : List Message) (k : Books) → last_accepted (queue_at m.queues link) ≡ last_accepted (queue_at n.queues link)
       → Goes shape c (mid m a (answer_of shape o c well link n ∷ l) k) (mid (acknowledge_changeover whole c link m) a l k)
   acknowledges n m a l k same =
       subst (λ (number : ℕ). Goes shape c (mid m a (changeover_acknowledgement c link number ∷ l) k) (mid (acknowledge_changeover whole c link m) a l k)) same
@@ -119,7 +120,7 @@ module _ (shape : Shape) (o : IsShape shape) (c : Configuration) (well : IsWell 
   broken-before : (v w : Mid) → (is_broken shape w ≡ 0 → is_broken shape v ≡ 0) → (is_broken shape w ≡ 0 → ⊥) → Goes shape c v w
   broken-before v w f none = record { unbroken = f; goes = λ e. absurd (none e) }
 
-  completing-order : (n : Node WholeQueues) (number : ℕ) (word : Message) (a l k : List Message) → says_of word ≡ order_at (across (place c link)) number → (changeover_of n.parts link).incomplete ≡ true
+  completing-order : (n : Node WholeQueues) (number : ℕ) (word : Message) (a l : List Message) (k : Books) → says_of word ≡ order_at (across (place c link)) number → (changeover_of n.parts link).incomplete ≡ true
       → Goes shape c (mid n (word ∷ a) l k) (mid (conclude whole c (whole.found n.queues link (Some number)) link (Some number) (counted n (completed (changeover_of n.parts link)))) a (answer_of shape o c well link n ∷ l) k)
   completing-order n number word a l k says begun = by (accepted_count (queue_at n.queues link) (Some number)) refl
     where
@@ -140,7 +141,7 @@ module _ (shape : Shape) (o : IsShape shape) (c : Configuration) (well : IsWell 
           sends-each (managements_of (behind (queue_at n.queues link) (accepted_count (queue_at n.queues link) (Some number)))) done a (answer_of shape o c well link n ∷ l) k
           (are-managing (behind (queue_at n.queues link) (accepted_count (queue_at n.queues link) (Some number))))
 
-      unbroken : is_broken shape (mid done [] [] []) ≡ 0 → is_broken shape (mid n [] [] []) ≡ 0
+      unbroken : is_broken shape (mid done [] [] no_books) ≡ 0 → is_broken shape (mid n [] [] no_books) ≡ 0
       unbroken none = (concluded-right link (whole.found n.queues link (Some number)) p none).1
 
       by : (x : Option ℕ) → accepted_count (queue_at n.queues link) (Some number) ≡ x → Goes shape c (mid n (word ∷ a) l k) (mid after a (answer_of shape o c well link n ∷ l) k)
@@ -174,7 +175,7 @@ module _ (shape : Shape) (o : IsShape shape) (c : Configuration) (well : IsWell 
 
   -- ---- the other end orders a changeover
 
-  ordered-by : (begun : Bool) (n : Node WholeQueues) (number : ℕ) (word : Message) (a l k : List Message) → link < length c.links → says_of word ≡ order_at (across (place c link)) number → down n.parts link ≡ true
+  ordered-by : (begun : Bool) (n : Node WholeQueues) (number : ℕ) (word : Message) (a l : List Message) (k : Books) → link < length c.links → says_of word ≡ order_at (across (place c link)) number → down n.parts link ≡ true
       → (changeover_of n.parts link).incomplete ≡ begun
       → Goes shape c (mid n (word ∷ a) l k)
       (mid (acknowledge_changeover whole c link (complete_if whole c begun link (Some number) (counted n (completed (changeover_of n.parts link))))) a l k)
@@ -195,7 +196,7 @@ module _ (shape : Shape) (o : IsShape shape) (c : Configuration) (well : IsWell 
       (goes-both shape c _ _ _ ((standing-alike n s (complete-same (changeover_of n.parts link) e)).each a (answer_of shape o c well link n ∷ l) k)
       (acknowledges n (counted n s) a l k refl))
 
-  pub order-goes : (n : Node WholeQueues) (number : ℕ) (word : Message) (a l k : List Message) → link < length c.links → says_of word ≡ order_at (across (place c link)) number
+  pub order-goes : (n : Node WholeQueues) (number : ℕ) (word : Message) (a l : List Message) (k : Books) → link < length c.links → says_of word ≡ order_at (across (place c link)) number
       → Goes shape c (mid n (word ∷ a) l k) (mid (on_changeover_order whole c link (Some number) n).left a l k)
   order-goes n number word a l k inside says =
       let fell : Node WholeQueues = fail_by_order whole c link n in
@@ -209,7 +210,7 @@ module _ (shape : Shape) (o : IsShape shape) (c : Configuration) (well : IsWell 
   abbrev answered_parts : Node WholeQueues → Parts
   answered_parts n = with_changeover_acknowledged link n.parts
 
-  completing-answer : (n : Node WholeQueues) (number : ℕ) (word : Message) (a l k : List Message) → says_of word ≡ answer_at (across (place c link)) number → (changeover_of n.parts link).awaited ≡ true
+  completing-answer : (n : Node WholeQueues) (number : ℕ) (word : Message) (a l : List Message) (k : Books) → says_of word ≡ answer_at (across (place c link)) number → (changeover_of n.parts link).awaited ≡ true
       → (changeover_of n.parts link).incomplete ≡ true
       → Goes shape c (mid n (word ∷ a) l k) (mid (conclude whole c (whole.found n.queues link (Some number)) link (Some number) (with_parts n (answered_parts n))) a l k)
   completing-answer n number word a l k says awaited begun = by (accepted_count (queue_at n.queues link) (Some number)) refl
@@ -228,7 +229,7 @@ module _ (shape : Shape) (o : IsShape shape) (c : Configuration) (well : IsWell 
           sends-each (managements_of (behind (queue_at n.queues link) (accepted_count (queue_at n.queues link) (Some number)))) done a l k
           (are-managing (behind (queue_at n.queues link) (accepted_count (queue_at n.queues link) (Some number))))
 
-      unbroken : is_broken shape (mid done [] [] []) ≡ 0 → is_broken shape (mid n [] [] []) ≡ 0
+      unbroken : is_broken shape (mid done [] [] no_books) ≡ 0 → is_broken shape (mid n [] [] no_books) ≡ 0
       unbroken none = (concluded-right link (whole.found n.queues link (Some number)) (answered_parts n) none).1
 
       by : (x : Option ℕ) → accepted_count (queue_at n.queues link) (Some number) ≡ x → Goes shape c (mid n (word ∷ a) l k) (mid after a l k)
@@ -244,20 +245,20 @@ module _ (shape : Shape) (o : IsShape shape) (c : Configuration) (well : IsWell 
           absurd cc))
           rest
 
-  awaited-by : (begun : Bool) (n : Node WholeQueues) (number : ℕ) (word : Message) (a l k : List Message) → says_of word ≡ answer_at (across (place c link)) number → (changeover_of n.parts link).awaited ≡ true
+  awaited-by : (begun : Bool) (n : Node WholeQueues) (number : ℕ) (word : Message) (a l : List Message) (k : Books) → says_of word ≡ answer_at (across (place c link)) number → (changeover_of n.parts link).awaited ≡ true
       → (changeover_of n.parts link).incomplete ≡ begun → Goes shape c (mid n (word ∷ a) l k) (mid (complete_if whole c begun link (Some number) (with_parts n (answered_parts n))) a l k)
   awaited-by true n number word a l k says awaited e = completing-answer n number word a l k says awaited e
   awaited-by false n number word a l k says awaited e =
       ends-wait shape o c well link n (with_parts n (answered_parts n)) number (acknowledged (changeover_of n.parts link)) word a l k (record { queues = refl; links = refl; changeovers = refl; lost = refl; broken = refl })
       refl refl says awaited e
 
-  heard-by : (awaited : Bool) (n : Node WholeQueues) (number : ℕ) (word : Message) (a l k : List Message) → says_of word ≡ answer_at (across (place c link)) number → (changeover_of n.parts link).awaited ≡ awaited
+  heard-by : (awaited : Bool) (n : Node WholeQueues) (number : ℕ) (word : Message) (a l : List Message) (k : Books) → says_of word ≡ answer_at (across (place c link)) number → (changeover_of n.parts link).awaited ≡ awaited
       → Goes shape c (mid n (word ∷ a) l k)
       (mid (if awaited then answer Handled (complete_if whole c (changeover_of n.parts link).incomplete link (Some number) (with_parts n (answered_parts n))) else answer Ignored n).left a l k)
   heard-by true n number word a l k says e = awaited-by (changeover_of n.parts link).incomplete n number word a l k says e refl
   heard-by false n number word a l k says e = drops shape o c well n word a l k
 
-  pub answer-goes : (n : Node WholeQueues) (number : ℕ) (word : Message) (a l k : List Message) → says_of word ≡ answer_at (across (place c link)) number
+  pub answer-goes : (n : Node WholeQueues) (number : ℕ) (word : Message) (a l : List Message) (k : Books) → says_of word ≡ answer_at (across (place c link)) number
       → Goes shape c (mid n (word ∷ a) l k) (mid (on_changeover_acknowledgement whole c link (Some number) n).left a l k)
   answer-goes n number word a l k says = heard-by (changeover_of n.parts link).awaited n number word a l k says refl
 
@@ -266,7 +267,7 @@ module _ (shape : Shape) (o : IsShape shape) (c : Configuration) (well : IsWell 
   -- without a number
   timed-out : (n : Node WholeQueues) (s : Standing) (p : Parts) → p.links ≡ n.parts.links → p.changeovers ≡ with_standing n.parts.changeovers link s → p.messages_lost ≡ n.parts.messages_lost
       → (p.times_broken ≡ 0 → n.parts.times_broken ≡ 0) → (changeover_of n.parts link).incomplete ≡ true → s.incomplete ≡ false → (p.times_broken ≡ 0 → s.awaited ≡ (changeover_of n.parts link).awaited)
-      → K shape o c well n (conclude whole c (whole.found n.queues link None) link None (with_parts n p))
+      → Names shape o c well n (conclude whole c (whole.found n.queues link None) link None (with_parts n p)) (whole.found n.queues link None).lost
   timed-out n s p links changeovers lost broken begun complete waits = record {
     each = λ a l k. record {
       unbroken = λ none. before ((every a l k).unbroken none);
@@ -274,7 +275,7 @@ module _ (shape : Shape) (o : IsShape shape) (c : Configuration) (well : IsWell 
           let right : p.times_broken ≡ 0 = (concluded-right link found p ((every a l k).unbroken none)).1 in
           (goes-both shape c _ _ _
           (completes-by-time shape o c well link n done s a l k (ended-by n None s p links changeovers complete refl) begun (waits right) counts before)
-          (every a l k)).goes none q h z;
+          (every a l (naming k found.lost))).goes none q h z;
     };
   }
     where
@@ -290,7 +291,7 @@ module _ (shape : Shape) (o : IsShape shape) (c : Configuration) (well : IsWell 
       counts : (x : ℕ) → min x most ≤ n.parts.messages_lost → min (length (users_of (in_doubt (queue_at n.queues link) None)) + x) most ≤ done.parts.messages_lost
       counts x h = subst (λ (t : ℕ). min (length found.lost + x) most ≤ t) (sym (concluded-lost link found p)) (counts-each found.lost p x (subst (λ (t : ℕ). min x most ≤ t) (sym lost) h))
 
-      every : (a l k : List Message) → Goes shape c (mid done a (managements_of (behind (queue_at n.queues link) None) ++ l) k) (mid (conclude whole c found link None (with_parts n p)) a l k)
+      every : (a l : List Message) (k : Books) → Goes shape c (mid done a (managements_of (behind (queue_at n.queues link) None) ++ l) k) (mid (conclude whole c found link None (with_parts n p)) a l k)
       every a l k = sends-each (managements_of (behind (queue_at n.queues link) None)) done a l k (are-managing (behind (queue_at n.queues link) None))
 
   -- with nothing to complete
@@ -302,9 +303,9 @@ module _ (shape : Shape) (o : IsShape shape) (c : Configuration) (well : IsWell 
   abbrev expiring : ChangeoverTimer → Node WholeQueues → Parts
   expiring timer n = with_expiry c timer link (barred c link n.parts)
 
-  first-by : (begun : Bool) (n : Node WholeQueues) → (changeover_of n.parts link).incomplete ≡ begun → K shape o c well n (complete_if whole c begun link None (with_parts n (expiring which.T1 n)))
+  first-by : (begun : Bool) (n : Node WholeQueues) → (changeover_of n.parts link).incomplete ≡ begun → Names shape o c well n (complete_if whole c begun link None (with_parts n (expiring which.T1 n))) (gone_by_completion begun link None n.queues).lost
   first-by true n e = timed-out n (completed (changeover_of n.parts link)) (expiring which.T1 n) refl refl refl (λ none. none) e refl (λ none. refl)
-  first-by false n e = timed-aside n (completed (changeover_of n.parts link)) (expiring which.T1 n) refl refl refl refl (complete-same (changeover_of n.parts link) e)
+  first-by false n e = named-besides shape o c well n _ [] (timed-aside n (completed (changeover_of n.parts link)) (expiring which.T1 n) refl refl refl refl (complete-same (changeover_of n.parts link) e))
 
   -- T2 that ends the wait breaks the node
   stays-so : (n : Node WholeQueues) → (expiring which.T2 n).times_broken ≡ 0 → (stays_awaited (bars c) (changeover_of n.parts link) ≡ true) × (n.parts.times_broken ≡ 0)
@@ -321,7 +322,7 @@ module _ (shape : Shape) (o : IsShape shape) (c : Configuration) (well : IsWell 
   second-complete true s = refl
   second-complete false s = refl
 
-  second-by : (begun : Bool) (n : Node WholeQueues) → (changeover_of n.parts link).incomplete ≡ begun → K shape o c well n (complete_if whole c begun link None (with_parts n (expiring which.T2 n)))
+  second-by : (begun : Bool) (n : Node WholeQueues) → (changeover_of n.parts link).incomplete ≡ begun → Names shape o c well n (complete_if whole c begun link None (with_parts n (expiring which.T2 n))) (gone_by_completion begun link None n.queues).lost
   second-by true n e =
       timed-out n (expired (bars c) which.T2 (changeover_of n.parts link)) (expiring which.T2 n) refl refl refl (λ none. (stays-so n none).1) e
       (second-complete (stays_awaited (bars c) (changeover_of n.parts link)) (changeover_of n.parts link))
@@ -336,13 +337,19 @@ module _ (shape : Shape) (o : IsShape shape) (c : Configuration) (well : IsWell 
       never-both true f = absurd cc
       never-both false f = absurd cc
 
-  expired-by : (timer : ChangeoverTimer) (n : Node WholeQueues) → K shape o c well n (complete_if whole c (changeover_of n.parts link).incomplete link None (with_parts n (expiring timer n)))
+  expired-by : (timer : ChangeoverTimer) (n : Node WholeQueues) → Names shape o c well n (complete_if whole c (changeover_of n.parts link).incomplete link None (with_parts n (expiring timer n))) (gone_by_completion (changeover_of n.parts link).incomplete link None n.queues).lost
   expired-by which.T1 n = first-by (changeover_of n.parts link).incomplete n refl
   expired-by which.T2 n = second-by (changeover_of n.parts link).incomplete n refl
 
-  pub expiry-goes : (timer : ChangeoverTimer) (n : Node WholeQueues) → K shape o c well n (on_changeover_timer whole c timer link n)
-  expiry-goes timer n =
-      either shape o c well (is_link n.parts link) n (complete_if whole c (changeover_of n.parts link).incomplete link None (with_parts n (expiring timer n))) n (expired-by timer n) (stays shape o c well n)
+  pub expiry-goes : (timer : ChangeoverTimer) (n : Node WholeQueues) → Names shape o c well n (on_changeover_timer whole c timer link n) (gone_by_expiry link n).lost
+  expiry-goes timer n = by (is_link n.parts link)
+    where
+      done : Node WholeQueues
+      done = complete_if whole c (changeover_of n.parts link).incomplete link None (with_parts n (expiring timer n))
+
+      by : (b : Bool) → Names shape o c well n (if b then done else n) (if b then gone_by_completion (changeover_of n.parts link).incomplete link None n.queues else nothing_gone).lost
+      by true = expired-by timer n
+      by false = named-besides shape o c well n n [] (stays shape o c well n)
 
   -- ---- the operator releases the bar: this breaks the node
 
@@ -395,7 +402,7 @@ module _ (shape : Shape) (o : IsShape shape) (c : Configuration) (well : IsWell 
   complete-unbroken true number n none =
       let found : Found = whole.found n.queues link number in
       (concluded-right link found n.parts
-      ((sends-each found.queued_anew (done_by n number n.parts) [] [] [] (are-managing (behind (queue_at n.queues link) (accepted_count (queue_at n.queues link) number)))).unbroken none)).1
+      ((sends-each found.queued_anew (done_by n number n.parts) [] [] no_books (are-managing (behind (queue_at n.queues link) (accepted_count (queue_at n.queues link) number)))).unbroken none)).1
 
   pub order-unbroken : (number : Option ℕ) (n : Node WholeQueues) → (on_changeover_order whole c link number n).left.parts.times_broken ≡ 0 → n.parts.times_broken ≡ 0
   order-unbroken number n none =
@@ -403,8 +410,8 @@ module _ (shape : Shape) (o : IsShape shape) (c : Configuration) (well : IsWell 
       let one : Node WholeQueues = bar whole c link fell in
       let s : Standing = completed (changeover_of one.parts link) in
       let two : Node WholeQueues = complete_if whole c (changeover_of one.parts link).incomplete link number (counted one s) in
-      ((by_order-goes shape o c well link n).each [] [] []).unbroken
-      (complete-unbroken (changeover_of one.parts link).incomplete number (counted one s) ((acknowledges two two [] [] [] refl).unbroken none))
+      ((by_order-goes shape o c well link n).each [] [] no_books).unbroken
+      (complete-unbroken (changeover_of one.parts link).incomplete number (counted one s) ((acknowledges two two [] [] no_books refl).unbroken none))
 
   answer-by : (awaited : Bool) (number : Option ℕ) (n : Node WholeQueues)
       → (if awaited then answer Handled (complete_if whole c (changeover_of n.parts link).incomplete link number (with_parts n (answered_parts n))) else answer Ignored n).left.parts.times_broken ≡ 0 → n.parts.times_broken ≡ 0

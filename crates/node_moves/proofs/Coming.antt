@@ -3,7 +3,7 @@ use Rattle.node_moves.proofs.Basics.{◌≡◌, ◌≢◌, ℕ, Bool, true, fals
 use Rattle.node_moves.proofs.Machine.{Frame, EmptyFrame, MessageFrame, LinkEnd, Live, Line, Network, Shape, Place, line_at, node_at, user}
 use Rattle.node_moves.proofs.Definitions.{Message, Configuration, IsWell, Node, WholeQueues, Parts, whole, link_at, queue_at, in_service, down, changeover_of, Queue, first_queue, Link, down_link, is_down, is_in_service, Alignment}
 use Rattle.node_moves.proofs.Reading.{IsShape, says_of}
-use Rattle.node_moves.proofs.Shown.{Mid, Shows, IsShown, IsAlike, IsSized, IsSilent, IsBooked, is_heard, shown_in, users_that, any_message, most, link-inside, own-inside}
+use Rattle.node_moves.proofs.Shown.{Books, no_books, Mid, Shows, IsShown, IsAlike, IsSized, IsSilent, IsBooked, is_heard, shown_in, users_that, any_message, most, link-inside, own-inside}
 use Rattle.node_moves.proofs.Going.{IsAt, is_broken}
 use Rattle.node_moves.proofs.Handling.{mid, same-ends, end-at, live-queue}
 use Rattle.node_moves.proofs.Failures.{node-there}
@@ -143,7 +143,7 @@ module _ (settings : (point : ℕ) → Configuration) (t : AreTheirs settings) (
   owed-parts None p = record { size = refl; changeovers = refl; lost = refl; broken = refl }
   owed-parts (Some m) p = record { size = length-set p.links link (record (link_at p link) { acknowledgement_owed = true }); changeovers = refl; lost = refl; broken = refl }
 
-  module _ (n : Node WholeQueues) (d : Carrying) (confirmed : ℕ) (k : List Message) (right : numbers whole c link d n ≡ Ok confirmed) (serves : in_service n.parts link ≡ true) where
+  module _ (n : Node WholeQueues) (d : Carrying) (confirmed : ℕ) (k : Books) (right : numbers whole c link d n ≡ Ok confirmed) (serves : in_service n.parts link ≡ true) where
     abbrev taken : Node WholeQueues
     taken = accept whole c link d confirmed n
 
@@ -188,7 +188,7 @@ module _ (settings : (point : ℕ) → Configuration) (t : AreTheirs settings) (
     pub taken-serves : in_service taken.parts link ≡ true
     taken-serves = ap (λ (y : Alignment). is_in_service y) (owed-link d.message timed_node link) ∙ serves
 
-    pub taken-unbroken : is_broken shape (mid taken [] [] []) ≡ 0 → is_broken shape (mid n [] [] []) ≡ 0
+    pub taken-unbroken : is_broken shape (mid taken [] [] no_books) ≡ 0 → is_broken shape (mid n [] [] no_books) ≡ 0
     taken-unbroken none = sym (owed-parts d.message timed_node).broken ∙ none
 
     pub takes-frame : (p : Network) (fs : List Frame) → IsAt shape p → ShownAt settings t w x (mid n [] [] k) p → (line_at p its).to_near ≡ frame_of d ∷ fs → Leads settings t shape o p (there new) x (mid taken new [] k)
@@ -242,6 +242,7 @@ module _ (settings : (point : ℕ) → Configuration) (t : AreTheirs settings) (
               bag = λ test. omega (arith, booked.bag test, ap (count_by test) none);
               accepted = λ test. omega (arith, booked.accepted test, ap (users_that test) none);
               named = subst (λ (times : ℕ). min (users_that any_message (node_at shape p its).named) most ≤ times) (sym (owed-parts d.message timed_node).lost) booked.named;
+              within = booked.within;
             })
             (pop-flown new y z (frame_of d) fs (s.flown x link fx inside) first refl refl refl (λ test. omega (arith, ap (count_by test) none))))
         by (Some m) e =
@@ -272,5 +273,6 @@ module _ (settings : (point : ℕ) → Configuration) (t : AreTheirs settings) (
               bag = λ test. omega (arith, booked.bag test, ap (count_by test) one, count-cons test m [], count-cons test m (node_at shape p its).bag);
               accepted = λ test. omega (arith, booked.accepted test, ap (users_that test) one, count-cons (user says_of test) m [], count-cons (user says_of test) m (node_at shape p its).accepted);
               named = subst (λ (times : ℕ). min (users_that any_message (node_at shape p its).named) most ≤ times) (sym (owed-parts d.message timed_node).lost) booked.named;
+              within = booked.within;
             })
             (pop-flown new y z (frame_of d) fs (s.flown x link fx inside) first refl refl refl (λ test. omega (arith, ap (count_by test) one, count-cons test m [], count-cons test m y.far.came))))

@@ -4,12 +4,12 @@ use Rattle.node_moves.proofs.Machine.{is_user_message, user, Phase, Live, Moved,
 use Rattle.node_moves.proofs.Definitions.{Message, Configuration, IsWell, Node, WholeQueues, whole, queue_at, down, changeover_of, Queue, first_queue, emptied, last_accepted, Standing, no_changeover, Link, is_down, is_in_service}
 use Rattle.node_moves.proofs.Reading.{IsShape, says_of, order_at, answer_at, across}
 use Rattle.node_moves.proofs.Sets.{with_node, node-set, end-set}
-use Rattle.node_moves.proofs.Shown.{Mid, Shows, IsShown, IsAlike, IsSized, IsSilent, IsBooked, shown_in, is_heard, place, users_that, any_message, most, link-inside, own-inside, at-own}
+use Rattle.node_moves.proofs.Shown.{Books, no_books, naming, Mid, Shows, IsShown, IsAlike, IsSized, IsSilent, IsBooked, shown_in, is_heard, place, users_that, any_message, most, link-inside, own-inside, at-own}
 use Rattle.node_moves.proofs.Going.{IsAt, Goes, by-line, is_broken}
 use Rattle.node_moves.proofs.Handling.{mid, bag_of, count-bag, end-at, taken-arrived, but-none, goes-by-node, live-queue}
 use Rattle.node_moves.proofs.Failures.{node-there, last-same, answer-says, number-fits}
 use Rattle.node_moves.proofs.Failing.{HasParts, standing-but, standing-is}
-use Rattle.node_moves.proofs.Losing.{count-split, users-within, doubtful}
+use Rattle.node_moves.proofs.Losing.{users-among, count-split, users-within, doubtful}
 use Rattle.changeover.specs.Changeover.{users_of, managements_of, behind, accepted_count, in_doubt, lost, with_standing}
 use Rattle.exchange_rules.specs.ChangingOver.{changeover_acknowledgement}
 use Rattle.link.specs.Queue.{named_count}
@@ -111,7 +111,7 @@ module _ (shape : Shape) (o : IsShape shape) (c : Configuration) (well : IsWell 
   booked-there : (p : Network) (v : Mid) → Shows c p v → IsBooked (node_at shape p its) v
   booked-there p v s = subst (λ (x : net.Node). IsBooked x v) (sym (node-there shape o c well p link)) s.booked
 
-  taken-there : (p : Network) (n : Node WholeQueues) (word : Message) (a l k : List Message) → Shows c p (mid n (word ∷ a) l k) → IsTakenFrom (node_at shape p its).bag word (bag_of (mid n a l k))
+  taken-there : (p : Network) (n : Node WholeQueues) (word : Message) (a l : List Message) (k : Books) → Shows c p (mid n (word ∷ a) l k) → IsTakenFrom (node_at shape p its).bag word (bag_of (mid n a l k))
   taken-there p n word a l k s = subst (λ (x : net.Node). IsTakenFrom x.bag word (bag_of (mid n a l k))) (sym (node-there shape o c well p link)) (taken-arrived shape o c well p n word a l k s)
 
   live-there : (p : Network) → IsAt shape p → (line_at p its).near.incomplete ≡ true → (line_at p its).near.phase ≡ Live
@@ -120,7 +120,7 @@ module _ (shape : Shape) (o : IsShape shape) (c : Configuration) (well : IsWell 
   -- ---- by a word
 
   module _ (n m : Node WholeQueues) (number count : ℕ) (s : Standing) (word : Message) (h : HasEnded n m link (Some number) s) (found : accepted_count (queue_at n.queues link) (Some number) ≡ Some count)
-      (lost : m.parts.messages_lost ≡ n.parts.messages_lost) (broken : is_broken shape (mid m [] [] []) ≡ 0 → is_broken shape (mid n [] [] []) ≡ 0) (begun : (changeover_of n.parts link).incomplete ≡ true) where
+      (lost : m.parts.messages_lost ≡ n.parts.messages_lost) (broken : is_broken shape (mid m [] [] no_books) ≡ 0 → is_broken shape (mid n [] [] no_books) ≡ 0) (begun : (changeover_of n.parts link).incomplete ≡ true) where
     abbrev behind_it : List Message
     behind_it = behind (queue_at n.queues link) (accepted_count (queue_at n.queues link) (Some number))
 
@@ -130,7 +130,7 @@ module _ (shape : Shape) (o : IsShape shape) (c : Configuration) (well : IsWell 
     named-so : (near : LinkEnd) → near.phase ≡ Live → IsShown n link near → named_count near.queue number ≡ Some count
     named-so near live x = ap (λ (q : Queue). named_count q number) (sym (live-queue shape o c well n link near live x)) ∙ found
 
-    pub completes-by-order : (a l k : List Message) → says_of word ≡ order_at (across its) number → s.awaited ≡ (changeover_of n.parts link).awaited
+    pub completes-by-order : (a l : List Message) (k : Books) → says_of word ≡ order_at (across its) number → s.awaited ≡ (changeover_of n.parts link).awaited
         → Goes shape c (mid n (word ∷ a) l k) (mid m a (managements_of behind_it ++ answer_of n ∷ l) k)
     completes-by-order a l k says waits = record {
       unbroken = broken;
@@ -166,6 +166,7 @@ module _ (shape : Shape) (o : IsShape shape) (c : Configuration) (well : IsWell 
               );
               accepted = λ test. omega (arith, b.accepted test, count-cons (user says_of test) word a, one-no_user says_of word plain test);
               named = subst (λ (times : ℕ). min (users_that any_message (node_at shape p its).named) most ≤ times) (sym lost) b.named;
+              within = b.within;
             };
           })
           (moves.completes_by_order (record {
@@ -184,7 +185,7 @@ module _ (shape : Shape) (o : IsShape shape) (c : Configuration) (well : IsWell 
           }));
     }
 
-    pub completes-by-answer : (a l k : List Message) → says_of word ≡ answer_at (across its) number → (changeover_of n.parts link).awaited ≡ true → s.awaited ≡ false
+    pub completes-by-answer : (a l : List Message) (k : Books) → says_of word ≡ answer_at (across its) number → (changeover_of n.parts link).awaited ≡ true → s.awaited ≡ false
         → Goes shape c (mid n (word ∷ a) l k) (mid m a (managements_of behind_it ++ l) k)
     completes-by-answer a l k says awaited ended = record {
       unbroken = broken;
@@ -218,6 +219,7 @@ module _ (shape : Shape) (o : IsShape shape) (c : Configuration) (well : IsWell 
               );
               accepted = λ test. omega (arith, b.accepted test, count-cons (user says_of test) word a, one-no_user says_of word plain test);
               named = subst (λ (times : ℕ). min (users_that any_message (node_at shape p its).named) most ≤ times) (sym lost) b.named;
+              within = b.within;
             };
           })
           (moves.completes_by_answer (record {
@@ -237,10 +239,10 @@ module _ (shape : Shape) (o : IsShape shape) (c : Configuration) (well : IsWell 
 
   -- ---- by time
 
-  pub completes-by-time : (n m : Node WholeQueues) (s : Standing) (a l k : List Message) → HasEnded n m link None s → (changeover_of n.parts link).incomplete ≡ true → s.awaited ≡ (changeover_of n.parts link).awaited
+  pub completes-by-time : (n m : Node WholeQueues) (s : Standing) (a l : List Message) (k : Books) → HasEnded n m link None s → (changeover_of n.parts link).incomplete ≡ true → s.awaited ≡ (changeover_of n.parts link).awaited
       → ((x : ℕ) → min x most ≤ n.parts.messages_lost → min (length (users_of (in_doubt (queue_at n.queues link) None)) + x) most ≤ m.parts.messages_lost)
-      → (is_broken shape (mid m [] [] []) ≡ 0 → is_broken shape (mid n [] [] []) ≡ 0)
-      → Goes shape c (mid n a l k) (mid m a (managements_of (behind (queue_at n.queues link) None) ++ l) k)
+      → (is_broken shape (mid m [] [] no_books) ≡ 0 → is_broken shape (mid n [] [] no_books) ≡ 0)
+      → Goes shape c (mid n a l k) (mid m a (managements_of (behind (queue_at n.queues link) None) ++ l) (naming k (users_of (in_doubt (queue_at n.queues link) None))))
   completes-by-time n m s a l k h begun waits lost broken = record {
     unbroken = broken;
     goes = λ none p at z.
@@ -256,7 +258,7 @@ module _ (shape : Shape) (o : IsShape shape) (c : Configuration) (well : IsWell 
         let same : (with_completion (line_at p its) Gone near.awaited).near ≡ record near { phase = Gone; incomplete = false; awaited = s.awaited } =
         ap (λ (b : Bool). record near { phase = Gone; incomplete = false; awaited = b }) (x.awaited ∙ sym waits) in
         let unsure : sent_unconfirmed near.queue ≡ in_doubt q None = doubtful near.queue (end-at shape o c well p link at).queue.confirmed ∙ ap (λ (r : Queue). in_doubt r None) (sym is) in
-        by-line shape o c well p (mid n a l k) (mid m a (managements_of (behind q None) ++ l) k) link (with_completion (line_at p its) Gone near.awaited).near new z
+        by-line shape o c well p (mid n a l k) (mid m a (managements_of (behind q None) ++ l) (naming k (users_of (in_doubt q None)))) link (with_completion (line_at p its) Gone near.awaited).near new z
         (record {
           inside = inside;
           sized = ended-sized c n m link None s h z.sized;
@@ -280,6 +282,14 @@ module _ (shape : Shape) (o : IsShape shape) (c : Configuration) (well : IsWell 
               ap (users_that any_message) unsure,
               users-within (in_doubt q None),
             );
+            within = λ test. omega (
+              arith,
+              b.within test,
+              count-append (user says_of test) (sent_unconfirmed near.queue) (node_at shape p its).named,
+              count-append (user says_of test) k.named (users_of (in_doubt q None)),
+              ap (users_that test) unsure,
+              users-among test (in_doubt q None),
+            );
           };
         })
         (moves.completes_by_time (record {
@@ -291,7 +301,7 @@ module _ (shape : Shape) (o : IsShape shape) (c : Configuration) (well : IsWell 
 
   -- ---- an order about what is complete is answered
 
-  pub answers-order : (n : Node WholeQueues) (number : ℕ) (word : Message) (a l k : List Message) → link < length c.links → says_of word ≡ order_at (across its) number → down n.parts link ≡ true
+  pub answers-order : (n : Node WholeQueues) (number : ℕ) (word : Message) (a l : List Message) (k : Books) → link < length c.links → says_of word ≡ order_at (across its) number → down n.parts link ≡ true
       → (changeover_of n.parts link).incomplete ≡ false → Goes shape c (mid n (word ∷ a) l k) (mid n a (answer_of n ∷ l) k)
   answers-order n number word a l k inside says gone complete = goes-by-node shape o c well _ _ (but-none shape o c well n) (λ p at z.
       let x : IsShown n link (line_at p its).near = z.ends link inside in
@@ -304,6 +314,7 @@ module _ (shape : Shape) (o : IsShape shape) (c : Configuration) (well : IsWell 
           bag = λ test. omega (arith, count-cons test (answer_of n) rest, count-bag (mid n a l k) test, count-cons test (answer_of n) l);
           accepted = λ test. omega (arith, b.accepted test, count-cons (user says_of test) word a, one-no_user says_of word plain test);
           named = b.named;
+          within = b.within;
         },
         moves.answers_order (record {
           place = its;
@@ -322,7 +333,7 @@ module _ (shape : Shape) (o : IsShape shape) (c : Configuration) (well : IsWell 
 
   -- ---- an answer ends the wait
 
-  pub ends-wait : (n m : Node WholeQueues) (number : ℕ) (s : Standing) (word : Message) (a l k : List Message) → HasParts n m n.parts.links (with_standing n.parts.changeovers link s)
+  pub ends-wait : (n m : Node WholeQueues) (number : ℕ) (s : Standing) (word : Message) (a l : List Message) (k : Books) → HasParts n m n.parts.links (with_standing n.parts.changeovers link s)
       → s.incomplete ≡ false → s.awaited ≡ false → says_of word ≡ answer_at (across its) number → (changeover_of n.parts link).awaited ≡ true → (changeover_of n.parts link).incomplete ≡ false
       → Goes shape c (mid n (word ∷ a) l k) (mid m a l k)
   ends-wait n m number s word a l k h complete ended says awaited was = record {
@@ -353,6 +364,7 @@ module _ (shape : Shape) (o : IsShape shape) (c : Configuration) (well : IsWell 
             bag = λ test. omega (arith, count-bag (mid n a l k) test, ap (λ (q : WholeQueues). count_by test q.held) h.queues);
             accepted = λ test. omega (arith, b.accepted test, count-cons (user says_of test) word a, one-no_user says_of word plain test);
             named = subst (λ (times : ℕ). min (users_that any_message (node_at shape p its).named) most ≤ times) (sym h.lost) b.named;
+            within = b.within;
           };
         })
         (moves.ends_wait (record {

@@ -1,9 +1,9 @@
 -- User Data is handed in: by moves.
-use Rattle.node_moves.proofs.Basics.{◌≡◌, ℕ, Bool, true, false, not, ◌&&◌, ◌<◌, List, [], ◌∷◌, ◌++◌, length, Option, Some, None, Result, Ok, Err, nat_lt, refl, ap, sym, subst, ◌∙◌, arith, nat_tests, if◌then◌else◌}
+use Rattle.node_moves.proofs.Basics.{◌≡◌, ℕ, Bool, true, false, not, ◌&&◌, ◌<◌, List, [], ◌∷◌, length, Option, Some, None, Result, Ok, Err, nat_lt, refl, ap, sym, subst, ◌∙◌, arith, nat_tests, if◌then◌else◌}
 use Rattle.node_moves.proofs.Machine.{Frame, Network, Shape, Place, line_at, last_of}
 use Rattle.node_moves.proofs.Definitions.{Message, Configuration, IsWell, Node, Done, WholeQueues, whole, with_parts, answer, refuse, is_link, link_at, in_service, down}
 use Rattle.node_moves.proofs.Reading.{IsShape}
-use Rattle.node_moves.proofs.Shown.{Mid}
+use Rattle.node_moves.proofs.Shown.{Books, accepting, Mid}
 use Rattle.node_moves.proofs.Going.{IsAt, Goes, goes-none, goes-both}
 use Rattle.node_moves.proofs.Handling.{mid}
 use Rattle.node_moves.proofs.Own.{K, both, aside}
@@ -11,7 +11,7 @@ use Rattle.node_moves.proofs.Failing.{fail-goes}
 use Rattle.node_moves.proofs.Aligning.{advance-goes}
 use Rattle.node_moves.proofs.Entries.{data-heard}
 use Rattle.node_moves.proofs.Bringing.{delivered-to, none-more}
-use Rattle.node_moves.proofs.World.{AreData, IsData, data_of, ShownAt, rests, place_at}
+use Rattle.node_moves.proofs.World.{books_of, AreData, IsData, data_of, ShownAt, rests, place_at}
 use Rattle.node_moves.proofs.Relining.{Leads, leads-none, leads-both, leads-at, leads-goes}
 use Rattle.node_moves.proofs.Coming.{frame_of, ignored-down, popped, drops-frame, takes-frame, taken-serves, taken-unbroken}
 use Rattle.node_moves.specs.Networks.{NetworkState, IsNode, changed, state_of}
@@ -54,8 +54,8 @@ module _ (settings : (point : ℕ) → Configuration) (t : AreTheirs settings) (
   abbrev pub n : Node WholeQueues
   n = (w.node x).node
 
-  abbrev pub k : List Message
-  k = (w.node x).accepted
+  abbrev pub k : Books
+  k = books_of (w.node x)
 
   abbrev pub there : List Message → NetworkState
   there new = changed x (popped link new) w
@@ -79,7 +79,7 @@ module _ (settings : (point : ℕ) → Configuration) (t : AreTheirs settings) (
     -- what comes of it
     pub record Hears (left : Node WholeQueues) (new brought : List Message) : Type 0 where
       pub unbroken : left.parts.times_broken ≡ 0 → n.parts.times_broken ≡ 0
-      pub leads : left.parts.times_broken ≡ 0 → (p : Network) → IsAt shape p → ShownAt settings t w x (rests settings t (w.node x)) p → Leads settings t shape o p (there new) x (mid left [] [] (k ++ brought))
+      pub leads : left.parts.times_broken ≡ 0 → (p : Network) → IsAt shape p → ShownAt settings t w x (rests settings t (w.node x)) p → Leads settings t shape o p (there new) x (mid left [] [] (accepting k brought))
 
     abbrev pub Comes : Done WholeQueues → Option Message → Node WholeQueues → Type 0
     Comes r new acc = Hears r.left (option_to_list new) (brought_by new r.outcome c acc)
@@ -95,7 +95,7 @@ module _ (settings : (point : ℕ) → Configuration) (t : AreTheirs settings) (
           let m : Leads settings t shape o p (there []) x (mid left [] [] k) =
           leads-both settings t shape o p w (there []) x (mid left [] [] k) (mid left [] [] k) l
           (drops-frame settings t shape o w x link fx inside (mid left [] [] k) (last_of p l.networks) (frame_of d) f.0 l.shown f.1 gone) in
-          leads-goes settings t shape o p (there []) x (mid left [] [] k) (mid left [] [] (k ++ [])) fx h m (none-more shape o c well (mid left [] [] k) left [] [] k (goes-none shape c (mid left [] [] k))) none;
+          leads-goes settings t shape o p (there []) x (mid left [] [] k) (mid left [] [] (accepting k [])) fx h m (none-more shape o c well (mid left [] [] k) left [] [] k (goes-none shape c (mid left [] [] k))) none;
     }
 
     -- a link that fails is down
@@ -109,7 +109,7 @@ module _ (settings : (point : ℕ) → Configuration) (t : AreTheirs settings) (
     noted outcome m = record { each = λ a l j. goes-none shape c (mid m a l j) }
 
     carry-goes : (message : Option Message) (m : Node WholeQueues) → in_service m.parts link ≡ true
-        → Goes shape c (mid m (option_to_list message) [] k) (mid (carry whole c link message m).left [] [] (k ++ brought_by message (carry whole c link message m).outcome c m))
+        → Goes shape c (mid m (option_to_list message) [] k) (mid (carry whole c link message m).left [] [] (accepting k (brought_by message (carry whole c link message m).outcome c m)))
     carry-goes None m serves = none-more shape o c well _ m [] [] k (goes-none shape c (mid m [] [] k))
     carry-goes (Some message) m serves =
         let r : Done WholeQueues = deliver_to whole c (whither_goes c message) link message m in
@@ -125,7 +125,7 @@ module _ (settings : (point : ℕ) → Configuration) (t : AreTheirs settings) (
         let taken : Node WholeQueues = accept whole c link d confirmed next in
         let left : Node WholeQueues = (carry whole c link d.message taken).left in
         let brought : List Message = brought_by d.message (carry whole c link d.message taken).outcome c taken in
-        let on : Goes shape c (mid taken (option_to_list d.message) [] k) (mid left [] [] (k ++ brought)) =
+        let on : Goes shape c (mid taken (option_to_list d.message) [] k) (mid left [] [] (accepting k brought)) =
         carry-goes d.message taken (taken-serves settings t shape o w x link fx inside next d confirmed k e serves) in
         record {
           unbroken = λ none. (g.each [] [] k).unbroken (taken-unbroken settings t shape o w x link fx inside next d confirmed k e serves (on.unbroken none));
@@ -137,7 +137,7 @@ module _ (settings : (point : ℕ) → Configuration) (t : AreTheirs settings) (
               let m : Leads settings t shape o p (there (option_to_list d.message)) x (mid taken (option_to_list d.message) [] k) =
               leads-both settings t shape o p w (there (option_to_list d.message)) x (mid next [] [] k) (mid taken (option_to_list d.message) [] k) l
               (takes-frame settings t shape o w x link fx inside next d confirmed k e serves (last_of p l.networks) f.0 (leads-at settings t shape o p w x (mid next [] [] k) l h) l.shown f.1) in
-              leads-goes settings t shape o p (there (option_to_list d.message)) x (mid taken (option_to_list d.message) [] k) (mid left [] [] (k ++ brought)) fx h m on none;
+              leads-goes settings t shape o p (there (option_to_list d.message)) x (mid taken (option_to_list d.message) [] k) (mid left [] [] (accepting k brought)) fx h m on none;
         }
 
     -- ---- what the link does about it
@@ -192,7 +192,7 @@ module _ (settings : (point : ℕ) → Configuration) (t : AreTheirs settings) (
       pub leads : (receive whole c link text n).left.parts.times_broken ≡ 0 → (p : Network) → IsAt shape p → ShownAt settings t w x (rests settings t (w.node x)) p
           → Leads settings t shape o p (there (option_to_list (new_message link text (state_of c (w.node x))))) x
           (mid (receive whole c link text n).left [] []
-          (k ++ brought_by (new_message link text (state_of c (w.node x))) (receive whole c link text n).outcome c (accept_text link (read_frame text) (state_of c (w.node x)))))
+          (accepting k (brought_by (new_message link text (state_of c (w.node x))) (receive whole c link text n).outcome c (accept_text link (read_frame text) (state_of c (w.node x))))))
 
     pub kind-comes : (value : FrameValue) → read_frame text ≡ Ok value → (frame : Frame) → data_of value ≡ Some frame → Comes_in
     kind-comes (EmptyFrame bsn fsn) e frame f =

@@ -263,7 +263,8 @@ module _ (settings : (point : ℕ) → Configuration) (t : AreTheirs settings) (
   pub ends : EndsOnce settings w x
   ends = record {
     once = λ test. omega (arith, whole test);
-    named = λ test. omega (arith, whole test, few test, node_books.named);
+    named = λ test. omega (arith, whole test, (h.sound.books x).named test, node_books.within test, users-same test (w.node x).named);
+    counted = λ test. omega (arith, whole test, few test, node_books.named);
   }
 
 pub ends-once : each_message_ends_once

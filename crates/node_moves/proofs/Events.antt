@@ -1,16 +1,19 @@
 -- What ends each event, ticks, and the events that bring no message: by moves.
-use Rattle.node_moves.proofs.Basics.{◌≡◌, ℕ, zero, suc, Bool, true, false, List, [], ◌∷◌, ◌++◌, length, Option, Some, None, refl, sym, subst, if◌then◌else◌}
+use Rattle.node_moves.proofs.Basics.{◌≡◌, ℕ, zero, suc, Bool, true, false, List, [], ◌∷◌, ◌++◌, length, Option, Some, None, not, ◌&&◌, is_some, filter, refl, ap, sym, subst, ◌∙◌, if◌then◌else◌}
+use Rattle.node_moves.proofs.Shown.{Books, naming}
 use Rattle.node_moves.proofs.Machine.{Shape}
-use Rattle.node_moves.proofs.Definitions.{Message, flow_of, Configuration, IsWell, Node, Done, WholeQueues, whole, with_parts, answer, refuse, is_link, link_at, changeover_of, link_of, waits}
+use Rattle.node_moves.proofs.Definitions.{Message, flow_of, Configuration, IsWell, Node, Done, WholeQueues, whole, with_parts, answer, refuse, is_link, link_at, changeover_of, link_of, waits, hold, queue_on}
 use Rattle.node_moves.proofs.Reading.{IsShape}
 use Rattle.node_moves.proofs.Going.{Goes, goes-none, goes-both}
-use Rattle.node_moves.proofs.Handling.{mid, holds, places, loses, takes-out}
-use Rattle.node_moves.proofs.Own.{K, both, stays, either, either_done, aside, relinked, ask-goes, tell_owed-goes}
+use Rattle.node_moves.proofs.Handling.{mid, names-more, holds, places, loses, takes-out}
+use Rattle.node_moves.proofs.Own.{K, Names, named-besides, named-after, named-before, named-twice, both-named, both, stays, either, either_done, aside, relinked, ask-goes, tell_owed-goes}
 use Rattle.node_moves.proofs.Failing.{if_up-goes}
 use Rattle.node_moves.proofs.Entering.{begin_test-goes, test_unanswered-goes}
 use Rattle.node_moves.proofs.Aligning.{run_out-goes}
 use Rattle.node_moves.proofs.ChangingOver.{expiry-goes, unbarred-goes, late-goes}
+use Rattle.exchange_rules.proofs.Departing.{go_by-strands}
 use Rattle.exchange_rules.proofs.LeavingMessages.{chosen_serves}
+use Rattle.exchange_rules.specs.Conserving.{gone_by_release, gone_by_tick, gone_by_timer, gone_by_timers, is_stranded}
 use Rattle.exchange_rules.specs.ChangingBack.{late_time, late_code}
 use Rattle.exchange_rules.specs.ChangingOver.{is_late, order_late, order_all, unbarred}
 unfoldable use Rattle.exchange_rules.specs.ChangingOver.{order_each}
@@ -29,6 +32,7 @@ use Rattle.signalling_types.specs.declared.notice.ChangeoverTimer.TheVariants as
 use Rattle.signalling_types.specs.declared.notice.FailureReason.TheVariants as reasons
 use Rattle.signalling_types.specs.declared.outcome.Outcome.{Outcome}
 use Rattle.signalling_types.specs.declared.outcome.Outcome.TheVariants.{Queued, Held, Local, Handled, Ignored, Refused}
+use Rattle.std.proofs.lemmas.List.Elements.{filter_agree}
 use Rattle.timers.specs.Timers.{ticked, due_name, due_count, after_due}
 use Rattle.timers.specs.declared.name.TimerName.{TimerName}
 use Rattle.timers.specs.declared.name.TimerName.TheVariants as name
@@ -36,25 +40,38 @@ use Rattle.timers.specs.declared.name.TimerName.TheVariants as name
 module _ (shape : Shape) (o : IsShape shape) (c : Configuration) (well : IsWell c) where
   -- ---- release
 
-  go-goes : (waiting : Bool) (link : Option ℕ) (n : Node WholeQueues) (m : Message) (a l k : List Message) → link_of c n.parts (flow_of m) ≡ link → Goes shape c (mid n a (m ∷ l) k) (mid (go_by whole c waiting m n) a l k)
-  go-goes true link n m a l k e = holds shape o c well n m a l k
+  go-goes : (waiting : Bool) (link : Option ℕ) (n : Node WholeQueues) (m : Message) (a l : List Message) (k : Books) → link_of c n.parts (flow_of m) ≡ link
+      → Goes shape c (mid n a (m ∷ l) k) (mid (go_by whole c waiting m n) a l (naming k (if not waiting && not (is_some link) then m ∷ [] else [])))
+  go-goes true link n m a l k e = names-more shape o c well _ (hold whole m n) a l k [] (holds shape o c well n m a l k)
   go-goes false (Some link) n m a l k e =
-      subst (λ (to : Option ℕ). Goes shape c (mid n a (m ∷ l) k) (mid (go_on whole c to m n) a l k)) (sym e) (places shape o c well n link m a l k (chosen_serves c n.parts (flow_of m) link e))
-  go-goes false None n m a l k e = subst (λ (to : Option ℕ). Goes shape c (mid n a (m ∷ l) k) (mid (go_on whole c to m n) a l k)) (sym e) (loses shape o c well causes.NoRoute n m a l k)
+      subst (λ (to : Option ℕ). Goes shape c (mid n a (m ∷ l) k) (mid (go_on whole c to m n) a l (naming k []))) (sym e)
+      (names-more shape o c well _ (queue_on whole c link m n) a l k [] (places shape o c well n link m a l k (chosen_serves c n.parts (flow_of m) link e)))
+  go-goes false None n m a l k e = subst (λ (to : Option ℕ). Goes shape c (mid n a (m ∷ l) k) (mid (go_on whole c to m n) a l (naming k (m ∷ [])))) (sym e) (loses shape o c well causes.NoRoute n m a l k)
 
-  go_each-goes : (ms : List Message) (n : Node WholeQueues) (a l k : List Message) → Goes shape c (mid n a (ms ++ l) k) (mid (go_each whole c ms n) a l k)
-  go_each-goes [] n a l k = goes-none shape c (mid n a l k)
+  go_each-goes : (ms : List Message) (n : Node WholeQueues) (a l : List Message) (k : Books) → Goes shape c (mid n a (ms ++ l) k) (mid (go_each whole c ms n) a l (naming k (filter (is_stranded c n.parts) ms)))
+  go_each-goes [] n a l k = names-more shape o c well _ n a l k [] (goes-none shape c (mid n a l k))
   go_each-goes (m ∷ ms) n a l k =
-      goes-both shape c _ _ _ (go-goes (waits c n.parts.holds m) (link_of c n.parts (flow_of m)) n m a (ms ++ l) k refl) (go_each-goes ms (go whole c m n) a l k)
+      let one : Node WholeQueues = go whole c m n in
+      let first : List Message = if is_stranded c n.parts m then m ∷ [] else [] in
+      let all : naming (naming k first) (filter (is_stranded c one.parts) ms) ≡ naming k (filter (is_stranded c n.parts) (m ∷ ms)) =
+      named-twice shape o c well k first (filter (is_stranded c one.parts) ms)
+      ∙ ap (λ (xs : List Message). naming k (first ++ xs)) (filter_agree (is_stranded c one.parts) (is_stranded c n.parts) (λ x. go_by-strands c (waits c n.parts.holds m) m x n) ms)
+      ∙ ap (λ (xs : List Message). naming k xs) (first-kept (is_stranded c n.parts m) m (filter (is_stranded c n.parts) ms)) in
+      subst (λ (j : Books). Goes shape c (mid n a (m ∷ ms ++ l) k) (mid (go_each whole c ms one) a l j)) all
+      (goes-both shape c _ _ _ (go-goes (waits c n.parts.holds m) (link_of c n.parts (flow_of m)) n m a (ms ++ l) k refl) (go_each-goes ms one a l (naming k first)))
+    where
+      first-kept : (b : Bool) (m : Message) (xs : List Message) → (if b then m ∷ [] else []) ++ xs ≡ (if b then m ∷ xs else xs)
+      first-kept true m xs = refl
+      first-kept false m xs = refl
 
-  release-goes : (n : Node WholeQueues) → K shape o c well n (release whole c n)
+  release-goes : (n : Node WholeQueues) → Names shape o c well n (release whole c n) (gone_by_release c n).lost
   release-goes n = record {
     each = λ a l k. goes-both shape c _ _ _ (takes-out shape o c well n a l k) (go_each-goes n.queues.held (record n { queues = whole.without_held n.queues }) a l k);
   }
 
   -- what ends each event
-  pub settles : (n : Node WholeQueues) → K shape o c well n (tell_owed whole c (release whole c n))
-  settles n = both shape o c well n (release whole c n) _ (release-goes n) (tell_owed-goes shape o c well (release whole c n))
+  pub settles : (n : Node WholeQueues) → Names shape o c well n (tell_owed whole c (release whole c n)) (gone_by_release c n).lost
+  settles n = named-before shape o c well n (release whole c n) _ (gone_by_release c n).lost (release-goes n) (tell_owed-goes shape o c well (release whole c n))
 
   -- ---- orders that go out late
 
@@ -82,43 +99,47 @@ module _ (shape : Shape) (o : IsShape shape) (c : Configuration) (well : IsWell 
 
   -- ---- a tick
 
-  timer-goes : (timer : TimerName) (n : Node WholeQueues) → K shape o c well n (run_timer whole c timer n)
-  timer-goes (name.L1 link) n = run_out-goes shape o c well link its.L1 n
-  timer-goes (name.L2 link) n = run_out-goes shape o c well link its.L2 n
-  timer-goes (name.L3 link) n = run_out-goes shape o c well link its.L3 n
-  timer-goes (name.L4 link) n = run_out-goes shape o c well link its.L4 n
-  timer-goes (name.L6 link) n = run_out-goes shape o c well link its.L6 n
-  timer-goes (name.L7 link) n = run_out-goes shape o c well link its.L7 n
+  timer-goes : (timer : TimerName) (n : Node WholeQueues) → Names shape o c well n (run_timer whole c timer n) (gone_by_timer (Some timer) n).lost
+  timer-goes (name.L1 link) n = named-besides shape o c well n _ [] (run_out-goes shape o c well link its.L1 n)
+  timer-goes (name.L2 link) n = named-besides shape o c well n _ [] (run_out-goes shape o c well link its.L2 n)
+  timer-goes (name.L3 link) n = named-besides shape o c well n _ [] (run_out-goes shape o c well link its.L3 n)
+  timer-goes (name.L4 link) n = named-besides shape o c well n _ [] (run_out-goes shape o c well link its.L4 n)
+  timer-goes (name.L6 link) n = named-besides shape o c well n _ [] (run_out-goes shape o c well link its.L6 n)
+  timer-goes (name.L7 link) n = named-besides shape o c well n _ [] (run_out-goes shape o c well link its.L7 n)
   timer-goes (name.T1 link) n = expiry-goes shape o c well link which.T1 n
   timer-goes (name.T2 link) n = expiry-goes shape o c well link which.T2 n
-  timer-goes (name.T3 link) n = aside shape o c well n (late_time link n.parts) refl refl refl refl
-  timer-goes (name.T4 set code) n = aside shape o c well n (late_code set code n.parts) refl refl refl refl
-  timer-goes (name.T6 destination) n = aside shape o c well n _ refl refl refl refl
-  timer-goes (name.T8 set destination) n = stays shape o c well n
-  timer-goes (name.T10 set destination) n = ask-goes shape o c well set destination n
-  timer-goes (name.Slt1 link) n = test_unanswered-goes shape o c well link n
-  timer-goes (name.Slt2 link) n = begin_test-goes shape o c well link n
+  timer-goes (name.T3 link) n = named-besides shape o c well n _ [] (aside shape o c well n (late_time link n.parts) refl refl refl refl)
+  timer-goes (name.T4 set code) n = named-besides shape o c well n _ [] (aside shape o c well n (late_code set code n.parts) refl refl refl refl)
+  timer-goes (name.T6 destination) n = named-besides shape o c well n _ [] (aside shape o c well n _ refl refl refl refl)
+  timer-goes (name.T8 set destination) n = named-besides shape o c well n _ [] (stays shape o c well n)
+  timer-goes (name.T10 set destination) n = named-besides shape o c well n _ [] (ask-goes shape o c well set destination n)
+  timer-goes (name.Slt1 link) n = named-besides shape o c well n _ [] (test_unanswered-goes shape o c well link n)
+  timer-goes (name.Slt2 link) n = named-besides shape o c well n _ [] (begin_test-goes shape o c well link n)
 
-  due-goes : (timer : Option TimerName) (n : Node WholeQueues) → K shape o c well n (run_due whole c timer n)
+  due-goes : (timer : Option TimerName) (n : Node WholeQueues) → Names shape o c well n (run_due whole c timer n) (gone_by_timer timer n).lost
   due-goes (Some timer) n = timer-goes timer n
-  due-goes None n = stays shape o c well n
+  due-goes None n = named-besides shape o c well n n [] (stays shape o c well n)
 
-  times-go : (many : ℕ) (n : Node WholeQueues) → K shape o c well n (run_times whole c many n)
-  times-go zero n = stays shape o c well n
+  times-go : (many : ℕ) (n : Node WholeQueues) → Names shape o c well n (run_times whole c many n) (gone_by_timers many c n).lost
+  times-go zero n = named-besides shape o c well n n [] (stays shape o c well n)
   times-go (suc more) n =
+      let due : Option TimerName = due_name n.parts.timers in
       let handed : Node WholeQueues = with_timers n (after_due n.parts.timers) in
-      let next : Node WholeQueues = run_due whole c (due_name n.parts.timers) handed in
-      both shape o c well n next _ (both shape o c well n handed next (aside shape o c well n _ refl refl refl refl) (due-goes (due_name n.parts.timers) handed)) (times-go more next)
+      let next : Node WholeQueues = run_due whole c due handed in
+      let lost : List Message = (gone_by_timer due handed).lost in
+      both-named shape o c well n next (run_times whole c more next) lost (gone_by_timers more c next).lost
+      (named-after shape o c well n handed next lost (aside shape o c well n _ refl refl refl refl) (due-goes due handed)) (times-go more next)
 
-  tick-goes : (n : Node WholeQueues) → K shape o c well n (tick whole c n).left
+  tick-goes : (n : Node WholeQueues) → Names shape o c well n (tick whole c n).left (gone_by_tick c n).lost
   tick-goes n =
       let ticks : Node WholeQueues = with_timers n (ticked n.parts.timers) in
       let ran : Node WholeQueues = run_times whole c (due_count (ticked n.parts.timers)) ticks in
-      both shape o c well n ticks _ (aside shape o c well n _ refl refl refl refl)
-      (both shape o c well ticks ran _ (times-go (due_count (ticked n.parts.timers)) ticks) (aside shape o c well ran _ refl refl refl refl))
+      let lost : List Message = (gone_by_timers (due_count (ticked n.parts.timers)) c ticks).lost in
+      named-after shape o c well n ticks _ lost (aside shape o c well n _ refl refl refl refl)
+      (named-before shape o c well ticks ran _ lost (times-go (due_count (ticked n.parts.timers)) ticks) (aside shape o c well ran _ refl refl refl refl))
 
-  pub ticked-goes : (n : Node WholeQueues) → K shape o c well n (ordered_late whole c (tick whole c n)).left
-  ticked-goes n = both shape o c well n (tick whole c n).left _ (tick-goes n) (late_by-goes (tick whole c n).outcome (tick whole c n).left)
+  pub ticked-goes : (n : Node WholeQueues) → Names shape o c well n (ordered_late whole c (tick whole c n)).left (gone_by_tick c n).lost
+  ticked-goes n = named-before shape o c well n (tick whole c n).left _ (gone_by_tick c n).lost (tick-goes n) (late_by-goes (tick whole c n).outcome (tick whole c n).left)
 
   -- ---- associations that go down, and the operator's word
 

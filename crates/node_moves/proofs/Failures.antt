@@ -4,7 +4,7 @@ use Rattle.node_moves.proofs.Machine.{Phase, Live, Moved, Gone, LinkEnd, Network
 use Rattle.node_moves.proofs.Definitions.{Message, dpc_of, Configuration, IsWell, Node, WholeQueues, Parts, queue_at, link_at, in_service, down, changeover_of, entry_of, peer_of, set_of, Queue, last_accepted, Link, down_link, is_down, is_in_service, Alignment, Down, Management, read_management}
 use Rattle.node_moves.proofs.Reading.{IsShape, says_of, order_at, answer_at, read_says}
 use Rattle.node_moves.proofs.Sets.{with_end, end-set}
-use Rattle.node_moves.proofs.Shown.{Shows, IsShown, IsAlike, IsSized, IsBooked, shown_in, is_heard, place, users_that, any_message, most, link-inside, own-inside, at-own}
+use Rattle.node_moves.proofs.Shown.{Books, Shows, IsShown, IsAlike, IsSized, IsBooked, shown_in, is_heard, place, users_that, any_message, most, link-inside, own-inside, at-own}
 use Rattle.node_moves.proofs.Going.{IsAt, Arrives, Goes, by-line}
 use Rattle.node_moves.proofs.Handling.{mid, end-at}
 use Rattle.node_moves.proofs.Own.{K, made-read}
@@ -78,11 +78,12 @@ up-listed c n link s e =
     (λ (l : length c.links ≤ link). (let gone : down n.parts link ≡ true = past-down n.parts link (subst (λ (k : ℕ). k ≤ link) (sym s) l) in absurd cc))
     (cases_lt link (length c.links))
 
-pub booked-alike : (x : net.Node) (n m : Node WholeQueues) (a l k : List Message) → m.queues.held ≡ n.queues.held → m.parts.messages_lost ≡ n.parts.messages_lost → IsBooked x (mid n a l k) → IsBooked x (mid m a l k)
+pub booked-alike : (x : net.Node) (n m : Node WholeQueues) (a l : List Message) (k : Books) → m.queues.held ≡ n.queues.held → m.parts.messages_lost ≡ n.parts.messages_lost → IsBooked x (mid n a l k) → IsBooked x (mid m a l k)
 booked-alike x n m a l k held lost b = record {
   bag = λ test. b.bag test ∙ ap (λ (ms : List Message). count_by test ms + (count_by test a + count_by test l)) (sym held);
   accepted = b.accepted;
   named = subst (λ (times : ℕ). min (users_that any_message x.named) most ≤ times) (sym lost) b.named;
+  within = b.within;
 }
 
 module _ (shape : Shape) (o : IsShape shape) (c : Configuration) (well : IsWell c) where
@@ -96,7 +97,7 @@ module _ (shape : Shape) (o : IsShape shape) (c : Configuration) (well : IsWell 
     pub shown : IsShown m link end
     pub move : Move shape says_of p (with_end shape p (place c link) end x)
 
-  pub arrives-by-end : (p : Network) (n m : Node WholeQueues) (link : ℕ) (a l k : List Message) → Shows c p (mid n a l k) → IsAlikeBut c n m link → link < length c.links
+  pub arrives-by-end : (p : Network) (n m : Node WholeQueues) (link : ℕ) (a l : List Message) (k : Books) → Shows c p (mid n a l k) → IsAlikeBut c n m link → link < length c.links
       → Changes p m link (node_at shape p (place c link)) → Arrives shape c p (mid m a l k)
   arrives-by-end p n m link a l k s e inside h =
       by-line shape o c well p (mid n a l k) (mid m a l k) link h.end (node_at shape p (place c link)) s
@@ -161,7 +162,7 @@ module _ (shape : Shape) (o : IsShape shape) (c : Configuration) (well : IsWell 
     pub still : (changeover_of m.parts link).incomplete ≡ true
     pub awaited : (changeover_of m.parts link).awaited ≡ true
 
-  pub orders : (n m : Node WholeQueues) (link : ℕ) (a l k : List Message) → IsAlikeBut c n m link → (IsSized c n → link < length c.links) → (IsSized c n → link < length c.links → HasAsked n m link)
+  pub orders : (n m : Node WholeQueues) (link : ℕ) (a l : List Message) (k : Books) → IsAlikeBut c n m link → (IsSized c n → link < length c.links) → (IsSized c n → link < length c.links → HasAsked n m link)
       → Goes shape c (mid n a l k) (mid m a (changeover_order c link (last_accepted (queue_at n.queues link)) ∷ l) k)
   orders n m link a l k e listed f = record {
     unbroken = λ none. sym e.broken ∙ none;
@@ -192,6 +193,7 @@ module _ (shape : Shape) (o : IsShape shape) (c : Configuration) (well : IsWell 
             bag = λ test. omega (arith, b.bag test, count-cons test order l, count-cons test order (node_at shape p its).bag);
             accepted = b.accepted;
             named = b.named;
+            within = b.within;
           };
         })
         (moves.orders (record {

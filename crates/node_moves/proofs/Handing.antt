@@ -1,24 +1,25 @@
 -- Frames and link statuses are handed in, and link statuses are lost or come twice: steps of a network, by moves.
-use Rattle.node_moves.proofs.Basics.{◌≡◌, ◌≢◌, ℕ, zero, suc, Bool, true, false, not, ◌<◌, List, [], ◌∷◌, ◌++◌, length, drop, Some, None, Result, Ok, Err, nat_eq, nat_lt, refl, ap, sym, subst, ◌∙◌, arith, nat_tests, if◌then◌else◌, ⊎_elim, cases_eq, ne_eqb}
+use Rattle.node_moves.proofs.Basics.{◌≡◌, ◌≢◌, ℕ, zero, suc, Bool, true, false, not, ◌<◌, List, [], ◌∷◌, length, drop, Some, None, Result, Ok, Err, nat_eq, nat_lt, refl, ap, sym, subst, ◌∙◌, arith, nat_tests, if◌then◌else◌, ⊎_elim, cases_eq, ne_eqb}
 use Rattle.node_moves.proofs.Machine.{Frame, Line, Network, Shape, Place, line_at, node_at, last_of}
 use Rattle.node_moves.proofs.Definitions.{Message, Configuration, IsWell, Node, Done, WholeQueues, whole, answer, refuse, is_link, down}
 use Rattle.node_moves.proofs.Reading.{IsShape}
-use Rattle.node_moves.proofs.Shown.{Mid, IsShown, IsBooked, link-inside, own-inside}
+use Rattle.node_moves.proofs.Shown.{Books, no_books, accepting, naming, Mid, IsShown, IsBooked, link-inside, own-inside}
 use Rattle.node_moves.proofs.Going.{IsAt, Arrives, Goes}
 use Rattle.node_moves.proofs.Handling.{mid, same-ends}
 use Rattle.node_moves.proofs.Failures.{node-there}
 use Rattle.node_moves.proofs.Failing.{fail-goes}
 use Rattle.node_moves.proofs.Aligning.{HeardAt, link_status-if}
 use Rattle.node_moves.proofs.Events.{late_by-goes}
-use Rattle.node_moves.proofs.World.{IsFlown, AreData, data_of, IsStatus, AreStatuses, ShownAt, Shown, rests, place_at, at-work}
+use Rattle.node_moves.proofs.World.{IsFlown, books_of, AreData, data_of, IsStatus, AreStatuses, ShownAt, Shown, rests, place_at, at-work}
 use Rattle.node_moves.proofs.Relining.{Leads, leads-one, leads-both, leads-at, leads-goes, leads-arrives, with_line, line-set, here-line}
 use Rattle.node_moves.proofs.Flights.{IsSameFlight, changed-here, changed-other, updated-here, updated-other, OnlyHere, only-changed, statuses-changed, reline-near}
-use Rattle.node_moves.proofs.Steps.{StepGoes, finish, broken-before, event-ends, outcome-same, statuses-step}
+use Rattle.node_moves.proofs.Steps.{StepGoes, finish, broken-before, event-settles, outcome-same, statuses-step}
 use Rattle.node_moves.proofs.Coming.{popped}
 use Rattle.node_moves.proofs.Data.{there, Comes_in, kind-comes}
 use Rattle.node_moves.specs.Networks.{NetworkNode, NetworkState, IsNode, changed, updated, hear_data, hear_status, with_statuses, state_of}
 use Rattle.node_moves.specs.Laws.{AreTheirs}
 use Rattle.exchange_rules.specs.Conserving.{brought_by}
+use Rattle.exchange_rules.specs.Conserving as of_rules
 unfoldable use Rattle.exchange_rules.specs.Exchange.{apply}
 use Rattle.exchange_rules.specs.Frames.{read, receive, leave_aside, on_link_status}
 use Rattle.exchange_rules.specs.Laws.{accept_text}
@@ -65,13 +66,13 @@ module _ (settings : (point : ℕ) → Configuration) (t : AreTheirs settings) (
   abbrev n : Node WholeQueues
   n = (w.node x).node
 
-  abbrev k : List Message
-  k = (w.node x).accepted
+  abbrev k : Books
+  k = books_of (w.node x)
 
   -- ---- what was broken stays so, whatever comes
 
   aside-unbroken : (fault : FrameFault) → down n.parts link ≡ false → (leave_aside whole c link fault n).left.parts.times_broken ≡ 0 → n.parts.times_broken ≡ 0
-  aside-unbroken faults.Length up none = ((fail-goes shape o c well link n reasons.Length up).each [] [] []).unbroken none
+  aside-unbroken faults.Length up none = ((fail-goes shape o c well link n reasons.Length up).each [] [] no_books).unbroken none
   aside-unbroken faults.Short up none = none
   aside-unbroken faults.Version up none = none
   aside-unbroken faults.Unknown up none = none
@@ -84,7 +85,7 @@ module _ (settings : (point : ℕ) → Configuration) (t : AreTheirs settings) (
 
   read-unbroken : (text : List ℕ) (r : Result FrameValue FrameFault) → read_frame text ≡ r → is_link n.parts link ≡ true → down n.parts link ≡ false → (read whole c link r n).left.parts.times_broken ≡ 0 → n.parts.times_broken ≡ 0
   read-unbroken text (Err fault) e there up none = aside-unbroken fault up none
-  read-unbroken text (Ok (StatusFrame bsn fsn status)) e there up none = ((link_status-if shape o c well link status n).each [] [] []).unbroken none
+  read-unbroken text (Ok (StatusFrame bsn fsn status)) e there up none = ((link_status-if shape o c well link status n).each [] [] no_books).unbroken none
   read-unbroken text (Ok (EmptyFrame bsn fsn)) e listed up none =
       (kind-comes settings t shape o (record { node = λ y. record (w.node y) { user_data = λ l. text ∷ [] } }) x link fx inside text [] refl (EmptyFrame bsn fsn) e _ refl).unbroken
       (subst (λ (d : Done WholeQueues). d.left.parts.times_broken ≡ 0) (sym (read-is text (EmptyFrame bsn fsn) e listed up)) none)
@@ -102,9 +103,12 @@ module _ (settings : (point : ℕ) → Configuration) (t : AreTheirs settings) (
   frame-unbroken text none = received-unbroken text (is_link n.parts link) (down n.parts link) refl refl none
 
   -- the end of a frame's event
-  after-frame : (text : List ℕ) (j : List Message) → Goes shape c (mid (receive whole c link text n).left [] [] j) (mid (apply whole c (FrameCame link text) n).left [] [] j)
+  abbrev lost_by : (text : List ℕ) → List Message
+  lost_by text = (of_rules.gone (FrameCame link text) (state_of c (w.node x))).lost
+
+  after-frame : (text : List ℕ) (j : Books) → Goes shape c (mid (receive whole c link text n).left [] [] j) (mid (apply whole c (FrameCame link text) n).left [] [] (naming j (lost_by text)))
   after-frame text j =
-      event-ends shape o c well (FrameCame link text) (mid (receive whole c link text n).left [] [] j) n j
+      event-settles shape o c well (FrameCame link text) (mid (receive whole c link text n).left [] [] j) n j
       ((late_by-goes shape o c well (receive whole c link text n).outcome (receive whole c link text n).left).each [] [] j)
 
   -- ---- User Data
@@ -117,18 +121,18 @@ module _ (settings : (point : ℕ) → Configuration) (t : AreTheirs settings) (
       let new : List Message = option_to_list (new_message link text (state_of c (w.node x))) in
       record {
         unbroken = broken-before settings t shape o w v x fx (λ y d. changed-other x f w y d)
-            (λ none. frame-unbroken text ((after-frame text []).unbroken (ap (λ (e : NetworkNode). e.node.parts.times_broken) (sym is) ∙ none)));
+            (λ none. frame-unbroken text ((after-frame text no_books).unbroken (ap (λ (e : NetworkNode). e.node.parts.times_broken) (sym is) ∙ none)));
         goes = λ none p h s.
             let none_x : (apply whole c (FrameCame link text) n).left.parts.times_broken ≡ 0 = ap (λ (e : NetworkNode). e.node.parts.times_broken) (sym is) ∙ none x fx in
             let came : Comes_in settings t shape o w x link fx inside text rest flying = comes text rest flying p s in
-            let j : List Message = k ++ brought_by (new_message link text (state_of c (w.node x))) (receive whole c link text n).outcome c (accept_text link (read_frame text) (state_of c (w.node x))) in
+            let j : Books = accepting k (brought_by (new_message link text (state_of c (w.node x))) (receive whole c link text n).outcome c (accept_text link (read_frame text) (state_of c (w.node x)))) in
             let l : Leads settings t shape o p (changed x (popped link new) w) x (mid (receive whole c link text n).left [] [] j) =
             came.leads ((after-frame text j).unbroken none_x) p h (at-work settings t w x p fx s) in
-            let m : Leads settings t shape o p (changed x (popped link new) w) x (mid (apply whole c (FrameCame link text) n).left [] [] j) =
-            leads-goes settings t shape o p (changed x (popped link new) w) x (mid (receive whole c link text n).left [] [] j) (mid (apply whole c (FrameCame link text) n).left [] [] j) fx h l (after-frame text j) none_x in
-            finish settings t shape o p (changed x (popped link new) w) v x (mid (apply whole c (FrameCame link text) n).left [] [] j) m
+            let m : Leads settings t shape o p (changed x (popped link new) w) x (mid (apply whole c (FrameCame link text) n).left [] [] (naming j (lost_by text))) =
+            leads-goes settings t shape o p (changed x (popped link new) w) x (mid (receive whole c link text n).left [] [] j) (mid (apply whole c (FrameCame link text) n).left [] [] (naming j (lost_by text))) fx h l (after-frame text j) none_x in
+            finish settings t shape o p (changed x (popped link new) w) v x (mid (apply whole c (FrameCame link text) n).left [] [] (naming j (lost_by text))) m
             (ap (λ (r : Outcome). mid (apply whole c (FrameCame link text) n).left [] []
-            (k ++ brought_by (new_message link text (state_of c (w.node x))) r c (accept_text link (read_frame text) (state_of c (w.node x))))) (sym (outcome-same c (FrameCame link text) n))
+            (naming (accepting k (brought_by (new_message link text (state_of c (w.node x))) r c (accept_text link (read_frame text) (state_of c (w.node x))))) (lost_by text))) (sym (outcome-same c (FrameCame link text) n))
             ∙ ap (rests settings t) (sym is))
             (λ y d. changed-other x f w y d ∙ sym (changed-other x (popped link new) w y d))
             (λ l. subst (λ (e : NetworkNode). IsSameFlight e (v.node x) l) (sym (changed-here x (popped link new) w))
@@ -269,13 +273,13 @@ module _ (settings : (point : ℕ) → Configuration) (t : AreTheirs settings) (
       let tail : drop 1 ((w.node x).statuses link) ≡ rest = ap (drop 1) flying in
       record {
         unbroken = broken-before settings t shape o w v x fx (λ y d. changed-other x f w y d)
-            (λ none. frame-unbroken text ((after-frame text []).unbroken (ap (λ (e : NetworkNode). e.node.parts.times_broken) (sym is) ∙ none)));
+            (λ none. frame-unbroken text ((after-frame text no_books).unbroken (ap (λ (e : NetworkNode). e.node.parts.times_broken) (sym is) ∙ none)));
         goes = λ none p h s.
             let none_x : (apply whole c (FrameCame link text) n).left.parts.times_broken ≡ 0 = ap (λ (e : NetworkNode). e.node.parts.times_broken) (sym is) ∙ none x fx in
             let l : Leads settings t shape o p (changed x (left_with rest) w) x (mid (receive whole c link text n).left [] [] k) = status-comes text rest flying p h s ((after-frame text k).unbroken none_x) in
-            let m : Leads settings t shape o p (changed x (left_with rest) w) x (mid (apply whole c (FrameCame link text) n).left [] [] k) =
-            leads-goes settings t shape o p (changed x (left_with rest) w) x (mid (receive whole c link text n).left [] [] k) (mid (apply whole c (FrameCame link text) n).left [] [] k) fx h l (after-frame text k) none_x in
-            finish settings t shape o p (changed x (left_with rest) w) v x (mid (apply whole c (FrameCame link text) n).left [] [] k) m (ap (rests settings t) (sym is))
+            let m : Leads settings t shape o p (changed x (left_with rest) w) x (mid (apply whole c (FrameCame link text) n).left [] [] (naming k (lost_by text))) =
+            leads-goes settings t shape o p (changed x (left_with rest) w) x (mid (receive whole c link text n).left [] [] k) (mid (apply whole c (FrameCame link text) n).left [] [] (naming k (lost_by text))) fx h l (after-frame text k) none_x in
+            finish settings t shape o p (changed x (left_with rest) w) v x (mid (apply whole c (FrameCame link text) n).left [] [] (naming k (lost_by text))) m (ap (rests settings t) (sym is))
             (λ y d. changed-other x f w y d ∙ sym (changed-other x (left_with rest) w y d))
             (λ l. subst (λ (e : NetworkNode). IsSameFlight e (v.node x) l) (sym (changed-here x (left_with rest) w))
             (subst (λ (e : NetworkNode). IsSameFlight (left_with rest (w.node x)) e l) (sym is)

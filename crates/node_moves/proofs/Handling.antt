@@ -4,8 +4,8 @@ use Rattle.node_moves.proofs.Machine.{user, UserMessage, Other, is_user_message,
 use Rattle.node_moves.proofs.Definitions.{Message, Configuration, IsWell, Node, WholeQueues, Parts, whole, with_parts, queue_at, with_queue, link_at, in_service, changeover_of, queue_on, hold, Queue, first_queue, appended}
 use Rattle.node_moves.proofs.Reading.{IsShape, says_of}
 use Rattle.node_moves.proofs.Sets.{with_node, node-set, end-set}
-use Rattle.node_moves.proofs.Shown.{Mid, Shows, IsShown, IsAlike, IsSized, IsSilent, IsBooked, shown_in, shown-alike, place, users_that, any_message, most, link-inside, own-inside, at-own}
-use Rattle.node_moves.proofs.Going.{IsAt, Goes, arrives-here, by-line, by-node}
+use Rattle.node_moves.proofs.Shown.{Books, accepting, naming, Mid, Shows, IsShown, IsAlike, IsSized, IsSilent, IsBooked, shown_in, shown-alike, place, users_that, any_message, most, link-inside, own-inside, at-own}
+use Rattle.node_moves.proofs.Going.{IsAt, Goes, goes-both, arrives-here, by-line, by-node}
 use Rattle.exchange_rules.proofs.Moves.{serving-there}
 use Rattle.exchange_rules.specs.ChangingOver.{lose}
 use Rattle.network_moves.proofs.Counts.{count-cons, count-append, count-one}
@@ -16,8 +16,8 @@ use Rattle.network_moves.specs.Networks as net
 use Rattle.signalling_types.specs.declared.cause.Cause.{Cause}
 
 -- a node at work
-abbrev pub mid : Node WholeQueues → (arrived loose accepted : List Message) → Mid
-mid n arrived loose accepted = record { node = n; arrived = arrived; loose = loose; accepted = accepted }
+abbrev pub mid : Node WholeQueues → (arrived loose : List Message) (books : Books) → Mid
+mid n arrived loose books = record { node = n; arrived = arrived; loose = loose; books = books }
 
 -- all that is at a node and on no link
 abbrev pub bag_of : Mid → List Message
@@ -40,7 +40,7 @@ pub same-ends : (n : Node WholeQueues) (link : ℕ) → IsAlike n n link
 same-ends n link = record { queue = refl; alignment = refl; standing = refl }
 
 module _ (shape : Shape) (o : IsShape shape) (c : Configuration) (well : IsWell c) where
-  pub goes-alike : (n m : Node WholeQueues) (a l k : List Message) → AreAlike c n m → Goes shape c (mid n a l k) (mid m a l k)
+  pub goes-alike : (n m : Node WholeQueues) (a l : List Message) (k : Books) → AreAlike c n m → Goes shape c (mid n a l k) (mid m a l k)
   goes-alike n m a l k e = record {
     unbroken = λ none. sym e.broken ∙ none;
     goes = λ none p h s. arrives-here shape c p (mid m a l k) (record {
@@ -50,6 +50,7 @@ module _ (shape : Shape) (o : IsShape shape) (c : Configuration) (well : IsWell 
         bag = λ test. s.booked.bag test ∙ ap (λ (held : List Message). count_by test held + (count_by test a + count_by test l)) (sym e.held);
         accepted = s.booked.accepted;
         named = subst (λ (times : ℕ). min (users_that any_message (p.node c.own).named) most ≤ times) (sym e.lost) s.booked.named;
+        within = s.booked.within;
       };
     });
   }
@@ -76,25 +77,37 @@ module _ (shape : Shape) (o : IsShape shape) (c : Configuration) (well : IsWell 
     });
   }
 
-  pub accepts : (n : Node WholeQueues) (m : Message) (a l k : List Message) → Goes shape c (mid n (m ∷ a) l k) (mid n a (m ∷ l) (k ++ m ∷ []))
+  -- where more is named
+  pub names-more : (v : Mid) (n : Node WholeQueues) (a l : List Message) (k : Books) (ms : List Message) → Goes shape c v (mid n a l k) → Goes shape c v (mid n a l (naming k ms))
+  names-more v n a l k ms g = goes-both shape c v (mid n a l k) _ g (goes-relabelled _ _ refl refl (λ x b. record {
+    bag = b.bag;
+    accepted = b.accepted;
+    named = b.named;
+    within = λ test. omega (arith, b.within test, count-append (user says_of test) k.named ms);
+  }))
+
+  pub accepts : (n : Node WholeQueues) (m : Message) (a l : List Message) (k : Books) → Goes shape c (mid n (m ∷ a) l k) (mid n a (m ∷ l) (accepting k (m ∷ [])))
   accepts n m a l k = goes-relabelled _ _ refl refl (λ x b. record {
     bag = λ test. omega (arith, b.bag test, count-cons test m a, count-cons test m l);
-    accepted = λ test. omega (arith, b.accepted test, count-cons (user says_of test) m a, count-append (user says_of test) k (m ∷ []), count-one (user says_of test) m);
+    accepted = λ test. omega (arith, b.accepted test, count-cons (user says_of test) m a, count-append (user says_of test) k.accepted (m ∷ []), count-one (user says_of test) m);
     named = b.named;
+    within = b.within;
   })
 
-  pub holds : (n : Node WholeQueues) (m : Message) (a l k : List Message) → Goes shape c (mid n a (m ∷ l) k) (mid (hold whole m n) a l k)
+  pub holds : (n : Node WholeQueues) (m : Message) (a l : List Message) (k : Books) → Goes shape c (mid n a (m ∷ l) k) (mid (hold whole m n) a l k)
   holds n m a l k = goes-relabelled _ _ refl refl (λ x b. record {
     bag = λ test. omega (arith, b.bag test, count-cons test m l, count-append test n.queues.held (m ∷ []), count-one test m);
     accepted = b.accepted;
     named = b.named;
+    within = b.within;
   })
 
-  pub takes-out : (n : Node WholeQueues) (a l k : List Message) → Goes shape c (mid n a l k) (mid (record n { queues = whole.without_held n.queues }) a (n.queues.held ++ l) k)
+  pub takes-out : (n : Node WholeQueues) (a l : List Message) (k : Books) → Goes shape c (mid n a l k) (mid (record n { queues = whole.without_held n.queues }) a (n.queues.held ++ l) k)
   takes-out n a l k = goes-relabelled _ _ refl refl (λ x b. record {
     bag = λ test. omega (arith, b.bag test, count-append test n.queues.held l);
     accepted = b.accepted;
     named = b.named;
+    within = b.within;
   })
 
   -- ---- the node alone changes
@@ -121,59 +134,63 @@ module _ (shape : Shape) (o : IsShape shape) (c : Configuration) (well : IsWell 
         by-node shape o c well p v w it.0 s (e.sized s.sized) e.ends it.1 it.2;
   }
 
-  pub submits : (n : Node WholeQueues) (m : Message) (a l k : List Message) → says_of m ≡ UserMessage → Goes shape c (mid n a l k) (mid n (m ∷ a) l k)
+  pub submits : (n : Node WholeQueues) (m : Message) (a l : List Message) (k : Books) → says_of m ≡ UserMessage → Goes shape c (mid n a l k) (mid n (m ∷ a) l k)
   submits n m a l k says = goes-by-node _ _ (but-none n) (λ p h s. (
     _,
     record {
       bag = λ test. omega (arith, s.booked.bag test, count-cons test m a, count-cons test m (p.node c.own).bag);
       accepted = λ test. omega (arith, s.booked.accepted test, count-cons (user says_of test) m a, count-cons (user says_of test) m (p.node c.own).accepted);
       named = s.booked.named;
+      within = s.booked.within;
     },
     moves.submits (record { point = c.own; message = m; user = ap is_user_message says; after = node-set shape p c.own _ own-there }),
   ))
 
-  pub makes : (n : Node WholeQueues) (m : Message) (a l k : List Message) → says_of m ≡ Other → Goes shape c (mid n a l k) (mid n a (m ∷ l) k)
+  pub makes : (n : Node WholeQueues) (m : Message) (a l : List Message) (k : Books) → says_of m ≡ Other → Goes shape c (mid n a l k) (mid n a (m ∷ l) k)
   makes n m a l k says = goes-by-node _ _ (but-none n) (λ p h s. (
     _,
     record {
       bag = λ test. omega (arith, s.booked.bag test, count-cons test m l, count-cons test m (p.node c.own).bag);
       accepted = s.booked.accepted;
       named = s.booked.named;
+      within = s.booked.within;
     },
     moves.makes (record { point = c.own; message = m; other = says; after = node-set shape p c.own _ own-there }),
   ))
 
   -- a message is taken out of what came
-  pub taken-arrived : (p : Network) (n : Node WholeQueues) (m : Message) (a l k : List Message) → Shows c p (mid n (m ∷ a) l k) → IsTakenFrom (p.node c.own).bag m (bag_of (mid n a l k))
+  pub taken-arrived : (p : Network) (n : Node WholeQueues) (m : Message) (a l : List Message) (k : Books) → Shows c p (mid n (m ∷ a) l k) → IsTakenFrom (p.node c.own).bag m (bag_of (mid n a l k))
   taken-arrived p n m a l k s = record { counted = λ test. omega (arith, s.booked.bag test, count-cons test m a, count-bag (mid n a l k) test) }
 
-  pub taken-loose : (p : Network) (n : Node WholeQueues) (m : Message) (a l k : List Message) → Shows c p (mid n a (m ∷ l) k) → IsTakenFrom (p.node c.own).bag m (bag_of (mid n a l k))
+  pub taken-loose : (p : Network) (n : Node WholeQueues) (m : Message) (a l : List Message) (k : Books) → Shows c p (mid n a (m ∷ l) k) → IsTakenFrom (p.node c.own).bag m (bag_of (mid n a l k))
   taken-loose p n m a l k s = record { counted = λ test. omega (arith, s.booked.bag test, count-cons test m l, count-bag (mid n a l k) test) }
 
-  ends : (n : Node WholeQueues) (m : Message) (a l k : List Message) → is_user_message (says_of m) ≡ true → Goes shape c (mid n (m ∷ a) l k) (mid n a l k)
+  ends : (n : Node WholeQueues) (m : Message) (a l : List Message) (k : Books) → is_user_message (says_of m) ≡ true → Goes shape c (mid n (m ∷ a) l k) (mid n a l k)
   ends n m a l k says = goes-by-node _ _ (but-none n) (λ p h s. (
     _,
     record {
       bag = count-bag (mid n a l k);
       accepted = λ test. omega (arith, s.booked.accepted test, count-cons (user says_of test) m a, count-cons (user says_of test) m (p.node c.own).ended);
       named = s.booked.named;
+      within = s.booked.within;
     },
     moves.ends (record { point = c.own; message = m; rest = bag_of (mid n a l k); taken = taken-arrived p n m a l k s; user = says; after = node-set shape p c.own _ own-there }),
   ))
 
-  discards : (n : Node WholeQueues) (m : Message) (a l k : List Message) → is_user_message (says_of m) ≡ false → Goes shape c (mid n (m ∷ a) l k) (mid n a l k)
+  discards : (n : Node WholeQueues) (m : Message) (a l : List Message) (k : Books) → is_user_message (says_of m) ≡ false → Goes shape c (mid n (m ∷ a) l k) (mid n a l k)
   discards n m a l k says = goes-by-node _ _ (but-none n) (λ p h s. (
     _,
     record {
       bag = count-bag (mid n a l k);
       accepted = λ test. omega (arith, s.booked.accepted test, count-cons (user says_of test) m a, one-no_user says_of m says test);
       named = s.booked.named;
+      within = s.booked.within;
     },
     moves.discards (record { point = c.own; message = m; rest = bag_of (mid n a l k); taken = taken-arrived p n m a l k s; management = says; after = node-set shape p c.own _ own-there }),
   ))
 
   -- what came ends here: it is received, handled, ignored or refused
-  pub drops : (n : Node WholeQueues) (m : Message) (a l k : List Message) → Goes shape c (mid n (m ∷ a) l k) (mid n a l k)
+  pub drops : (n : Node WholeQueues) (m : Message) (a l : List Message) (k : Books) → Goes shape c (mid n (m ∷ a) l k) (mid n a l k)
   drops n m a l k = by (is_user_message (says_of m)) refl
     where
       by : (b : Bool) → is_user_message (says_of m) ≡ b → Goes shape c (mid n (m ∷ a) l k) (mid n a l k)
@@ -181,13 +198,14 @@ module _ (shape : Shape) (o : IsShape shape) (c : Configuration) (well : IsWell 
       by false e = discards n m a l k e
 
   -- what was made finds no way
-  pub discards-loose : (n : Node WholeQueues) (m : Message) (a l k : List Message) → is_user_message (says_of m) ≡ false → Goes shape c (mid n a (m ∷ l) k) (mid n a l k)
+  pub discards-loose : (n : Node WholeQueues) (m : Message) (a l : List Message) (k : Books) → is_user_message (says_of m) ≡ false → Goes shape c (mid n a (m ∷ l) k) (mid n a l k)
   discards-loose n m a l k says = goes-by-node _ _ (but-none n) (λ p h s. (
     _,
     record {
       bag = count-bag (mid n a l k);
       accepted = s.booked.accepted;
       named = s.booked.named;
+      within = s.booked.within;
     },
     moves.discards (record { point = c.own; message = m; rest = bag_of (mid n a l k); taken = taken-loose p n m a l k s; management = says; after = node-set shape p c.own _ own-there }),
   ))
@@ -202,32 +220,34 @@ module _ (shape : Shape) (o : IsShape shape) (c : Configuration) (well : IsWell 
     broken = refl;
   }
 
-  gives-up : (cause : Cause) (n : Node WholeQueues) (m : Message) (a l k : List Message) → is_user_message (says_of m) ≡ true → Goes shape c (mid n a (m ∷ l) k) (mid (with_parts n (lose cause m n.parts)) a l k)
+  gives-up : (cause : Cause) (n : Node WholeQueues) (m : Message) (a l : List Message) (k : Books) → is_user_message (says_of m) ≡ true → Goes shape c (mid n a (m ∷ l) k) (mid (with_parts n (lose cause m n.parts)) a l (naming k (m ∷ [])))
   gives-up cause n m a l k says = goes-by-node _ _ (one-lost cause m n) (λ p h s. (
     _,
     record {
       bag = count-bag (mid n a l k);
       accepted = s.booked.accepted;
       named = (let one : one_if (user says_of any_message m) ≡ 1 = ap (λ (b : Bool). one_if (b && true)) says in omega (arith, s.booked.named, count-cons (user says_of any_message) m (p.node c.own).named, one));
+      within = λ test. omega (arith, s.booked.within test, count-cons (user says_of test) m (p.node c.own).named, count-append (user says_of test) k.named (m ∷ []), count-one (user says_of test) m);
     },
     moves.gives_up (record { point = c.own; message = m; rest = bag_of (mid n a l k); taken = taken-loose p n m a l k s; user = says; after = node-set shape p c.own _ own-there }),
   ))
 
-  forgets : (cause : Cause) (n : Node WholeQueues) (m : Message) (a l k : List Message) → is_user_message (says_of m) ≡ false → Goes shape c (mid n a (m ∷ l) k) (mid (with_parts n (lose cause m n.parts)) a l k)
+  forgets : (cause : Cause) (n : Node WholeQueues) (m : Message) (a l : List Message) (k : Books) → is_user_message (says_of m) ≡ false → Goes shape c (mid n a (m ∷ l) k) (mid (with_parts n (lose cause m n.parts)) a l (naming k (m ∷ [])))
   forgets cause n m a l k says = goes-by-node _ _ (one-lost cause m n) (λ p h s. (
     _,
     record {
       bag = count-bag (mid n a l k);
       accepted = s.booked.accepted;
       named = omega (arith, s.booked.named);
+      within = λ test. omega (arith, s.booked.within test, count-append (user says_of test) k.named (m ∷ []));
     },
     moves.discards (record { point = c.own; message = m; rest = bag_of (mid n a l k); taken = taken-loose p n m a l k s; management = says; after = node-set shape p c.own _ own-there }),
   ))
 
-  pub loses : (cause : Cause) (n : Node WholeQueues) (m : Message) (a l k : List Message) → Goes shape c (mid n a (m ∷ l) k) (mid (with_parts n (lose cause m n.parts)) a l k)
+  pub loses : (cause : Cause) (n : Node WholeQueues) (m : Message) (a l : List Message) (k : Books) → Goes shape c (mid n a (m ∷ l) k) (mid (with_parts n (lose cause m n.parts)) a l (naming k (m ∷ [])))
   loses cause n m a l k = by (is_user_message (says_of m)) refl
     where
-      by : (b : Bool) → is_user_message (says_of m) ≡ b → Goes shape c (mid n a (m ∷ l) k) (mid (with_parts n (lose cause m n.parts)) a l k)
+      by : (b : Bool) → is_user_message (says_of m) ≡ b → Goes shape c (mid n a (m ∷ l) k) (mid (with_parts n (lose cause m n.parts)) a l (naming k (m ∷ [])))
       by true e = gives-up cause n m a l k e
       by false e = forgets cause n m a l k e
 
@@ -263,7 +283,7 @@ module _ (shape : Shape) (o : IsShape shape) (c : Configuration) (well : IsWell 
   pub queue-sized : (n : Node WholeQueues) (link : ℕ) (q : Queue) → IsSized c n → IsSized c (record n { queues = with_queue n.queues link q })
   queue-sized n link q s = record { links = s.links; queues = length-set n.queues.links link q ∙ s.queues; changeovers = s.changeovers; silent = s.silent }
 
-  pub places : (n : Node WholeQueues) (link : ℕ) (m : Message) (a l k : List Message) → in_service n.parts link ≡ true
+  pub places : (n : Node WholeQueues) (link : ℕ) (m : Message) (a l : List Message) (k : Books) → in_service n.parts link ≡ true
       → Goes shape c (mid n a (m ∷ l) k) (mid (queue_on whole c link m n) a l k)
   places n link m a l k serves = record {
     unbroken = λ none. none;
@@ -287,8 +307,9 @@ module _ (shape : Shape) (o : IsShape shape) (c : Configuration) (well : IsWell 
           came = refl;
           booked = record {
             bag = count-bag w;
-            accepted = subst (λ (x : net.Node). (test : Message → Bool) → users_that test x.accepted ≡ users_that test x.ended + (users_that test k + users_that test a)) (sym here) s.booked.accepted;
+            accepted = subst (λ (x : net.Node). (test : Message → Bool) → users_that test x.accepted ≡ users_that test x.ended + (users_that test k.accepted + users_that test a)) (sym here) s.booked.accepted;
             named = subst (λ (x : net.Node). min (users_that any_message x.named) most ≤ n.parts.messages_lost) (sym here) s.booked.named;
+            within = subst (λ (x : net.Node). (test : Message → Bool) → users_that test x.named ≤ users_that test k.named) (sym here) s.booked.within;
           };
         })
         (moves.places (record {

@@ -3,7 +3,7 @@ use Rattle.node_moves.proofs.Basics.{◌≡◌, ◌≢◌, ℕ, Bool, true, fals
 use Rattle.node_moves.proofs.Machine.{Near, Network, Shape, is_untrue, saying, end_at}
 use Rattle.node_moves.proofs.Definitions.{Message, opc_of, dpc_of, is_management, service_indicator, Configuration, IsWell, IsSet, SetEntry, LinkEntry, WholeQueues, Node, entry_of, set_of, adjacent_of, peer_of, last_accepted, read_management, Management, SIF_OCTETS}
 use Rattle.node_moves.proofs.Reading.{IsShape, says_of, says-managed, read_says, never, is_long, place_of, across, other-place}
-use Rattle.node_moves.proofs.Shown.{Shows, place}
+use Rattle.node_moves.proofs.Shown.{Books, Shows, place}
 use Rattle.node_moves.proofs.Going.{IsAt}
 use Rattle.node_moves.proofs.Handling.{mid, bag_of, taken-arrived}
 use Rattle.node_moves.proofs.Failures.{number-fits}
@@ -122,7 +122,7 @@ pub never-true : (up : Bool) (last : ℕ) → last < 2 ^ 24 → is_untrue 0 Near
 never-true true last l = refl
 never-true false last l = (let other : nat_eq (2 ^ 24) last ≡ false = grind (arith, nat_tests, l) in ap not other)
 
-pub never-arrived : (shape : Shape) (o : IsShape shape) (c : Configuration) (well : IsWell c) (p : Network) (n : Node WholeQueues) (m : Message) (a l k : List Message) → IsAt shape p → Shows c p (mid n (m ∷ a) l k)
+pub never-arrived : (shape : Shape) (o : IsShape shape) (c : Configuration) (well : IsWell c) (p : Network) (n : Node WholeQueues) (m : Message) (a l : List Message) (k : Books) → IsAt shape p → Shows c p (mid n (m ∷ a) l k)
     → says_of m ≡ never → ⊥
 never-arrived shape o c well p n m a l k h s e =
     let up : Bool = (end_at p 0 Near).up in

@@ -37,6 +37,18 @@ pub users-within : (ms : List Message) → users_that any_message ms ≤ length 
 users-within [] = omega arith
 users-within (m ∷ ms) = omega (arith, count-cons (user says_of any_message) m ms, longer-by (is_management m) m (users_of ms) refl, users-within ms)
 
+-- of every kind, those that are users are among them
+managing-nothing : (test : Message → Bool) (m : Message) → is_management m ≡ true → one_if (user says_of test m) ≡ 0
+managing-nothing test m e = ap (λ (b : Bool). one_if (b && test m)) (says-managing m e)
+
+among-by : (test : Message → Bool) (b : Bool) (m : Message) (us : List Message) → is_management m ≡ b → one_if (user says_of test m) + users_that test us ≤ users_that test (if not b then m ∷ us else us)
+among-by test true m us e = omega (arith, managing-nothing test m e)
+among-by test false m us e = omega (arith, count-cons (user says_of test) m us)
+
+pub users-among : (test : Message → Bool) (ms : List Message) → users_that test ms ≤ users_that test (users_of ms)
+users-among test [] = omega arith
+users-among test (m ∷ ms) = omega (arith, count-cons (user says_of test) m ms, among-by test (is_management m) m (users_of ms) refl, users-among test ms)
+
 -- ---- what was sent and not confirmed
 
 take-nothing : (n : ℕ) → take {A = Message} n [] ≡ []

@@ -4,7 +4,7 @@ use Rattle.node_moves.proofs.Basics.{◌≡◌, ℕ, Bool, true, false, List, []
 use Rattle.node_moves.proofs.Definitions.{Message, Configuration, Node, Done, WholeQueues, whole, link_of, waits, flow_of}
 use Rattle.node_moves.proofs.LaidOut.{Four, network_of, placing, run, run-is}
 use Rattle.node_moves.specs.MatedPair.{mated, transfer_settings}
-use Rattle.node_moves.specs.Networks.{NetworkNode, NetworkState, Step, Submits, Delivers, after_steps, did_here, hear_data, next_in, updated}
+use Rattle.node_moves.specs.Networks.{NetworkNode, NetworkState, Step, Submits, Delivers, after_steps, did_here, hear_data, named_by, next_in, updated}
 unfoldable use Rattle.exchange_rules.specs.Exchange.{apply}
 use Rattle.exchange_rules.specs.Conserving.{brought_by, brought_to, taken_in}
 use Rattle.exchange_rules.specs.Exchange.{go_by, go_each, handle_event, ordered_late, settled}
@@ -39,11 +39,11 @@ pub record GoesOn (m : Message) : Type 0 where
 -- ---- at point 1 it is submitted
 
 -- this is left of the exchange, and this is accepted
-abbrev entered_as : Done WholeQueues → List Message → NetworkNode → NetworkNode
-entered_as d ms x = record x { node = d.left; accepted = x.accepted ++ ms }
+abbrev entered_as : Done WholeQueues → (brought lost : List Message) → NetworkNode → NetworkNode
+entered_as d brought lost x = record x { node = d.left; accepted = x.accepted ++ brought; named = x.named ++ lost }
 
 abbrev queued_as : Message → Done WholeQueues → NetworkNode → NetworkNode
-queued_as m d x = entered_as d (taken_in d.outcome m) x
+queued_as m d x = entered_as d (taken_in d.outcome m) (named_by near (Submitted m) x) x
 
 abbrev pub queued : Message → NetworkNode → NetworkNode
 queued m x = queued_as m (settled whole near (offered m near None false x.node)) x
@@ -52,21 +52,22 @@ module _ (m : Message) (on : GoesOn m) where
   pub is-queued : (x : NetworkNode) → waits near x.node.parts.holds m ≡ false → did_here (Submits m) near x ≡ queued m x
   is-queued x f =
       let d : Done WholeQueues = apply whole near (Submitted m) x.node in
-      ap (λ (ms : List Message). entered_as d ms x) (on.enters d.outcome x.node)
+      ap (λ (ms : List Message). entered_as d ms (named_by near (Submitted m) x) x) (on.enters d.outcome x.node)
       ∙ ap (λ (k : Done WholeQueues). queued_as m k x) (on.submits x.node ∙ ap (λ (b : Bool). settled whole near (offered m near None b x.node)) f)
 
 -- ---- a frame comes to a node
 
-abbrev booked_with : (link : ℕ) → Option Message → (brought : List Message) → Done WholeQueues → NetworkNode → NetworkNode
-booked_with link new brought d x = record x {
+abbrev booked_with : (link : ℕ) → Option Message → (brought lost : List Message) → Done WholeQueues → NetworkNode → NetworkNode
+booked_with link new brought lost d x = record x {
   node = d.left;
   accepted = x.accepted ++ brought;
+  named = x.named ++ lost;
   user_data = updated x.user_data link (drop 1 (x.user_data link));
   came = updated x.came link (x.came link ++ option_to_list new);
 }
 
-abbrev booked_as : (link : ℕ) → Option Message → Configuration → (accepted : Node WholeQueues) → Done WholeQueues → NetworkNode → NetworkNode
-booked_as link new c accepted d x = booked_with link new (brought_by new d.outcome c accepted) d x
+abbrev booked_as : (link : ℕ) → Option Message → Configuration → (accepted : Node WholeQueues) → (lost : List Message) → Done WholeQueues → NetworkNode → NetworkNode
+booked_as link new c accepted lost d x = booked_with link new (brought_by new d.outcome c accepted) lost d x
 
 abbrev pub accepted_of : (link : ℕ) (text : List ℕ) → Configuration → Node WholeQueues → Node WholeQueues
 accepted_of link text c n = accept_text link (read_frame text) (record { settings = c; node = n })
@@ -75,7 +76,7 @@ abbrev pub new_of : (link : ℕ) (text : List ℕ) → Configuration → Node Wh
 new_of link text c n = new_message link text (record { settings = c; node = n })
 
 abbrev delivered_as : (link : ℕ) (text : List ℕ) → Configuration → NetworkNode → NetworkNode
-delivered_as link text c x = booked_as link (new_of link text c x.node) c (accepted_of link text c x.node) (apply whole c (FrameCame link text) x.node) x
+delivered_as link text c x = booked_as link (new_of link text c x.node) c (accepted_of link text c x.node) (named_by c (FrameCame link text) x) (apply whole c (FrameCame link text) x.node) x
 
 is-delivered : (link : ℕ) (text : List ℕ) (c : Configuration) (x : NetworkNode) → next_in c link (x.user_data link) ≡ Some text → did_here (Delivers link) c x ≡ delivered_as link text c x
 is-delivered link text c x f = ap (λ (o : Option (List ℕ)). hear_data c o link x) f
@@ -89,8 +90,11 @@ as-applied c link text n = refl
 abbrev passed_as : Message → (accepted : Node WholeQueues) → (waiting : Bool) → Done WholeQueues
 passed_as m accepted waiting = settled whole mate (ordered_late whole mate (note_refusal 2 (offered m mate (Some 2) waiting accepted)))
 
-abbrev pub passed_on : Message → (accepted : Node WholeQueues) → NetworkNode → NetworkNode
-passed_on m accepted x = booked_as 2 (Some m) mate accepted (passed_as m accepted false) x
+abbrev pub passed_on : Message → (accepted : Node WholeQueues) → (lost : List Message) → NetworkNode → NetworkNode
+passed_on m accepted lost x = booked_as 2 (Some m) mate accepted lost (passed_as m accepted false) x
+
+abbrev lost_by : List ℕ → NetworkNode → List Message
+lost_by text x = named_by mate (FrameCame 2 text) x
 
 pub record ComesOn (m : Message) (text : List ℕ) (accepted : Node WholeQueues) (x : NetworkNode) : Type 0 where
   pub there : next_in mate 2 (x.user_data 2) ≡ Some text
@@ -99,15 +103,16 @@ pub record ComesOn (m : Message) (text : List ℕ) (accepted : Node WholeQueues)
   pub unheld : waits mate accepted.parts.holds m ≡ false
 
 -- whatever the node is like, the message is booked alike
-booked-alike : (m : Message) → GoesOn m → (one other : Node WholeQueues) (d : Done WholeQueues) (x : NetworkNode) → booked_as 2 (Some m) mate one d x ≡ booked_as 2 (Some m) mate other d x
-booked-alike m on one other d x = ap (λ (ms : List Message). booked_with 2 (Some m) ms d x) (on.comes d.outcome one ∙ sym (on.comes d.outcome other))
+booked-alike : (m : Message) → GoesOn m → (one other : Node WholeQueues) (lost : List Message) (d : Done WholeQueues) (x : NetworkNode)
+    → booked_as 2 (Some m) mate one lost d x ≡ booked_as 2 (Some m) mate other lost d x
+booked-alike m on one other lost d x = ap (λ (ms : List Message). booked_with 2 (Some m) ms lost d x) (on.comes d.outcome one ∙ sym (on.comes d.outcome other))
 
-pub is-passed : (m : Message) → GoesOn m → (text : List ℕ) (accepted : Node WholeQueues) (x : NetworkNode) → ComesOn m text accepted x → did_here (Delivers 2) mate x ≡ passed_on m accepted x
+pub is-passed : (m : Message) → GoesOn m → (text : List ℕ) (accepted : Node WholeQueues) (x : NetworkNode) → ComesOn m text accepted x → did_here (Delivers 2) mate x ≡ passed_on m accepted (lost_by text x) x
 is-passed m on text accepted x h =
     is-delivered 2 text mate x h.there
-    ∙ ap (λ (o : Option Message). booked_as 2 o mate (accepted_of 2 text mate x.node) (apply whole mate (FrameCame 2 text) x.node) x) h.is_new
-    ∙ booked-alike m on (accepted_of 2 text mate x.node) accepted (apply whole mate (FrameCame 2 text) x.node) x
-    ∙ ap (λ (d : Done WholeQueues). booked_as 2 (Some m) mate accepted d x)
+    ∙ ap (λ (o : Option Message). booked_as 2 o mate (accepted_of 2 text mate x.node) (lost_by text x) (apply whole mate (FrameCame 2 text) x.node) x) h.is_new
+    ∙ booked-alike m on (accepted_of 2 text mate x.node) accepted (lost_by text x) (apply whole mate (FrameCame 2 text) x.node) x
+    ∙ ap (λ (d : Done WholeQueues). booked_as 2 (Some m) mate accepted (lost_by text x) d x)
     (as-applied mate 2 text x.node
     ∙ ap (λ (d : Done WholeQueues). settled whole mate (ordered_late whole mate d)) (h.goes ∙ on.offers accepted)
     ∙ ap (passed_as m accepted) h.unheld)
@@ -163,7 +168,7 @@ abbrev pub submitting : Message → Four → Four
 submitting m t = record t { one = queued m t.one }
 
 abbrev pub passing : Message → Four → Four
-passing m t = record t { two = passed_on m (next_accepted t.two) t.two }
+passing m t = record t { two = passed_on m (next_accepted t.two) (lost_by (next_text 2 t.two) t.two) t.two }
 
 abbrev pub completing : Message → Four → Four
 completing m t = record t { one = completed m 2 (next_text 2 t.one) near t.one }
@@ -183,7 +188,7 @@ module _ (w : NetworkState) (t : Four) (same : w ≡ network_of t) where
       → after_steps mated (record { point = 2; what = Delivers 2 } ∷ steps) w ≡ network_of (run steps (passing m t))
   passes-on m on h steps =
       ap (after_steps mated (record { point = 2; what = Delivers 2 } ∷ steps)) same
-      ∙ ap (after_steps mated steps) (placing 2 (did_here (Delivers 2) mate) (passed_on m (next_accepted t.two) t.two) t (is-passed m on (next_text 2 t.two) (next_accepted t.two) t.two h))
+      ∙ ap (after_steps mated steps) (placing 2 (did_here (Delivers 2) mate) (passed_on m (next_accepted t.two) (lost_by (next_text 2 t.two) t.two) t.two) t (is-passed m on (next_text 2 t.two) (next_accepted t.two) t.two h))
       ∙ run-is steps (passing m t)
 
   pub completes-on : (m : Message) → Completes m 2 (next_text 2 t.one) near t.one → (steps : List Step)

@@ -3,20 +3,21 @@ use Rattle.node_moves.proofs.Basics.{◌≡◌, ◌≢◌, ℕ, Bool, true, fals
 use Rattle.node_moves.proofs.Machine.{Phase, Live, Moved, Gone, LinkEnd, Line, Network, Shape, Place, turned, line_at, node_at, IsEnd}
 use Rattle.node_moves.proofs.Definitions.{Message, Configuration, IsWell, Node, Done, WholeQueues, Parts, whole, answer, is_link, link_at, down, changeover_of, first_queue, emptied, Standing, Link, down_link, is_down, is_in_service, Alignment, NotAligned}
 use Rattle.node_moves.proofs.Reading.{IsShape, says_of}
-use Rattle.node_moves.proofs.Shown.{IsShown, IsAlike, IsSized, IsSilent, IsBooked, shown_in, is_heard, link-inside, own-inside}
+use Rattle.node_moves.proofs.Shown.{Books, no_books, naming, IsShown, IsAlike, IsSized, IsSilent, IsBooked, shown_in, is_heard, link-inside, own-inside}
 use Rattle.node_moves.proofs.Going.{Goes, goes-none}
 use Rattle.node_moves.proofs.Handling.{mid}
 use Rattle.node_moves.proofs.Failures.{booked-alike, node-there}
-use Rattle.node_moves.proofs.World.{IsFlown, AreData, AreStatuses, ShownAt, rests, place_at, at-work}
+use Rattle.node_moves.proofs.World.{books_of, IsFlown, AreData, AreStatuses, ShownAt, rests, place_at, at-work}
 use Rattle.node_moves.proofs.Relining.{Leads, leads-one, leads-goes, with_line, line-set, across-line}
 use Rattle.node_moves.proofs.Flights.{IsSameFlight, changed-here, changed-other, updated-here, updated-other, only-changed, reline-near}
 use Rattle.node_moves.proofs.BothEnds.{IsOther, OnlyBoth, reline-both}
-use Rattle.node_moves.proofs.Steps.{StepGoes, finish, broken-before, event-ends}
-use Rattle.node_moves.specs.Networks.{NetworkNode, NetworkState, IsNode, changed, updated, happens, come_up, be_led, other_end}
+use Rattle.node_moves.proofs.Steps.{StepGoes, finish, broken-before, event-settles}
+use Rattle.node_moves.specs.Networks.{NetworkNode, NetworkState, IsNode, changed, updated, happens, come_up, be_led, state_of}
 use Rattle.node_moves.specs.Networks as of_nodes
 use Rattle.node_moves.specs.Laws.{AreTheirs}
 use Rattle.changeover.specs.Changeover.{may_restart}
 use Rattle.exchange_rules.proofs.Lists.{each-set}
+use Rattle.exchange_rules.specs.Conserving as of_rules
 unfoldable use Rattle.exchange_rules.specs.Exchange.{apply}
 use Rattle.exchange_rules.specs.Exchange.{handle_event}
 use Rattle.exchange_rules.specs.Opening.{may_open, wanted_down, wanted, opened_by, period_of, open_link, association_up}
@@ -155,17 +156,20 @@ module _ (settings : (point : ℕ) → Configuration) (t : AreTheirs settings) (
   abbrev n : Node WholeQueues
   n = (w.node x).node
 
-  abbrev k : List Message
-  k = (w.node x).accepted
+  abbrev k : Books
+  k = books_of (w.node x)
 
   abbrev now : Node WholeQueues
   now = open_link whole c link n
 
   -- what ends the event
-  after-opening : (j : List Message) → Goes shape c (mid now [] [] j) (mid (apply whole c (CameUp link) n).left [] [] j)
+  abbrev lost : List Message
+  lost = (of_rules.gone (CameUp link) (state_of c (w.node x))).lost
+
+  after-opening : (j : Books) → Goes shape c (mid now [] [] j) (mid (apply whole c (CameUp link) n).left [] [] (naming j lost))
   after-opening j =
-      subst (λ (d : Done WholeQueues). Goes shape c (mid d.left [] [] j) (mid (apply whole c (CameUp link) n).left [] [] j)) (came-up c n link m)
-      (event-ends shape o c well (CameUp link) (mid (handle_event whole c (CameUp link) n).left [] [] j) n j (goes-none shape c (mid (handle_event whole c (CameUp link) n).left [] [] j)))
+      subst (λ (d : Done WholeQueues). Goes shape c (mid d.left [] [] j) (mid (apply whole c (CameUp link) n).left [] [] (naming j lost))) (came-up c n link m)
+      (event-settles shape o c well (CameUp link) (mid (handle_event whole c (CameUp link) n).left [] [] j) n j (goes-none shape c (mid (handle_event whole c (CameUp link) n).left [] [] j)))
 
   now-booked : (p : Network) → ShownAt settings t w x (rests settings t (w.node x)) p → IsBooked (node_at shape p its) (mid now [] [] k)
   now-booked p s =
@@ -187,7 +191,7 @@ module _ (settings : (point : ℕ) → Configuration) (t : AreTheirs settings) (
       let led : one.node x ≡ followed (w.node x) = changed-here x followed w in
       record {
         unbroken = broken-before settings t shape o w v x fx (λ y d. changed-other x follows_up w y d)
-            (λ none. (after-opening []).unbroken (ap (λ (e : NetworkNode). e.node.parts.times_broken) (sym is) ∙ none));
+            (λ none. (after-opening no_books).unbroken (ap (λ (e : NetworkNode). e.node.parts.times_broken) (sym is) ∙ none));
         goes = λ none p h s.
             let start : ShownAt settings t w x (rests settings t (w.node x)) p = at-work settings t w x p fx s in
             let y : Line = line_at p its in
@@ -210,8 +214,8 @@ module _ (settings : (point : ℕ) → Configuration) (t : AreTheirs settings) (
             (subst (λ (e : NetworkNode). IsFlown e link z) (sym led)
             (record { user_data = flown.user_data; statuses = flown.statuses; follows = updated-here (w.node x).follows link false; came = flown.came }))) in
             let none_x : (apply whole c (CameUp link) n).left.parts.times_broken ≡ 0 = ap (λ (e : NetworkNode). e.node.parts.times_broken) (sym is) ∙ none x fx in
-            finish settings t shape o p one v x (mid (apply whole c (CameUp link) n).left [] [] k)
-            (leads-goes settings t shape o p one x (mid now [] [] k) (mid (apply whole c (CameUp link) n).left [] [] k) fx h l (after-opening k) none_x)
+            finish settings t shape o p one v x (mid (apply whole c (CameUp link) n).left [] [] (naming k lost))
+            (leads-goes settings t shape o p one x (mid now [] [] k) (mid (apply whole c (CameUp link) n).left [] [] (naming k lost)) fx h l (after-opening k) none_x)
             (ap (rests settings t) (sym is)) (λ i d. changed-other x follows_up w i d ∙ sym (changed-other x followed w i d))
             (λ i. subst (λ (e : NetworkNode). IsSameFlight e (v.node x) i) (sym led) (subst (λ (e : NetworkNode). IsSameFlight (followed (w.node x)) e i) (sym is) (record { user_data = refl; statuses = refl; follows = refl; came = refl })));
       }
@@ -265,7 +269,7 @@ module _ (settings : (point : ℕ) → Configuration) (t : AreTheirs settings) (
           unbroken = λ none i fi.
               ⊎_elim
               (λ (same : i ≡ x).
-              subst (λ (j : ℕ). (w.node j).node.parts.times_broken ≡ 0) (sym same) ((after-opening []).unbroken (ap (λ (e : NetworkNode). e.node.parts.times_broken) (sym is) ∙ none x fx)))
+              subst (λ (j : ℕ). (w.node j).node.parts.times_broken ≡ 0) (sym same) ((after-opening no_books).unbroken (ap (λ (e : NetworkNode). e.node.parts.times_broken) (sym is) ∙ none x fx)))
               (λ (d : i ≢ x).
               ⊎_elim
               (λ (same : i ≡ there.point).
@@ -310,8 +314,8 @@ module _ (settings : (point : ℕ) → Configuration) (t : AreTheirs settings) (
                 came = before.came;
               }))) in
               let none_x : (apply whole c (CameUp link) n).left.parts.times_broken ≡ 0 = ap (λ (e : NetworkNode). e.node.parts.times_broken) (sym is) ∙ none x fx in
-              finish settings t shape o p one v x (mid (apply whole c (CameUp link) n).left [] [] k)
-              (leads-goes settings t shape o p one x (mid now [] [] k) (mid (apply whole c (CameUp link) n).left [] [] k) fx h l (after-opening k) none_x)
+              finish settings t shape o p one v x (mid (apply whole c (CameUp link) n).left [] [] (naming k lost))
+              (leads-goes settings t shape o p one x (mid now [] [] k) (mid (apply whole c (CameUp link) n).left [] [] (naming k lost)) fx h l (after-opening k) none_x)
               (ap (rests settings t) (sym is))
               (λ i d. ap (λ (e : NetworkNode). if nat_eq i there.point then led e else e) (changed-other x (come_up c link) w i d ∙ sym (changed-other x cleared w i d)))
               (λ i. subst (λ (e : NetworkNode). IsSameFlight e (v.node x) i) (sym (at-x cleared))

@@ -1,11 +1,11 @@
 -- Rules that send the node's own management, of which no law speaks, and change nothing else that shows.
-use Rattle.node_moves.proofs.Basics.{◌≡◌, ℕ, Bool, true, false, not, ◌&&◌, ◌≤◌, ◌+◌, ◌*◌, ◌%◌, List, [], ◌∷◌, length, Option, Some, None, Result, Ok, Err, refl, ap, sym, subst, ◌∙◌, arith, if◌then◌else◌, nat_lt, nat_tests, length-set}
+use Rattle.node_moves.proofs.Basics.{◌≡◌, ℕ, Bool, true, false, not, ◌&&◌, ◌≤◌, ◌+◌, ◌*◌, ◌%◌, List, [], ◌∷◌, length, Option, Some, None, Result, Ok, Err, refl, ap, sym, subst, ◌∙◌, arith, if◌then◌else◌, nat_lt, nat_tests, length-set, append_assoc, ◌++◌}
 use Rattle.node_moves.proofs.Machine.{Other, is_user_message, Shape}
 use Rattle.node_moves.proofs.Definitions.{Message, flow_of, opc_of, dpc_of, service_indicator, Configuration, IsWell, Node, Done, WholeQueues, Parts, Link, down_link, whole, with_parts, answer, links_with, link_at, in_service, changeover_of, queue_on, link_of, no_room, set_of, adjacent_of, management_to, Management, read_management, SIF_OCTETS}
 use Rattle.node_moves.proofs.Reading.{IsShape, says_of, read_says, is_long, says-managed}
-use Rattle.node_moves.proofs.Shown.{IsSilent}
+use Rattle.node_moves.proofs.Shown.{Books, naming, IsSilent}
 use Rattle.node_moves.proofs.Going.{Goes, goes-none, goes-both}
-use Rattle.node_moves.proofs.Handling.{AreAlike, mid, goes-alike, makes, discards-loose, places}
+use Rattle.node_moves.proofs.Handling.{AreAlike, mid, names-more, goes-alike, makes, discards-loose, places}
 use Rattle.exchange_rules.proofs.Lists.{alike-at, each-set}
 use Rattle.exchange_rules.proofs.LeavingMessages.{chosen_serves}
 use Rattle.exchange_rules.proofs.MadeManagement.{made-indicator, made-short}
@@ -69,7 +69,29 @@ module _ (c : Configuration) (well : IsWell c) where
 module _ (shape : Shape) (o : IsShape shape) (c : Configuration) (well : IsWell c) where
   -- whatever came, and whatever else is at the node
   pub record K (n m : Node WholeQueues) : Type 0 where
-    pub each : (a l k : List Message) → Goes shape c (mid n a l k) (mid m a l k)
+    pub each : (a l : List Message) (k : Books) → Goes shape c (mid n a l k) (mid m a l k)
+
+  -- the same, and these are named as lost
+  pub record Names (n m : Node WholeQueues) (lost : List Message) : Type 0 where
+    pub each : (a l : List Message) (k : Books) → Goes shape c (mid n a l k) (mid m a l (naming k lost))
+
+  pub named-besides : (n m : Node WholeQueues) (lost : List Message) → K n m → Names n m lost
+  named-besides n m lost e = record { each = λ a l k. names-more shape o c well (mid n a l k) m a l k lost (e.each a l k) }
+
+  pub named-after : (n m o : Node WholeQueues) (lost : List Message) → K n m → Names m o lost → Names n o lost
+  named-after n m o lost e f = record { each = λ a l k. goes-both shape c (mid n a l k) (mid m a l k) (mid o a l (naming k lost)) (e.each a l k) (f.each a l k) }
+
+  pub named-before : (n m o : Node WholeQueues) (lost : List Message) → Names n m lost → K m o → Names n o lost
+  named-before n m o lost e f = record { each = λ a l k. goes-both shape c (mid n a l k) (mid m a l (naming k lost)) (mid o a l (naming k lost)) (e.each a l k) (f.each a l (naming k lost)) }
+
+  pub named-twice : (k : Books) (xs ys : List Message) → naming (naming k xs) ys ≡ naming k (xs ++ ys)
+  named-twice k xs ys = ap (λ (ms : List Message). record k { named = ms }) (append_assoc k.named xs ys)
+
+  pub both-named : (n m o : Node WholeQueues) (xs ys : List Message) → Names n m xs → Names m o ys → Names n o (xs ++ ys)
+  both-named n m o xs ys e f = record {
+    each = λ a l k. subst (λ (j : Books). Goes shape c (mid n a l k) (mid o a l j)) (named-twice k xs ys)
+        (goes-both shape c (mid n a l k) (mid m a l (naming k xs)) (mid o a l (naming (naming k xs) ys)) (e.each a l k) (f.each a l (naming k xs)));
+  }
 
   pub stays : (n : Node WholeQueues) → K n n
   stays n = record { each = λ a l k. goes-none shape c (mid n a l k) }
@@ -131,7 +153,7 @@ module _ (shape : Shape) (o : IsShape shape) (c : Configuration) (well : IsWell 
 
   -- ---- a message that is loose goes out, or is dropped
 
-  pub sends-loose : (room : Option Cause) (link : Option ℕ) (m : Message) (n : Node WholeQueues) (a l k : List Message) → link_of c n.parts (flow_of m) ≡ link → is_user_message (says_of m) ≡ false
+  pub sends-loose : (room : Option Cause) (link : Option ℕ) (m : Message) (n : Node WholeQueues) (a l : List Message) (k : Books) → link_of c n.parts (flow_of m) ≡ link → is_user_message (says_of m) ≡ false
       → Goes shape c (mid n a (m ∷ l) k) (mid (send whole c room link m n) a l k)
   sends-loose (Some cause) link m n a l k e says = goes-both shape c _ _ _ (discards-loose shape o c well n m a l k says) ((aside n (unsent cause m n.parts) refl refl refl refl).each a l k)
   sends-loose None None m n a l k e says = goes-both shape c _ _ _ (discards-loose shape o c well n m a l k says) ((aside n _ refl refl refl refl).each a l k)

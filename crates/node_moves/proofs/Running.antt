@@ -3,13 +3,13 @@ use Rattle.node_moves.proofs.Basics.{◌≡◌, ◌≢◌, ℕ, Bool, true, fals
 use Rattle.node_moves.proofs.Machine.{Side, Near, Far, LinkEnd, Network, Shape, seen, last_of}
 use Rattle.node_moves.proofs.Definitions.{Configuration, Node, WholeQueues, whole, answer, refuse, is_link, link_at, changeover_of, first_queue, Link, down_link, Standing, no_changeover, is_down, is_in_service}
 use Rattle.node_moves.proofs.Reading.{IsShape, says_of, place_by}
-use Rattle.node_moves.proofs.Shown.{IsShown, IsSilent, is_heard}
+use Rattle.node_moves.proofs.Shown.{no_books, IsShown, IsSilent, is_heard}
 use Rattle.node_moves.proofs.Going.{IsAt, goes-none, last-append, moves-append}
 use Rattle.node_moves.proofs.Handling.{mid}
 use Rattle.node_moves.proofs.World.{IsFlown, Shown, rests, place_at}
 use Rattle.node_moves.proofs.Flights.{changed-here, changed-other}
 use Rattle.node_moves.proofs.BothEnds.{is-other}
-use Rattle.node_moves.proofs.Steps.{StepGoes, Reaches, step-none, step-by-goes, broken-before, event-ends, submits-step, loses-step, ticks-step, activates-step, deactivates-step, releases-step, adds-step, removes-step}
+use Rattle.node_moves.proofs.Steps.{StepGoes, Reaches, step-none, step-by-goes, broken-before, event-settles, submits-step, loses-step, ticks-step, activates-step, deactivates-step, releases-step, adds-step, removes-step}
 use Rattle.node_moves.proofs.Handing.{changed-alike, data-step, status-step, lost-step, doubled-step}
 use Rattle.node_moves.proofs.Opening.{MayComeUp, wants-open, second-step, first-step}
 use Rattle.node_moves.proofs.Sending.{takes-step}
@@ -141,7 +141,7 @@ module _ (settings : (point : ℕ) → Configuration) (t : AreTheirs settings) (
   up-unbroken x link fx n none =
       let left : Node WholeQueues = (handle_event whole (settings x) (CameUp link) n).left in
       sym (up-broken (settings x) link n)
-      ∙ (event-ends shape o (settings x) (t.well x fx) (CameUp link) (mid left [] [] []) n [] (goes-none shape (settings x) (mid left [] [] []))).unbroken none
+      ∙ (event-settles shape o (settings x) (t.well x fx) (CameUp link) (mid left [] [] no_books) n no_books (goes-none shape (settings x) (mid left [] [] no_books))).unbroken none
 
   -- a link that isn't there doesn't want to open
   nowhere : {A : Type 0} (w : NetworkState) (x link : ℕ) (p : Network) → IsNode settings x → Shown settings t w p → MayComeUp (w.node x).node.parts link → nat_lt link (length (settings x).links) ≡ false → A
@@ -278,7 +278,7 @@ module _ (settings : (point : ℕ) → Configuration) (t : AreTheirs settings) (
             silent = λ link. each-replicate IsSilent (length c.links) link down_link (record { waiting = λ gone. refl; owed = λ gone. refl });
           };
           ends = λ link l. subst (λ (e : LinkEnd). IsShown (of_nodes.first_node c).node link e) (sym (first-near (place_at settings t y link).side)) (closed-shown c link l);
-          booked = record { bag = λ test. refl; accepted = λ test. refl; named = omega arith };
+          booked = record { bag = λ test. refl; accepted = λ test. refl; named = omega arith; within = λ test. omega arith };
         };
     flown = λ y l fy k. first-flown (settings y) l (place_at settings t y l).side;
     idle = λ link unused. refl;

@@ -4,12 +4,12 @@ use Rattle.node_moves.proofs.Machine.{Side, Near, Far, Frame, LinkEnd, Live, Lin
 use Rattle.node_moves.proofs.Machine as machine
 use Rattle.node_moves.proofs.Definitions.{Message, Configuration, IsWell, Node, WholeQueues, whole, link_at, links_with, queue_at, with_queue, in_service, down, changeover_of, Queue, first_queue, last_accepted, Link, down_link, is_down, is_in_service, Alignment, SIF_OCTETS}
 use Rattle.node_moves.proofs.Reading.{IsShape, says_of, says-long, is_long, across}
-use Rattle.node_moves.proofs.Shown.{Mid, Shows, IsShown, IsAlike, IsSized, IsSilent, IsBooked, shown_in, is_heard, shown-alike, link-inside, own-inside}
+use Rattle.node_moves.proofs.Shown.{Books, Mid, Shows, IsShown, IsAlike, IsSized, IsSilent, IsBooked, shown_in, is_heard, shown-alike, link-inside, own-inside}
 use Rattle.node_moves.proofs.Going.{IsAt}
 use Rattle.node_moves.proofs.Handling.{mid, end-at, live-queue}
 use Rattle.node_moves.proofs.Failures.{node-there, number-fits, booked-alike}
 use Rattle.node_moves.proofs.Heard.{never-true}
-use Rattle.node_moves.proofs.World.{IsFlown, IsData, IsStatus, AreData, AreStatuses, data_of, ShownAt, rests, place_at, at-work}
+use Rattle.node_moves.proofs.World.{books_of, IsFlown, IsData, IsStatus, AreData, AreStatuses, data_of, ShownAt, rests, place_at, at-work}
 use Rattle.node_moves.proofs.Relining.{reline, Leads, leads-one, with_line, line-set}
 use Rattle.node_moves.proofs.Flights.{IsSameFlight, same-flight, changed-here, changed-other, updated-here, updated-other}
 use Rattle.node_moves.proofs.BothEnds.{IsOther, is-other, across-named, reline-both}
@@ -160,8 +160,8 @@ module _ (settings : (point : ℕ) → Configuration) (t : AreTheirs settings) (
   abbrev n : Node WholeQueues
   n = (w.node x).node
 
-  abbrev k : List Message
-  k = (w.node x).accepted
+  abbrev k : Books
+  k = books_of (w.node x)
 
   abbrev left : NetworkNode → NetworkNode
   left e = record e { node = after_take whole c link e.node }

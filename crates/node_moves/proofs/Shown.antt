@@ -1,5 +1,5 @@
 -- A node at work, as a network of the machine of moves shows it.
-use Rattle.node_moves.proofs.Basics.{◌≡◌, ◌≢◌, ℕ, Bool, true, false, not, ◌+◌, ◌-◌, ◌^◌, ◌≤◌, ◌<◌, List, [], length, Some, count_by, min, ap, sym, subst, ◌∙◌}
+use Rattle.node_moves.proofs.Basics.{◌≡◌, ◌≢◌, ℕ, Bool, true, false, not, ◌+◌, ◌-◌, ◌^◌, ◌≤◌, ◌<◌, List, [], ◌++◌, length, Some, count_by, min, ap, sym, subst, ◌∙◌}
 use Rattle.node_moves.proofs.Machine.{user, Phase, Live, Moved, Gone, LinkEnd, Network, Shape, Place, line_at, point_at}
 use Rattle.node_moves.proofs.Definitions.{Message, Configuration, IsWell, Node, WholeQueues, down, in_service, link_at, queue_at, changeover_of, entry_of, peer_of, set_of, Queue, emptied, Standing, Link, Alignment, Down, NotAligned, Aligned, Proving, AlignedReady, InService, is_down, is_in_service}
 use Rattle.node_moves.proofs.Reading.{IsShape, place_of, places-apart, says_of}
@@ -8,13 +8,29 @@ use Rattle.exchange_rules.proofs.NamedLinks.{link-named}
 use Rattle.exchange_rules.specs.Messages.{link_with_code}
 use Rattle.network_moves.specs.Networks as net
 
--- ---- a node at work: the messages that came or were handed over and weren't looked at yet, those that stand nowhere
--- yet, and all that it accepted
+-- ---- a node at work
+
+-- its books: all that it accepted, and all that it named as lost
+pub record Books : Type 0 where
+  pub accepted : List Message
+  pub named : List Message
+
+abbrev pub no_books : Books
+no_books = record { accepted = []; named = [] }
+
+-- with more that is accepted, or named
+abbrev pub accepting : Books → List Message → Books
+accepting k ms = record k { accepted = k.accepted ++ ms }
+
+abbrev pub naming : Books → List Message → Books
+naming k ms = record k { named = k.named ++ ms }
+
+-- with the messages that came or were handed over and weren't looked at yet, and those that stand nowhere yet
 pub record Mid : Type 0 where
   pub node : Node WholeQueues
   pub arrived : List Message
   pub loose : List Message
-  pub accepted : List Message
+  pub books : Books
 
 -- ---- an end of a link
 
@@ -83,8 +99,9 @@ most = 2 ^ 64 - 1
 
 pub record IsBooked (x : net.Node) (v : Mid) : Type 0 where
   pub bag : (test : Message → Bool) → count_by test x.bag ≡ count_by test v.node.queues.held + (count_by test v.arrived + count_by test v.loose)
-  pub accepted : (test : Message → Bool) → users_that test x.accepted ≡ users_that test x.ended + (users_that test v.accepted + users_that test v.arrived)
+  pub accepted : (test : Message → Bool) → users_that test x.accepted ≡ users_that test x.ended + (users_that test v.books.accepted + users_that test v.arrived)
   pub named : min (users_that any_message x.named) most ≤ v.node.parts.messages_lost
+  pub within : (test : Message → Bool) → users_that test x.named ≤ users_that test v.books.named
 
 -- ---- all of it
 

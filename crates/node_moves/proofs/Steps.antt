@@ -3,18 +3,18 @@ use Rattle.node_moves.proofs.Basics.{◌≡◌, ◌≢◌, ℕ, Bool, ◌<◌, L
 use Rattle.node_moves.proofs.Machine.{Network, Shape, line_at, node_at, Move, Moves, last_of}
 use Rattle.node_moves.proofs.Definitions.{Message, Configuration, IsWell, Node, WholeQueues, whole}
 use Rattle.node_moves.proofs.Reading.{IsShape, says_of}
-use Rattle.node_moves.proofs.Shown.{Mid, Shows}
+use Rattle.node_moves.proofs.Shown.{Books, accepting, naming, Mid, Shows}
 use Rattle.node_moves.proofs.Going.{IsAt, Goes, goes-both}
-use Rattle.node_moves.proofs.Handling.{mid}
-use Rattle.node_moves.proofs.Own.{K}
+use Rattle.node_moves.proofs.Handling.{mid, names-more}
+use Rattle.node_moves.proofs.Own.{Names, named-besides, named-twice}
 use Rattle.node_moves.proofs.Bringing.{submitted}
 use Rattle.node_moves.proofs.Events.{settles, ticked-goes, down-goes, activate-goes, deactivate-goes, release_bar-goes, added-goes, removed-goes}
-use Rattle.node_moves.proofs.World.{IsFlown, AreStatuses, Shown, rests, at-work, at-rest, place_at}
+use Rattle.node_moves.proofs.World.{IsFlown, AreStatuses, Shown, books_of, rests, at-work, at-rest, place_at}
 use Rattle.node_moves.proofs.Relining.{Leads, leads-none, leads-one, leads-goes, with_line}
 use Rattle.node_moves.proofs.Flights.{IsSameFlight, same-flight, changed-here, changed-other, updated-here, updated-other, only-changed, statuses-changed}
 use Rattle.node_moves.specs.Networks.{NetworkNode, NetworkState, IsNode, changed, happens, takes_in, with_statuses, state_of}
 use Rattle.node_moves.specs.Laws.{AreTheirs, IsUnbroken}
-use Rattle.exchange_rules.specs.Conserving.{brought_in, brought_to}
+use Rattle.exchange_rules.specs.Conserving.{brought_in, brought_to, gone, gone_by, gone_by_release}
 unfoldable use Rattle.exchange_rules.specs.Exchange.{apply}
 use Rattle.exchange_rules.specs.Exchange.{handle_event, outcome_of}
 use Rattle.exchange_rules.specs.Messages.{whither_goes}
@@ -30,9 +30,20 @@ outcome-same c what n = refl
 
 module _ (shape : Shape) (o : IsShape shape) (c : Configuration) (well : IsWell c) where
   -- what ends an event, after its rule
-  pub event-ends : (what : Happening) (v : Mid) (n : Node WholeQueues) (k : List Message) → Goes shape c v (mid (handle_event whole c what n).left [] [] k) → Goes shape c v (mid (apply whole c what n).left [] [] k)
+  pub event-ends : (what : Happening) (v : Mid) (n : Node WholeQueues) (k : Books) (lost : List Message) → Goes shape c v (mid (handle_event whole c what n).left [] [] (naming k lost))
+      → Goes shape c v (mid (apply whole c what n).left [] [] (naming k (lost ++ (gone_by_release c (handle_event whole c what n).left).lost)))
   unfolding apply
-  event-ends what v n k e = goes-both shape c v (mid (handle_event whole c what n).left [] [] k) _ e ((settles shape o c well (handle_event whole c what n).left).each [] [] k)
+  event-ends what v n k lost e =
+      let handled : Node WholeQueues = (handle_event whole c what n).left in
+      subst (λ (j : Books). Goes shape c v (mid (apply whole c what n).left [] [] j)) (named-twice shape o c well k lost (gone_by_release c handled).lost)
+      (goes-both shape c v (mid handled [] [] (naming k lost)) _ e ((settles shape o c well handled).each [] [] (naming k lost)))
+
+  -- where its rule names this, or less
+  pub event-settles : (what : Happening) (v : Mid) (n : Node WholeQueues) (k : Books) → Goes shape c v (mid (handle_event whole c what n).left [] [] k)
+      → Goes shape c v (mid (apply whole c what n).left [] [] (naming k (gone what (record { settings = c; node = n })).lost))
+  event-settles what v n k e =
+      let lost : List Message = (gone_by what (record { settings = c; node = n })).lost in
+      event-ends what v n k lost (names-more shape o c well v (handle_event whole c what n).left [] [] k lost e)
 
 module _ (settings : (point : ℕ) → Configuration) (t : AreTheirs settings) (shape : Shape) (o : IsShape shape) where
   pub record Reaches (p : Network) (v : NetworkState) : Type 0 where
@@ -95,32 +106,33 @@ module _ (settings : (point : ℕ) → Configuration) (t : AreTheirs settings) (
             (ap (rests settings t) (sym is)) (λ y d. changed-other x f w y d) (λ l. subst (λ (e : NetworkNode). IsSameFlight (w.node x) e l) (sym is) (flights l));
       }
 
-  happening : (w : NetworkState) (x : ℕ) (what : Happening) → (fx : IsNode settings x) → K shape o (settings x) (t.well x fx) (w.node x).node (handle_event whole (settings x) what (w.node x).node).left
+  happening : (w : NetworkState) (x : ℕ) (what : Happening) → (fx : IsNode settings x)
+      → Names shape o (settings x) (t.well x fx) (w.node x).node (handle_event whole (settings x) what (w.node x).node).left (gone_by what (state_of (settings x) (w.node x))).lost
       → StepGoes w (changed x (happens (settings x) what) w)
   happening w x what fx e =
       step-by-goes w x (happens (settings x) what) fx (λ l. record { user_data = refl; statuses = refl; follows = refl; came = refl })
-      (event-ends shape o (settings x) (t.well x fx) what _ (w.node x).node (w.node x).accepted (e.each [] [] (w.node x).accepted))
+      (event-ends shape o (settings x) (t.well x fx) what _ (w.node x).node (books_of (w.node x)) (gone_by what (state_of (settings x) (w.node x))).lost (e.each [] [] (books_of (w.node x))))
 
   pub loses-step : (w : NetworkState) (x link : ℕ) → IsNode settings x → StepGoes w (changed x (happens (settings x) (WentDown link)) w)
-  loses-step w x link fx = happening w x (WentDown link) fx (down-goes shape o (settings x) (t.well x fx) link (w.node x).node)
+  loses-step w x link fx = happening w x (WentDown link) fx (named-besides shape o (settings x) (t.well x fx) (w.node x).node _ [] (down-goes shape o (settings x) (t.well x fx) link (w.node x).node))
 
   pub ticks-step : (w : NetworkState) (x : ℕ) → IsNode settings x → StepGoes w (changed x (happens (settings x) Ticked) w)
   ticks-step w x fx = happening w x Ticked fx (ticked-goes shape o (settings x) (t.well x fx) (w.node x).node)
 
   pub activates-step : (w : NetworkState) (x link : ℕ) (emergency : Bool) → IsNode settings x → StepGoes w (changed x (happens (settings x) (Activated link emergency)) w)
-  activates-step w x link emergency fx = happening w x (Activated link emergency) fx (activate-goes shape o (settings x) (t.well x fx) emergency link (w.node x).node)
+  activates-step w x link emergency fx = happening w x (Activated link emergency) fx (named-besides shape o (settings x) (t.well x fx) (w.node x).node _ [] (activate-goes shape o (settings x) (t.well x fx) emergency link (w.node x).node))
 
   pub deactivates-step : (w : NetworkState) (x link : ℕ) → IsNode settings x → StepGoes w (changed x (happens (settings x) (Deactivated link)) w)
-  deactivates-step w x link fx = happening w x (Deactivated link) fx (deactivate-goes shape o (settings x) (t.well x fx) link (w.node x).node)
+  deactivates-step w x link fx = happening w x (Deactivated link) fx (named-besides shape o (settings x) (t.well x fx) (w.node x).node _ [] (deactivate-goes shape o (settings x) (t.well x fx) link (w.node x).node))
 
   pub releases-step : (w : NetworkState) (x link : ℕ) → IsNode settings x → StepGoes w (changed x (happens (settings x) (Released link)) w)
-  releases-step w x link fx = happening w x (Released link) fx (release_bar-goes shape o (settings x) (t.well x fx) link (w.node x).node)
+  releases-step w x link fx = happening w x (Released link) fx (named-besides shape o (settings x) (t.well x fx) (w.node x).node _ [] (release_bar-goes shape o (settings x) (t.well x fx) link (w.node x).node))
 
   pub adds-step : (w : NetworkState) (x : ℕ) (row : TitleEntry) (refused : Bool) → IsNode settings x → StepGoes w (changed x (happens (settings x) (TitleAdded row refused)) w)
-  adds-step w x row refused fx = happening w x (TitleAdded row refused) fx (added-goes shape o (settings x) (t.well x fx) row refused (w.node x).node)
+  adds-step w x row refused fx = happening w x (TitleAdded row refused) fx (named-besides shape o (settings x) (t.well x fx) (w.node x).node _ [] (added-goes shape o (settings x) (t.well x fx) row refused (w.node x).node))
 
   pub removes-step : (w : NetworkState) (x : ℕ) (key : TitleKey) (digits : List ℕ) → IsNode settings x → StepGoes w (changed x (happens (settings x) (TitleRemoved key digits)) w)
-  removes-step w x key digits fx = happening w x (TitleRemoved key digits) fx (removed-goes shape o (settings x) (t.well x fx) key digits (w.node x).node)
+  removes-step w x key digits fx = happening w x (TitleRemoved key digits) fx (named-besides shape o (settings x) (t.well x fx) (w.node x).node _ [] (removed-goes shape o (settings x) (t.well x fx) key digits (w.node x).node))
 
   -- a user part hands a message over
   pub submits-step : (w : NetworkState) (x : ℕ) (m : Message) → IsNode settings x → StepGoes w (changed x (takes_in (settings x) (Submitted m)) w)
@@ -128,9 +140,9 @@ module _ (settings : (point : ℕ) → Configuration) (t : AreTheirs settings) (
       let c : Configuration = settings x in
       let e : NetworkNode = w.node x in
       step-by-goes w x (takes_in c (Submitted m)) fx (λ l. record { user_data = refl; statuses = refl; follows = refl; came = refl })
-      (event-ends shape o c (t.well x fx) (Submitted m) _ e.node (e.accepted ++ brought_in (Submitted m) (state_of c e))
-      (subst (λ (r : Outcome). Goes shape c (mid e.node [] [] e.accepted) (mid (handle_event whole c (Submitted m) e.node).left [] [] (e.accepted ++ brought_to (whither_goes c m) r c m e.node))) (sym (outcome-same c (Submitted m) e.node))
-      (submitted shape o c (t.well x fx) (whither_goes c m) e.node m [] [] e.accepted refl)))
+      (event-settles shape o c (t.well x fx) (Submitted m) _ e.node (accepting (books_of e) (brought_in (Submitted m) (state_of c e)))
+      (subst (λ (r : Outcome). Goes shape c (mid e.node [] [] (books_of e)) (mid (handle_event whole c (Submitted m) e.node).left [] [] (accepting (books_of e) (brought_to (whither_goes c m) r c m e.node)))) (sym (outcome-same c (Submitted m) e.node))
+      (submitted shape o c (t.well x fx) (whither_goes c m) e.node m [] [] (books_of e) refl)))
 
   -- ---- link statuses that are lost, or come twice
 

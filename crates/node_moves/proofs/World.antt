@@ -5,7 +5,7 @@ use Rattle.node_moves.proofs.Machine as machine
 use Rattle.node_moves.proofs.Definitions.{Message, Configuration, entry_of, peer_of, set_of}
 use Rattle.node_moves.proofs.Reading.{IsShape, place_by, across}
 use Rattle.node_moves.proofs.Sets.{StaysAround, IsFlownAlike, flown-seen}
-use Rattle.node_moves.proofs.Shown.{Mid, Shows, IsShown, IsBooked, place, links-apart, at-own}
+use Rattle.node_moves.proofs.Shown.{Books, Mid, Shows, IsShown, IsBooked, place, links-apart, at-own}
 use Rattle.node_moves.proofs.Going.{Arrives}
 use Rattle.node_moves.proofs.Handling.{mid}
 use Rattle.node_moves.specs.Networks.{NetworkNode, NetworkState, IsNode}
@@ -15,6 +15,9 @@ use Rattle.m2pa_codec.specs.Frames.{FrameValue, read_frame}
 use Rattle.m2pa_codec.specs.Frames as frames
 use Rattle.network_moves.specs.Networks as net
 use Rattle.network_moves.specs.Quiet.{closed_line}
+
+abbrev pub books_of : NetworkNode → Books
+books_of x = record { accepted = x.accepted; named = x.named }
 
 -- ---- what is in flight
 
@@ -98,7 +101,7 @@ module _ (settings : (point : ℕ) → Configuration) (t : AreTheirs settings) w
   -- ---- a network with one node at work
 
   abbrev pub rests : NetworkNode → Mid
-  rests x = mid x.node [] [] x.accepted
+  rests x = mid x.node [] [] (books_of x)
 
   -- a line that is no link of any node
   abbrev pub IsUnused : (link : ℕ) → Type 0

@@ -61,12 +61,13 @@ module _ (settings : (point : ℕ) → Configuration) (w : NetworkState) where
 
   -- of every kind of user messages, those that came and those that wait are together no more than the node accepted:
   -- so much `once` says, since `gone_at` is what is left of these, or 0. So each message came to one neighbour at most,
-  -- once at most, and doesn't wait if it came. And no more are gone than the node counts as named in notices of loss
-  -- (`messages_lost`), up to the most that it counts
+  -- once at most, and doesn't wait if it came. And no more are gone, of any kind, than the node named in notices of
+  -- loss; nor in all than it counts as named (`messages_lost`), up to the most that it counts
   pub record EndsOnce (point : ℕ) : Type 0 where
     pub once : (test : Message → Bool) →
         accepted_at test point ≡ came_from test point + waits_at test point + gone_at test point
-    pub named : (test : Message → Bool) → min (gone_at test point) most ≤ (w.node point).node.parts.messages_lost
+    pub named : (test : Message → Bool) → gone_at test point ≤ users_that test (w.node point).named
+    pub counted : (test : Message → Bool) → min (gone_at test point) most ≤ (w.node point).node.parts.messages_lost
 
   -- no node is broken: none stopped waiting for an answer that hadn't come, and none was given a number that names no
   -- count

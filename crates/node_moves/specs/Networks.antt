@@ -8,7 +8,7 @@ use Rattle.settings_rows.specs.Configuration.{Configuration, TitleEntry}
 use Rattle.sccp_codec.specs.declared.title.TitleKey.{TitleKey}
 use Rattle.m2pa_codec.specs.Frames.{FrameValue, EmptyFrame, MessageFrame, StatusFrame, spelled}
 use Rattle.changeover.specs.Changeover.{may_restart}
-use Rattle.exchange_rules.specs.Conserving.{brought_in}
+use Rattle.exchange_rules.specs.Conserving.{brought_in, gone}
 use Rattle.exchange_rules.specs.declared.wants.Wants.{Wants}
 use Rattle.exchange_rules.specs.declared.wants.Wants.TheVariants.{Open}
 use Rattle.exchange_rules.specs.ChangingOver.{changeover_of}
@@ -24,14 +24,15 @@ use Rattle.exchange_rules.specs.State.{Happening, CameUp, WentDown, FrameCame, T
 use Rattle.exchange_rules.specs.State.{Deactivated, Released, TitleAdded, TitleRemoved, Node, down}
 
 -- a node: its exchange; what is in flight to it on each link, on two streams, the first that went out first; on which
--- links it may follow the other end, which opened first; all messages that it accepted, whoever sent them; and all that
--- came to it by each link
+-- links it may follow the other end, which opened first; all messages that it accepted, whoever sent them; all that it
+-- named as lost; and all that came to it by each link
 pub record NetworkNode : Type 0 where
   pub node : Node WholeQueues
   pub statuses : (link : ℕ) → List (List ℕ)
   pub user_data : (link : ℕ) → List (List ℕ)
   pub follows : (link : ℕ) → Bool
   pub accepted : List Message
+  pub named : List Message
   pub came : (link : ℕ) → List Message
 
 -- the node at each point code
@@ -89,16 +90,20 @@ state_of c x = record { settings = c; node = x.node }
 abbrev pub next_in : Configuration → (link : ℕ) → List (List ℕ) → Option (List ℕ)
 next_in c link texts = if nat_lt link (length c.links) then slice_get texts 0 else None
 
+-- what an event names in notices of loss
+abbrev pub named_by : Configuration → Happening → NetworkNode → List Message
+named_by c what x = (gone what (state_of c x)).lost
+
 -- its exchange does what the rules say about what happens
 abbrev pub after_event : Configuration → Happening → NetworkNode → Node WholeQueues
 after_event c what x = (apply whole c what x.node).left
 
 abbrev pub happens : Configuration → Happening → NetworkNode → NetworkNode
-happens c what x = record x { node = after_event c what x }
+happens c what x = record x { node = after_event c what x; named = x.named ++ named_by c what x }
 
 -- and it may accept messages
 abbrev pub takes_in : Configuration → Happening → NetworkNode → NetworkNode
-takes_in c what x = record x { node = after_event c what x; accepted = x.accepted ++ brought_in what (state_of c x) }
+takes_in c what x = record (happens c what x) { accepted = x.accepted ++ brought_in what (state_of c x) }
 
 -- User Data comes that was in flight on a link, and with it the message that it newly carries
 abbrev pub hear_data : Configuration → Option (List ℕ) → (link : ℕ) → NetworkNode → NetworkNode
@@ -176,6 +181,7 @@ first_node c = record {
   user_data = λ link. [];
   follows = λ link. false;
   accepted = [];
+  named = [];
   came = λ link. [];
 }
 

@@ -7,7 +7,7 @@ ghost use Rattle.node_moves.specs.MatedRun.{ComesByTheMate};
 /// The node law. While no node is broken: of each kind of user messages, those that came from a node to its neighbours
 /// and those that wait there, in Held or on a link, are together no more than it accepted. So each message came to one
 /// neighbour at most, once at most, and doesn't wait if it came. And those that neither came nor wait are no more than
-/// `messages_lost` counts.
+/// those of that kind that the node named as lost; nor than `messages_lost` counts.
 pub fn each_message_of_a_node_ends_once()
     ensures { each_message_ends_once }
 {}
