@@ -34,13 +34,13 @@ use Rattle.exchange_rules.specs.Exchange as rules
 use Rattle.exchange_rules.specs.Messages.{no_room_for, offer}
 use Rattle.exchange_rules.specs.Conserving.{taken_in}
 use Rattle.exchange_rules.specs.Queues.{WholeQueues}
-use Rattle.signalling_types.specs.Message.{flow_of}
+use Rattle.signalling_types.specs.Message.{Message, flow_of}
 use Rattle.pair_rules.proofs.Definitions.{held_by, none_at_first}
 use Rattle.pair_rules.specs.OneEndFirst.{near_settings, far_settings, the_message}
 use Rattle.neighbour_rules.specs.Promises as promises
 use Rattle.node_rules.specs.Promises.{ends_of}
 use Rattle.node_rules.proofs.Happening.{near-between, far-between}
-use Rattle.node_rules.specs.Worlds.{Doing, Happens, Associates, Sends, at_near, at_far, message_of, World, Step, Steps, Node, CanGo, IsLooked, MayDo, new_world}
+use Rattle.node_rules.specs.Worlds.{Books, happened, Doing, Happens, Associates, Sends, at_near, at_far, message_of, World, Step, Steps, Node, CanGo, IsLooked, MayDo, new_world}
 use Rattle.sctp_ends.specs.Worlds.{Arrives}
 use Rattle.node_rules.specs.Example.{near_make, far_make, near_does, far_does, near_hears, far_hears}
 use Rattle.node_rules.specs.Crossing.{opened, aligned, served, submitted, opening, aligning, serving, crossing, through, after_all, near_sends, far_sends, near_flushes, far_flushes}
@@ -64,23 +64,43 @@ none-held h none = by (is_held h 0 0) refl
 free-none : Free (no_holds 2 1 1)
 free-none procedure = none_at_first 2 1 1 procedure 0 0
 
-abbrev submitted_by : Bool → World
-submitted_by waiting =
-    let n : exchange.Node WholeQueues = served.near.books.exchange.node in
+-- a node's books after the message was submitted there, if it waits or doesn't
+abbrev submitting : Bool → exchange.Node WholeQueues → Books → Books
+submitting waiting n b =
     let d : Done WholeQueues = rules.settled whole near_settings (offer whole near_settings (no_room_for whole near_settings the_message n) waiting (link_of near_settings n.parts (flow_of the_message)) None the_message n) in
-    record served {
-      near = record served.near {
-        books = record {
-          exchange = record { settings = near_settings; node = d.left };
-          accepted = served.near.books.accepted ++ taken_in d.outcome the_message;
-          received = served.near.books.received ++ [];
-        };
-      };
+    record {
+      exchange = record { settings = near_settings; node = d.left };
+      accepted = b.accepted ++ taken_in d.outcome the_message;
+      received = b.received ++ [];
     }
 
-goes-in : submitted ≡ submitted_by (waits near_settings served.near.books.exchange.node.parts.holds the_message)
+-- of any node, so that nothing is computed of it
+submits-any : (n : exchange.Node WholeQueues) (accepted received : List Message)
+    → happened (exchange.Submitted the_message) (record { exchange = record { settings = near_settings; node = n }; accepted = accepted; received = received })
+    ≡ submitting (waits near_settings n.parts.holds the_message) n (record { exchange = record { settings = near_settings; node = n }; accepted = accepted; received = received })
+unfolding apply tell_owed
+submits-any n accepted received = refl
+
+abbrev submitted_by : Bool → World
+submitted_by waiting =
+    record served { near = record served.near { books = submitting waiting served.near.books.exchange.node served.near.books } }
+
+-- the settings are still the near node's
+abbrev with_settings : Books → Books
+with_settings b = record {
+  exchange = record { settings = near_settings; node = b.exchange.node };
+  accepted = b.accepted;
+  received = b.received;
+}
+
+settings-stay : served.near.books ≡ with_settings served.near.books
 unfolding after going drained run_from blocks_from lost_from named_below passed_below given next_place gone_again gone_first confirmation confirmed settled acknowledged after_t3 apply tell_owed first_sets links_below status_of set_timer clear_timer start_unless_running clear_set due_name after_due due_count names_of choice_among link_by changes_of changes take_back_each owes_nothing any_flow flows
-goes-in = refl
+settings-stay = refl
+
+goes-in : submitted ≡ submitted_by (waits near_settings served.near.books.exchange.node.parts.holds the_message)
+goes-in =
+    ap (λ b. record served { near = record served.near { books = happened (exchange.Submitted the_message) b } }) settings-stay
+    ∙ ap (λ b. record served { near = record served.near { books = b } }) (submits-any served.near.books.exchange.node served.near.books.accepted served.near.books.received)
 
 free : waits near_settings served.near.books.exchange.node.parts.holds the_message ≡ false
 unfolding after going drained run_from blocks_from lost_from named_below passed_below given next_place gone_again gone_first confirmation confirmed settled acknowledged after_t3 apply tell_owed first_sets links_below status_of set_timer clear_timer start_unless_running clear_set due_name after_due due_count names_of choice_among link_by changes_of changes take_back_each owes_nothing any_flow flows

@@ -36,6 +36,7 @@ no_settings = record {
   own_port = 0;
   far_port = 0;
   address = record { host = []; port = 0 };
+  addresses = [];
   bounds = record { initial = 0; least = 0; most = 0 };
   init_retransmissions = 0;
   retransmissions = 0;

@@ -1,3 +1,4 @@
+pub mod Addresses
 pub mod Settings
 pub mod Replies
 pub mod ChunkRows

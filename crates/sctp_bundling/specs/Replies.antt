@@ -4,17 +4,18 @@ use Rattle.std.specs.Borrow.{Bor}
 use Rattle.sctp_codec.specs.Items.{ItemValue, item_octets}
 use Rattle.sctp_codec.specs.Packets as value
 use Rattle.sctp_codec.specs.Packets.{ChunkValue}
-use Rattle.sctp_codec.specs.Parameters.{cause_item, unrecognized_parameters}
+use Rattle.sctp_codec.specs.Parameters.{cause_item, listing, unrecognized_parameters}
 use Rattle.sctp_codec.specs.Causes.{cause_of}
 use Rattle.sctp_codec.specs.Values.{offer_with}
 use Rattle.sctp_codec.specs.Writing.{chunk_octets}
+use Rattle.sctp_bundling.specs.Addresses.{listed}
 use Rattle.sctp_bundling.specs.declared.reply.Reply.{Reply}
 use Rattle.sctp_bundling.specs.declared.reply.Reply.TheVariants.{Init, Error, Abort, ReflectedAbort}
 use Rattle.sctp_bundling.specs.declared.reply.Reply.TheVariants.{Shutdown, ShutdownAck, ShutdownComplete}
 use Rattle.sctp_bundling.specs.declared.reply.Reply.TheVariants.{CookieEcho, CookieAck, Heartbeat, HeartbeatAck}
 
 abbrev pub chunk_of : Reply → ChunkValue
-chunk_of (Init offer) = value.InitChunk (offer_with offer [])
+chunk_of (Init offer addresses) = value.InitChunk (offer_with offer (listing (listed addresses.now)))
 chunk_of (Error cause) = value.ErrorChunk (cause_item (cause_of cause) ∷ [])
 chunk_of (Abort cause) = value.AbortChunk false (item_octets (cause_item (cause_of cause)))
 chunk_of ReflectedAbort = value.AbortChunk true []

@@ -1,6 +1,7 @@
 -- The settings of the code, and what it draws and signs under its keys.
 use Rattle.sctp_rules.specs.Settings as rules
 use Rattle.sctp_bundling.specs.declared.address.Address.{Address}
+use Rattle.sctp_bundling.specs.Addresses.{listed}
 use Rattle.sctp_bundling.specs.declared.settings.Settings.{Settings}
 
 abbrev pub address_of : Address → rules.Address
@@ -11,6 +12,7 @@ settings_of c = record {
   own_port = c.own_port;
   far_port = c.far_port;
   address = address_of c.address;
+  addresses = listed c.addresses;
   bounds = c.bounds;
   init_retransmissions = c.init_retransmissions;
   retransmissions = c.retransmissions;

@@ -2,6 +2,7 @@
 #![tactic(auto)]
 
 pub mod address;
+pub mod addresses;
 pub mod chunks;
 pub mod draft;
 mod gaps;
@@ -12,6 +13,7 @@ pub mod watch;
 pub mod way;
 
 pub use address::Address;
+pub use addresses::Addresses;
 pub use chunks::Chunks;
 pub use draft::Draft;
 pub use reply::Reply;

@@ -4,11 +4,13 @@ ghost use Rattle.std.specs.Prelude.{◌≡◌, ◌+◌, ◌≤◌, ◌∷◌, �
 ghost use Rattle.sctp_codec.specs.Packets.{ChunkValue, InitAckChunk};
 ghost use Rattle.sctp_codec.specs.Parameters.{answering};
 ghost use Rattle.sctp_codec.specs.Values.{items_of, offer_with};
+ghost use Rattle.sctp_bundling.specs.Addresses.{listed};
 ghost use Rattle.sctp_bundling.specs.Replies.{last_of, size_of_last};
 ghost use Rattle.sctp_bundling.specs.ChunkRows.{row_of};
 ghost use Rattle.sctp_bundling.specs.Ways.{way_of, packet_on};
 ghost use Rattle.sctp_bundling.specs.Watching.{Puts};
 
+use crate::addresses::Addresses;
 use crate::reply::Reply;
 use crate::watch::Watch;
 use crate::way::Way;
@@ -29,20 +31,23 @@ pub fn put_packet<W: Watch>(way: &Way, front: &[u8], last: Option<&Reply<'_>>, w
     watch.send(&out[..end], &way.to);
 }
 
-/// A packet with INIT ACK goes out: what is offered, the cookie, and the parameters of the INIT that are reported.
+/// A packet with INIT ACK goes out: what is offered, the addresses of its sender, the cookie, and the parameters of the
+/// INIT that are reported.
 pub fn put_init_answer<W: Watch>(
     way: &Way,
     offer: &Offer,
+    addresses: &Addresses,
     cookie: &[u8; COOKIE_OCTETS],
     parameters: Items<'_>,
     watch: &mut W,
 )
     ensures { Puts W.has watch.old watch.new (packet_on (way_of way.now)
-        (InitAckChunk (offer_with offer.now (answering cookie.now (items_of parameters.entry))) ∷ []) ∷ []) }
+        (InitAckChunk (offer_with offer.now (answering (listed addresses.now) cookie.now (items_of parameters.entry))) ∷ [])
+        ∷ []) }
 {
     let mut out = blank();
     let at = begin(&mut out, way.source, way.destination, way.tag);
-    let end = write_init_ack(&mut out, at, offer, cookie, parameters);
+    let end = write_init_ack(&mut out, at, offer, addresses.listed(), cookie, parameters);
     finish(&mut out, end);
     watch.send(&out[..end], &way.to);
 }

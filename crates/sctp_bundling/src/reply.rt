@@ -4,6 +4,7 @@ ghost use Rattle.std.specs.Prelude.{◌≡◌, ◌+◌, ◌≤◌, ◌++◌, tak
 ghost use Rattle.sctp_codec.specs.Writing.{chunk_octets, IsChunk};
 ghost use Rattle.sctp_bundling.specs.Replies.{chunk_of, size_of};
 
+use crate::addresses::Addresses;
 use sctp_codec::{
     Cause, Offer, PacketBuffer, Tsn, write_abort, write_cookie_ack, write_cookie_echo, write_error,
     write_heartbeat, write_heartbeat_ack, write_init, write_reflected_abort, write_shutdown,
@@ -13,8 +14,8 @@ use sctp_codec::{
 /// A chunk that an endpoint sends, apart from INIT ACK, DATA and SACK.
 #[derive(Clone, Copy)]
 pub enum Reply<'a> {
-    /// INIT, without parameters.
-    Init(Offer),
+    /// INIT with what is offered, and the addresses of its sender.
+    Init(Offer, &'a Addresses),
     /// ERROR with a cause.
     Error(Cause<'a>),
     /// ABORT with a cause.
@@ -45,7 +46,7 @@ impl Reply<'_> {
         ensures text { take result out.new ≡ take at out.old ++ chunk_octets (chunk_of self.now) }
     {
         match self {
-            Reply::Init(offer) => write_init(out, at, offer),
+            Reply::Init(offer, addresses) => write_init(out, at, offer, addresses.listed()),
             Reply::Error(cause) => write_error(out, at, cause),
             Reply::Abort(cause) => write_abort(out, at, cause),
             Reply::ReflectedAbort => write_reflected_abort(out, at),

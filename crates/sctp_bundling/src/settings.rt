@@ -1,6 +1,7 @@
 //! The settings of an endpoint.
 
 use crate::address::Address;
+use crate::addresses::Addresses;
 use sctp_sending::Bounds;
 
 /// The settings of an endpoint. Times are in milliseconds (RFC 9260 §16).
@@ -12,6 +13,8 @@ pub struct Settings {
     pub far_port: u16,
     /// Where the peer is, until a packet of it comes.
     pub address: Address,
+    /// The addresses of this end that it lists.
+    pub addresses: Addresses,
     /// RTO.Initial, RTO.Min and RTO.Max.
     pub bounds: Bounds,
     /// How often INIT or COOKIE ECHO goes out again in one try: Max.Init.Retransmits.

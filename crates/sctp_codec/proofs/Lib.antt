@@ -8,3 +8,5 @@ pub mod Checksums
 pub mod Alone
 pub mod Grammar
 pub mod WrittenTexts
+pub mod AddressTexts
+pub mod Rows

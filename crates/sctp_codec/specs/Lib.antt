@@ -4,7 +4,9 @@ pub mod Packets
 pub mod Alone
 pub mod Reading
 pub mod Parameters
+pub mod Addresses
 pub mod Writing
 pub mod Values
 pub mod Causes
 pub mod Reports
+pub mod Rows

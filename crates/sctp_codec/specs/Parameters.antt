@@ -4,6 +4,9 @@ use Rattle.std.specs.Prelude.{ℕ, ◌+◌, ◌-◌, ◌*◌, ◌/◌, ◌%◌, 
 use Rattle.std.specs.Prelude.{if◌then◌else◌, nat_le, List, []}
 use Rattle.std.specs.Prelude.{◌∷◌, ◌++◌, length, map, replicate, Option, Some, None}
 use Rattle.std.specs.Int.{w16, w32, w64, to_be_bytes}
+use Rattle.std.specs.Net.Addr.{ipv4_octets, ipv6_octets}
+use Rattle.std.specs.declared.net.ip_addr.IpAddr.{IpAddr}
+use Rattle.std.specs.declared.net.ip_addr.IpAddr.TheVariants.{V4, V6}
 use Rattle.sctp_codec.specs.Items.{ItemValue, padding_behind, item_octets, padded_item, joined_items}
 
 -- ---- parameters
@@ -11,6 +14,12 @@ use Rattle.sctp_codec.specs.Items.{ItemValue, padding_behind, item_octets, padde
 -- types of parameters
 abbrev pub heartbeat_information : ℕ
 heartbeat_information = 1
+
+abbrev pub ipv4_address : ℕ
+ipv4_address = 5
+
+abbrev pub ipv6_address : ℕ
+ipv6_address = 6
 
 abbrev pub state_cookie : ℕ
 state_cookie = 7
@@ -92,10 +101,25 @@ following padding [] = []
 following padding (item ∷ items) =
     replicate padding 0 ++ item_octets item ++ following (padding_behind (length item.value)) items
 
--- the parameters of INIT ACK: the cookie, and those of INIT that are reported, as many as there is room for
-abbrev pub answering : (cookie : List ℕ) → List ItemValue → List ItemValue
-answering cookie parameters =
-    record { kind = state_cookie; value = cookie } ∷ fitting report_octets (map reporting (reported_in parameters))
+-- an address of an end: of IPv4 four octets, of IPv6 sixteen (RFC 9260 §3.3.2.1.1, §3.3.2.1.2)
+abbrev pub address_item : IpAddr → ItemValue
+address_item (V4 address) = record { kind = ipv4_address; value = ipv4_octets address }
+address_item (V6 address) = record { kind = ipv6_address; value = ipv6_octets address }
+
+-- how many octets of addresses are sent at most: eight of IPv6
+abbrev pub address_octets : ℕ
+address_octets = 160
+
+-- the parameters of INIT: the addresses of its sender, as many of the first as there is room for
+abbrev pub listing : List IpAddr → List ItemValue
+listing addresses = fitting address_octets (map address_item addresses)
+
+-- the parameters of INIT ACK: the addresses of its sender, the cookie, and those of INIT that are reported, as many as
+-- there is room for
+abbrev pub answering : List IpAddr → (cookie : List ℕ) → List ItemValue → List ItemValue
+answering addresses cookie parameters =
+    listing addresses
+    ++ record { kind = state_cookie; value = cookie } ∷ fitting report_octets (map reporting (reported_in parameters))
 
 -- the parameters of INIT ACK that are reported in an ERROR, as many as there is room for
 abbrev pub complained_of : List ItemValue → List ItemValue

@@ -5,6 +5,7 @@ ghost use Rattle.sctp_codec.specs.Items.{ItemValue, IsItem, AreItems, AreOctets,
 ghost use Rattle.sctp_codec.specs.Items.{padded_items, joined_items};
 ghost use Rattle.sctp_codec.specs.Packets.{PacketValue, ChunkValue};
 ghost use Rattle.sctp_codec.specs.Reading.{chunk_in, read_packet};
+ghost use Rattle.sctp_codec.specs.Addresses.{all_are_listed, init_lists, init_ack_lists, cookie_is_found};
 ghost use Rattle.sctp_codec.specs.Writing.{IsChunk, IsPacket, chunk_item, packet_octets};
 
 /// What is written for a packet reads back as it, whatever chunks it has.
@@ -27,4 +28,13 @@ pub fn items_read_back()
 pub fn items_are_what_is_read()
     ensures { (octets : List ℕ) (items : List ItemValue) → AreOctets octets
         → AreItems octets items ↔ (read_items octets ≡ Some items) }
+{}
+
+/// The addresses that an end lists are those that its peer finds: of eight or fewer all, in INIT and in INIT ACK, where
+/// it also finds the cookie.
+pub fn listed_addresses_are_found()
+    ensures all { all_are_listed }
+    ensures init { init_lists }
+    ensures init_ack { init_ack_lists }
+    ensures cookie { cookie_is_found }
 {}

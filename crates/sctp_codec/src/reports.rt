@@ -3,23 +3,19 @@
 ghost use Rattle.std.specs.Prelude.{◌≡◌, ◌+◌, ◌<◌, ◌≤◌, true, false, List, [], ◌∷◌, ◌++◌, length, take, map, replicate};
 ghost use Rattle.sctp_codec.specs.Items.{item_octets, padding_behind};
 ghost use Rattle.sctp_codec.specs.Packets as value;
-ghost use Rattle.sctp_codec.specs.Parameters.{reported_in, report_of, fitting, following, answering};
+ghost use Rattle.sctp_codec.specs.Parameters.{reported_in, report_of, fitting, following};
 ghost use Rattle.sctp_codec.specs.Parameters.{complained_of, unrecognized_parameters};
 ghost use Rattle.sctp_codec.specs.Writing.{chunk_octets};
-ghost use Rattle.sctp_codec.specs.Values.{item_of, items_of, offer_with};
+ghost use Rattle.sctp_codec.specs.Values.{item_of, items_of};
 ghost use Rattle.sctp_codec.specs.Reports.{reports_of};
 
-use crate::chunk::Offer;
 use crate::item::{Item, numbered, padding_behind};
 use crate::items::Items;
 use crate::layout::{
-    ERROR, INIT_ACK, ITEM_HEADER_OCTETS, REPORT_OCTETS, STATE_COOKIE, UNRECOGNIZED_PARAMETER,
-    UNRECOGNIZED_PARAMETERS,
+    ERROR, ITEM_HEADER_OCTETS, REPORT_OCTETS, UNRECOGNIZED_PARAMETER, UNRECOGNIZED_PARAMETERS,
 };
 use crate::parameters::{is_last, is_reported};
-use crate::writing::{
-    PACKET_OCTETS, PacketBuffer, write_at, write_front, write_item, write_offer, write_zeros,
-};
+use crate::writing::{PACKET_OCTETS, PacketBuffer, write_at, write_front, write_item, write_zeros};
 
 /// The parameters that are to be reported, one after another.
 #[derive(Clone, Copy)]
@@ -58,31 +54,6 @@ impl<'a> Iterator for Reports<'a> {
     }
 }
 
-/// Writes an INIT ACK chunk at an offset, and returns the offset after it: what is offered, the cookie, and the
-/// parameters of the INIT that are to be reported, as many of the first as 512 octets hold (RFC 9260 §3.3.3).
-pub fn write_init_ack(
-    out: &mut PacketBuffer,
-    at: usize,
-    offer: &Offer,
-    cookie: &[u8],
-    parameters: Items<'_>,
-) -> usize
-    requires { at + 540 + length cookie.now ≤ 1200 }
-    ensures room { result ≤ at + 540 + length cookie.now }
-    ensures count { result ≡ at + length (chunk_octets (value.InitAckChunk
-        (offer_with offer.now (answering cookie.now (items_of parameters.entry))))) }
-    ensures text { take result out.new ≡ take at out.old ++ chunk_octets (value.InitAckChunk
-        (offer_with offer.now (answering cookie.now (items_of parameters.entry)))) }
-{
-    let mut value: PacketBuffer = [0; PACKET_OCTETS];
-    let end = write_offer(&mut value, 0, offer);
-    let end = write_front(&mut value, end, STATE_COOKIE, cookie.len());
-    let end = write_at(&mut value, end, cookie);
-    let padding = padding_behind(cookie.len());
-    let end = write_reports(&mut value, end, padding, Reports::of(parameters), true);
-    write_item(out, at, numbered(INIT_ACK, 0), &value[..end])
-}
-
 /// Writes an ERROR chunk at an offset, and returns the offset after it: the parameters of an INIT ACK that are to be
 /// reported, as many of the first as 512 octets hold (RFC 9260 §3.3.10.8).
 pub fn write_unrecognized_parameters(
@@ -105,7 +76,7 @@ pub fn write_unrecognized_parameters(
 
 /// Writes reported parameters at an offset, each after the padding of the one before, as many of the first as there is
 /// room for, and returns the offset after them.
-fn write_reports(
+pub(crate) fn write_reports(
     out: &mut PacketBuffer,
     at: usize,
     padding: usize,

@@ -8,20 +8,20 @@ ghost use Rattle.sctp_codec.specs.Packets as value;
 ghost use Rattle.std.specs.Prelude.{false, true};
 ghost use Rattle.std.specs.List.{flat_map};
 ghost use Rattle.sctp_codec.specs.Writing.{header_octets, headed, chunk_octets, bit, data_octets};
-ghost use Rattle.sctp_codec.specs.Writing.{init_front, block_octets};
+ghost use Rattle.sctp_codec.specs.Writing.{block_octets};
 ghost use Rattle.sctp_codec.specs.Parameters.{cause_item};
-ghost use Rattle.sctp_codec.specs.Values.{data_of, block_of, offer_with};
+ghost use Rattle.sctp_codec.specs.Values.{data_of, block_of};
 ghost use Rattle.sctp_codec.specs.Causes.{cause_of};
 
 use crate::cause::{Cause, CauseParts};
-use crate::chunk::{Block, Data, Offer, Tag, Tsn};
+use crate::chunk::{Block, Data, Tag, Tsn};
 use crate::header::Header;
 use crate::item::{numbered, padding_behind};
 use crate::layout::{
     ABORT, BEGINNING_BIT, BLOCK_OCTETS, CHECKSUM_AT, COOKIE_ACK, COOKIE_ECHO, DATA, DATA_OCTETS,
-    ENDING_BIT, ERROR, HEADER_OCTETS, HEARTBEAT, HEARTBEAT_ACK, IMMEDIATE_BIT, INIT, INIT_ACK,
-    INIT_OCTETS, ITEM_HEADER_OCTETS, REFLECTED_BIT, SACK, SACK_OCTETS, SHUTDOWN, SHUTDOWN_ACK,
-    SHUTDOWN_COMPLETE, UNORDERED_BIT, WORD_OCTETS,
+    ENDING_BIT, ERROR, HEADER_OCTETS, HEARTBEAT, HEARTBEAT_ACK, IMMEDIATE_BIT, ITEM_HEADER_OCTETS,
+    REFLECTED_BIT, SACK, SACK_OCTETS, SHUTDOWN, SHUTDOWN_ACK, SHUTDOWN_COMPLETE, UNORDERED_BIT,
+    WORD_OCTETS,
 };
 use crate::packet::checksum;
 use crc32c::crc32c;
@@ -104,29 +104,6 @@ fn write_data_value(out: &mut PacketBuffer, at: usize, carried: &Data<'_>) -> us
     let at = write_at(out, at, &carried.sequence.to_be_bytes());
     let at = write_at(out, at, &carried.protocol.to_be_bytes());
     write_at(out, at, carried.octets)
-}
-
-/// Writes an INIT chunk without parameters at an offset, and returns the offset after it (RFC 9260 §3.3.2).
-pub fn write_init(out: &mut PacketBuffer, at: usize, offer: &Offer) -> usize
-    requires { at + 20 ≤ 1200 }
-    ensures count { result ≡ at + 20 }
-    ensures text { take result out.new ≡ take at out.old ++ chunk_octets (value.InitChunk (offer_with offer.now [])) }
-{
-    let at = write_front(out, at, numbered(INIT, 0), INIT_OCTETS);
-    write_offer(out, at, offer)
-}
-
-/// Writes the fields of an INIT or an INIT ACK chunk at an offset, and returns the offset after them.
-pub(crate) fn write_offer(out: &mut PacketBuffer, at: usize, offer: &Offer) -> usize
-    requires { at + 16 ≤ 1200 }
-    ensures count { result ≡ at + 16 }
-    ensures text { take result out.new ≡ take at out.old ++ init_front (offer_with offer.now []) }
-{
-    let at = write_at(out, at, &offer.tag.to_be_bytes());
-    let at = write_at(out, at, &offer.window.to_be_bytes());
-    let at = write_at(out, at, &offer.outgoing.to_be_bytes());
-    let at = write_at(out, at, &offer.incoming.to_be_bytes());
-    write_at(out, at, &offer.first_tsn.to_be_bytes())
 }
 
 /// Writes a SACK chunk with these gap blocks and duplicates at an offset, and returns the offset after it (RFC 9260

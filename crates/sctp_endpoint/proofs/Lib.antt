@@ -11,3 +11,4 @@ pub mod Acknowledging
 pub mod Going
 pub mod Flushing
 pub mod Ticking
+pub mod Refusing

@@ -1,6 +1,7 @@
 -- How a try begins, once its tag was drawn.
 use Rattle.std.specs.Prelude.{ℕ, ◌+◌, true, ◌&&◌, List, [], ◌∷◌, Option, Some, None, if◌then◌else◌}
 use Rattle.sctp_codec.specs.Packets.{ChunkValue, InitValue, InitChunk}
+use Rattle.sctp_codec.specs.Parameters.{listing}
 use Rattle.sctp_rules.specs.declared.phase.Phase.TheVariants.{CookieWait, CookieEchoed}
 use Rattle.sctp_rules.specs.Settings.{Settings, Address}
 use Rattle.sctp_rules.specs.State.{Try, State, Done, silent, no_association, with_association}
@@ -17,7 +18,7 @@ in_try c address tag s = record s {
 
 abbrev pub begun_by : Settings → (now failures : ℕ) → Address → (tag : ℕ) → State → Done
 begun_by c now failures address tag s =
-    trying_with c now failures (InitChunk (init_of (record { tag = tag; first = tag }) []) ∷ [])
+    trying_with c now failures (InitChunk (init_of (record { tag = tag; first = tag }) (listing c.addresses)) ∷ [])
     (in_try c address tag s)
 
 -- these chunks go out until they are answered

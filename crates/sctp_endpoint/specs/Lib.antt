@@ -7,3 +7,4 @@ pub mod Arriving
 pub mod Draining
 pub mod Dispatching
 pub mod Inside
+pub mod Refusing

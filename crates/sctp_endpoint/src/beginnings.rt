@@ -1,11 +1,15 @@
 //! The tags that an endpoint draws.
 
-ghost use Rattle.std.specs.Prelude.{◌≡◌, ◌+◌, is_some, if◌then◌else◌};
+ghost use Rattle.std.specs.Prelude.{◌≡◌, ◌+◌, is_none, is_some, if◌then◌else◌};
 ghost use Rattle.sctp_cookie.specs.Tags.{next_tag};
 ghost use Rattle.sctp_ends.specs.Keyed.{drawing_after};
 
 use sctp_cookie::Tags;
 use std::marker::Model;
+
+/// While fewer tags than this were drawn, one is left, and what it is needn't be computed to know that: each used two
+/// of 2^32 numbers at most.
+const SURELY_LEFT: u64 = 1 << 30;
 
 /// The tags that an endpoint draws, and how many it drew.
 #[derive(Drop)]
@@ -57,5 +61,12 @@ impl Beginnings {
         ensures { result ≡ next_tag (drawing_after self.now.key self.now.count) }
     {
         self.tags.peek()
+    }
+
+    /// Whether no tag is left.
+    pub fn is_spent(&self) -> bool
+        ensures { result ≡ is_none (next_tag (drawing_after self.now.key self.now.count)) }
+    {
+        self.count >= SURELY_LEFT && self.tags.peek().is_none()
     }
 }

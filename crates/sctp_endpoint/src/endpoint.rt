@@ -22,6 +22,7 @@ mod init_acks;
 mod lasting;
 mod opening;
 mod out_of_the_blue;
+mod refusing;
 mod replying;
 mod retrying;
 mod sacking;

@@ -3,7 +3,10 @@
 
 mod beginnings;
 pub mod endpoint;
+pub mod laws;
 mod peer;
+pub mod refusal;
 
 pub use endpoint::Endpoint;
-pub use sctp_bundling::{Address, Event, Settings, Watch};
+pub use refusal::Refusal;
+pub use sctp_bundling::{Address, Addresses, Event, Settings, Watch};

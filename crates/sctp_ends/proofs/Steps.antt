@@ -9,7 +9,8 @@ use Rattle.std.specs.List.{Contains}
 use Rattle.sctp_codec.specs.Items.{ItemValue}
 use Rattle.sctp_codec.specs.Packets as packets
 use Rattle.sctp_codec.specs.Packets.{ChunkValue, InitValue, DataValue}
-use Rattle.sctp_codec.specs.Parameters.{cookie_in, complained_of}
+use Rattle.sctp_codec.specs.Parameters.{cookie_in, listing, complained_of}
+use Rattle.sctp_codec.proofs.AddressTexts.{cookie-found}
 use Rattle.sctp_cookie.specs.declared.cookie.Cookie.{Cookie}
 use Rattle.sctp_rules.specs.declared.loss.Loss.{Loss}
 use Rattle.sctp_rules.specs.Settings.{Settings, Secrets, Beginning, Address}
@@ -315,7 +316,7 @@ module _ (own far : Secrets) (mark : ℕ) (other : End) where
       let name : Name = named b.tag b.first in
       let f : End = tries e generation name in
       let m : IsMore e f = more-of e f refl (λ n i. more-in name e.inits n i) (λ n i. i) (λ n i. i) (λ n i. i) (λ n i. i) (λ n i. i) in
-      let first : List ChunkValue = packets.InitChunk (opening.init_of b []) ∷ [] in
+      let first : List ChunkValue = packets.InitChunk (opening.init_of b (listing c.addresses)) ∷ [] in
       let said : IsSaid own far never f 0 first = (first-in name e.inits, tt) in
       record {
         list = record e { wanted = true } ∷ f ∷ [];
@@ -431,7 +432,7 @@ module _ (own far : Secrets) (mark : ℕ) (other : End) where
           later = h.later;
         };
         more = m;
-        sent = ((record { cookie = made; signed = refl; there = there }, tt), tt);
+        sent = ((record { cookie = made; signed = cookie-found c.addresses (own.signed made) init.parameters; there = there }, tt), tt);
         told = refl;
         given = refl;
         quiet = λ b. ((λ n. (refl, n)), tt);

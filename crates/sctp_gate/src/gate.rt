@@ -3,6 +3,8 @@
 ghost use Rattle.std.specs.Prelude.{◌≡◌, ◌≤◌, ◌<◌, ◌^◌, IfOk};
 ghost use Rattle.sctp_codec.specs.Reading.{read_packet};
 ghost use Rattle.sctp_bundling.specs.Settings.{settings_of, address_of};
+ghost use Rattle.sctp_endpoint.specs.Endpoints.{secrets_of};
+ghost use Rattle.sctp_endpoint.specs.Refusing.{refusal};
 ghost use Rattle.exchange.specs.KeptQueues.{kept};
 ghost use Rattle.exchange.specs.Calls.{StandsFor};
 ghost use Rattle.exchange_rules.specs.Queues.{whole};
@@ -21,7 +23,7 @@ use crate::standing::Standing;
 use crate::watch::Watch;
 use exchange::{Exchange, Wants};
 use sctp_endpoint::endpoint::KEY_OCTETS;
-use sctp_endpoint::{Address, Endpoint, Settings};
+use sctp_endpoint::{Address, Endpoint, Refusal, Settings};
 use settings::LinkId;
 use std::alloc::{AllocError, Global};
 use std::marker::Model;
@@ -198,6 +200,21 @@ impl Gate {
         ensures { result ≡ self.now.link }
     {
         self.link
+    }
+
+    /// The UDP port to which the packets of the association go.
+    pub fn peer_port(&self) -> u16
+        ensures { result ≡ self.now.endpoint.state.association.address.port }
+    {
+        self.endpoint.peer_port()
+    }
+
+    /// Why an INIT, or an INIT ACK for the try of this end, would be refused: `Endpoint::refusal`. Nothing changes.
+    pub fn refusal(&self, octets: &[u8]) -> Option<Refusal>
+        ensures { result ≡ refusal (read_packet octets.now) self.now.endpoint.settings (secrets_of self.now.endpoint)
+            self.now.endpoint.state }
+    {
+        self.endpoint.refusal(octets)
     }
 
     /// Where the link stands with its association.

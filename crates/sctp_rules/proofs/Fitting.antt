@@ -26,7 +26,7 @@ use Rattle.sctp_codec.specs.Reading.{type_of}
 use Rattle.sctp_codec.specs.Packets as packets
 use Rattle.sctp_codec.specs.Packets.{ChunkValue, InitValue, SackValue, DataValue, PacketValue}
 use Rattle.sctp_codec.specs.Parameters.{CauseValue, InvalidParameter, EndedByUser, NoUserData, CookieInShutdown, StaleCookie, NoStream}
-use Rattle.sctp_codec.specs.Parameters.{UnrecognizedChunk, cause_item, cookie_in, host_name_in, has_stale_cookie, information_of, complained_of, answering}
+use Rattle.sctp_codec.specs.Parameters.{UnrecognizedChunk, cause_item, cookie_in, host_name_in, has_stale_cookie, information_of, complained_of, listing, answering}
 use Rattle.sctp_codec.specs.Parameters.{unrecognized_parameters, reported_in}
 use Rattle.sctp_sending.specs.RoundTrips.{first_round_trips}
 use Rattle.sctp_codec.specs.Writing.{IsPacket, HasFields, chunk_octets, chunk_item, value_octets}
@@ -491,7 +491,7 @@ module _ (c : Settings) (ports : HasPorts c) where
       Puts c (opening.begun_with c now failures address b s)
   begun-with None now failures address s h k = ended losses.NoTag s k
   begun-with (Some b) now failures address s h k =
-      trying now failures (packets.InitChunk (opening.init_of b []) ∷ []) (in-try b address s) (init-packet c b ports h)
+      trying now failures (packets.InitChunk (opening.init_of b (listing c.addresses)) ∷ []) (in-try b address s) (init-packet c b ports h)
       (record {
         own = h.tag;
         far = omega arith;
@@ -523,7 +523,7 @@ module _ (c : Settings) (ports : HasPorts c) where
       let cookie : Cookie = opening.cookie_for c now s b init in
       record {
         left = kept;
-        sent = one (state.datagram_to c source init.tag (packets.InitAckChunk (opening.init_of b (answering (k.signed cookie) init.parameters)) ∷ []))
+        sent = one (state.datagram_to c source init.tag (packets.InitAckChunk (opening.init_of b (answering c.addresses (k.signed cookie) init.parameters)) ∷ []))
             (answer-packet c init.tag b (k.signed cookie) init.parameters ports t h (fits.signed cookie));
       }
 

@@ -15,7 +15,7 @@ use Rattle.sctp_codec.specs.Packets as packets
 use Rattle.sctp_codec.specs.Packets.{ChunkValue, InitValue, SackValue, DataValue, PacketValue}
 use Rattle.sctp_codec.specs.Parameters.{CauseValue, InvalidParameter, EndedByUser, NoUserData, CookieInShutdown}
 use Rattle.sctp_codec.specs.Parameters.{UnrecognizedChunk, cause_item, cookie_in, host_name_in, has_stale_cookie}
-use Rattle.sctp_codec.specs.Parameters.{information_of, unrecognized_parameters, complained_of}
+use Rattle.sctp_codec.specs.Parameters.{information_of, unrecognized_parameters, complained_of, listing}
 use Rattle.sctp_sending.specs.Outgoing.{Message}
 use Rattle.sctp_sending.specs.Sending.{confirmation, given, stopped}
 use Rattle.sctp_sending.specs.RoundTrips.{backed_off}
@@ -575,12 +575,12 @@ module _ {A : Arrivals} {R : State → Done → Type 0} (steps : AreSteps A R) w
   begun c now failures address (Some b) s d h r =
       let wishing : State = record s { is_wanted = true } in
       let x : Done = opening.begun_with c now failures address (Some b) s in
-      let init : All IsBare (packets.InitChunk (opening.init_of b []) ∷ []) = one-bare (packets.InitChunk (opening.init_of b [])) tt in
+      let init : All IsBare (packets.InitChunk (opening.init_of b (listing c.addresses)) ∷ []) = one-bare (packets.InitChunk (opening.init_of b (listing c.addresses))) tt in
       record {
         kept = steps.also s (silent wishing) (λ left. x) (steps.wants s h)
             (steps.tries wishing x.left x.sent
             (record { was_wanted = refl; generation = omega arith; was_down = d; is_down = refl; takes_none = refl; is_none = refl })
-            (one-sent (state.datagram_to c address 0 (packets.InitChunk (opening.init_of b []) ∷ [])) init));
+            (one-sent (state.datagram_to c address 0 (packets.InitChunk (opening.init_of b (listing c.addresses)) ∷ [])) init));
         left = record { right = waiting; control = none-bare; trying = init };
       }
 
@@ -589,11 +589,11 @@ module _ {A : Arrivals} {R : State → Done → Type 0} (steps : AreSteps A R) w
   begun-anew-with None c now failures address s d w r = ended c losses.NoTag [] s none-bare r
   begun-anew-with (Some b) c now failures address s d w r =
       let x : Done = opening.begun_anew_with c now failures address (Some b) s in
-      let init : All IsBare (packets.InitChunk (opening.init_of b []) ∷ []) = one-bare (packets.InitChunk (opening.init_of b [])) tt in
+      let init : All IsBare (packets.InitChunk (opening.init_of b (listing c.addresses)) ∷ []) = one-bare (packets.InitChunk (opening.init_of b (listing c.addresses))) tt in
       record {
         kept = steps.tries s x.left x.sent
             (record { was_wanted = w; generation = omega arith; was_down = d; is_down = refl; takes_none = refl; is_none = refl })
-            (one-sent (state.datagram_to c address 0 (packets.InitChunk (opening.init_of b []) ∷ [])) init);
+            (one-sent (state.datagram_to c address 0 (packets.InitChunk (opening.init_of b (listing c.addresses)) ∷ [])) init);
         left = record { right = waiting; control = none-bare; trying = init };
       }
 

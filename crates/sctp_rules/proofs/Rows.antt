@@ -516,3 +516,15 @@ acknowledgement_from_elsewhere_opens = record { phase_is = refl; sent_is = refl;
 pub association_goes_on_elsewhere : rows.association_goes_on_elsewhere
 unfolding after going drained run_from blocks_from lost_from named_below passed_below given next_place gone_again gone_first confirmation confirmed settled acknowledged after_t3 stopped
 association_goes_on_elsewhere = refl
+
+pub init_lists_addresses : rows.init_lists_addresses
+unfolding after going drained run_from blocks_from lost_from named_below passed_below given next_place gone_again gone_first confirmation confirmed settled acknowledged after_t3 stopped
+init_lists_addresses = refl
+
+pub init_ack_lists_addresses : rows.init_ack_lists_addresses
+unfolding after going drained run_from blocks_from lost_from named_below passed_below given next_place gone_again gone_first confirmation confirmed settled acknowledged after_t3 stopped
+init_ack_lists_addresses = refl
+
+pub cookie_behind_addresses_is_echoed : rows.cookie_behind_addresses_is_echoed
+unfolding after going drained run_from blocks_from lost_from named_below passed_below given next_place gone_again gone_first confirmation confirmed settled acknowledged after_t3 stopped
+cookie_behind_addresses_is_echoed = record { phase_is = refl; sent_is = refl; told_is = refl }

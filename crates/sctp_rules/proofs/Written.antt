@@ -5,11 +5,12 @@ use Rattle.std.specs.Prelude.{All, ◌==◌, ◌&&◌, not, if◌then◌else◌}
 use Rattle.std.proofs.lemmas.Bool.Decides.{nat_tests}
 use Rattle.std.proofs.lemmas.List.{length-replicate, length-map}
 use Rattle.std.proofs.lemmas.List.Elements.{All-nil, All-cons, All-head, All-tail, All-append, All-take, All-weaker}
-use Rattle.sctp_codec.specs.Items.{ItemValue, IsItem, item_octets, padded_item, padding_behind, joined_items}
+use Rattle.sctp_codec.specs.Items.{ItemValue, IsItem, item_octets, padded_item, padded_items, padding_behind, joined_items}
 use Rattle.sctp_codec.specs.Packets as packets
 use Rattle.sctp_codec.specs.Packets.{ChunkValue, BlockValue}
 use Rattle.sctp_codec.specs.Parameters.{CauseValue, cause_item, fitting, unrecognized_parameters, report_octets, reporting, reported_in}
-use Rattle.sctp_codec.specs.Parameters.{InvalidParameter, UnresolvableAddress, answering, state_cookie}
+use Rattle.sctp_codec.specs.Parameters.{InvalidParameter, UnresolvableAddress, answering, state_cookie, listing}
+use Rattle.sctp_codec.proofs.AddressTexts.{joined-behind, listing-items, listing-size, listing-padded-size}
 use Rattle.sctp_codec.specs.Reading.{type_of, has_type}
 use Rattle.sctp_codec.specs.Writing.{IsChunk, IsPacket, IsBlock, chunk_item}
 use Rattle.sctp_codec.proofs.ChunkTexts.{sack-length}
@@ -133,28 +134,34 @@ reporting-kinds (item ∷ items) =
 -- ---- INIT and INIT ACK
 
 pub init-packet : (c : Settings) (b : Beginning) → HasPorts c → IsBeginning b →
-    IsPacket (packet_to c 0 (packets.InitChunk (opening.init_of b []) ∷ []))
-init-packet c b ports h = record {
-  source = ports.own;
-  destination = ports.far;
-  tag = omega arith;
-  chunks = only IsChunk (packets.InitChunk (opening.init_of b [])) (record {
-    fields = record { tag = h.tag; window = omega arith; outgoing = omega arith; incoming = omega arith; first_tsn = h.first; parameters = All-nil IsItem };
-    fits = omega arith;
-  });
-  some = λ e. absurd (cc);
-  bundled = refl;
-}
+    IsPacket (packet_to c 0 (packets.InitChunk (opening.init_of b (listing c.addresses)) ∷ []))
+init-packet c b ports h =
+    let many : length (joined_items (listing c.addresses)) ≤ 160 = listing-size c.addresses in
+    record {
+      source = ports.own;
+      destination = ports.far;
+      tag = omega arith;
+      chunks = only IsChunk (packets.InitChunk (opening.init_of b (listing c.addresses))) (record {
+        fields = record { tag = h.tag; window = omega arith; outgoing = omega arith; incoming = omega arith; first_tsn = h.first; parameters = listing-items c.addresses };
+        fits = omega (arith, many);
+      });
+      some = λ e. absurd (cc);
+      bundled = refl;
+    }
 
 pub answer-packet : (c : Settings) (tag : ℕ) (b : Beginning) (cookie : List ℕ) (parameters : List ItemValue) → HasPorts c → tag < 2 ^ 32 →
     IsBeginning b → length cookie ≤ 660 →
-    IsPacket (packet_to c tag (packets.InitAckChunk (opening.init_of b (answering cookie parameters)) ∷ []))
+    IsPacket (packet_to c tag (packets.InitAckChunk (opening.init_of b (answering c.addresses cookie parameters)) ∷ []))
 answer-packet c tag b cookie parameters ports t h l =
     let reports : List ItemValue = map reporting (reported_in parameters) in
     let first : ItemValue = record { kind = state_cookie; value = cookie } in
-    let all : All IsItem (answering cookie parameters) =
-    All-cons IsItem first (fitting report_octets reports) (record { kind = omega arith; fits = omega (arith, l) })
-    (items-fit reports report_octets (omega arith) (reporting-kinds (reported_in parameters))) in
+    let all : All IsItem (answering c.addresses cookie parameters) =
+    All-append IsItem (listing c.addresses) (first ∷ fitting report_octets reports) (listing-items c.addresses)
+    (All-cons IsItem first (fitting report_octets reports) (record { kind = omega arith; fits = omega (arith, l) })
+    (items-fit reports report_octets (omega arith) (reporting-kinds (reported_in parameters)))) in
+    let listed : length (padded_items (listing c.addresses)) ≤ 160 = listing-padded-size c.addresses in
+    let behind = length-append (padded_items (listing c.addresses)) (joined_items (first ∷ fitting report_octets reports)) in
+    let joined = ap length (joined-behind (listing c.addresses) first (fitting report_octets reports)) in
     let many : length (joined_items (fitting report_octets reports)) ≤ 512 = joined-fits reports report_octets in
     let more = joined-more first (fitting report_octets reports) in
     let pads = length-append (item_octets first) (replicate (padding_behind (length cookie)) 0) in
@@ -163,9 +170,9 @@ answer-packet c tag b cookie parameters ports t h l =
       source = ports.own;
       destination = ports.far;
       tag = t;
-      chunks = only IsChunk (packets.InitAckChunk (opening.init_of b (answering cookie parameters))) (record {
+      chunks = only IsChunk (packets.InitAckChunk (opening.init_of b (answering c.addresses cookie parameters))) (record {
         fields = record { tag = h.tag; window = omega arith; outgoing = omega arith; incoming = omega arith; first_tsn = h.first; parameters = all };
-        fits = omega (arith, many, more, pads, zeros, l);
+        fits = omega (arith, many, more, pads, zeros, l, listed, behind, joined);
       });
       some = λ e. absurd (cc);
       bundled = refl;

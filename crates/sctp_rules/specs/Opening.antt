@@ -8,7 +8,7 @@ use Rattle.sctp_codec.specs.Packets.{CookieAckChunk, ShutdownAckChunk}
 use Rattle.sctp_codec.specs.Parameters.{CauseValue, StaleCookie, UnresolvableAddress, InvalidParameter}
 use Rattle.sctp_codec.specs.Parameters.{CookieInShutdown}
 use Rattle.sctp_codec.specs.Parameters.{cause_item, unrecognized_parameters, cookie_in, host_name_in, has_stale_cookie}
-use Rattle.sctp_codec.specs.Parameters.{answering, complained_of}
+use Rattle.sctp_codec.specs.Parameters.{listing, answering, complained_of}
 use Rattle.sctp_rules.specs.declared.limits.TheConstants.{STREAMS, COOKIE_OCTETS, SHORT_COOKIE_OCTETS}
 use Rattle.sctp_rules.specs.declared.limits.TheConstants.{HOST_NAME_OCTETS}
 use Rattle.sctp_receiving.specs.declared.limits.TheConstants.{WINDOW}
@@ -91,11 +91,12 @@ trying_with c now failures chunks s =
       trying = Some (record { chunks = chunks; failures = failures; t1 = now + a.sender.round_trips.timeout });
     }))
 
--- a try begins, with a tag and a first TSN of its own: INIT, and COOKIE-WAIT (§5.1 A)
+-- a try begins, with a tag and a first TSN of its own: INIT with the addresses of this end, and COOKIE-WAIT (§5.1 A,
+-- §5.1.2)
 abbrev pub begun_with : Settings → (now failures : ℕ) → Address → Option Beginning → State → Done
 begun_with c now failures address None s = ended c NoTag s
 begun_with c now failures address (Some b) s =
-    trying_with c now failures (InitChunk (init_of b []) ∷ [])
+    trying_with c now failures (InitChunk (init_of b (listing c.addresses)) ∷ [])
     (record s {
       is_wanted = true;
       beginnings = s.beginnings + 1;
@@ -159,11 +160,11 @@ cookie_for c now s b init = record {
   peer_port = c.far_port;
 }
 
--- INIT ACK, with this tag and first TSN: the cookie, and what INIT had that isn't known
+-- INIT ACK, with this tag and first TSN: the addresses of this end, the cookie, and what INIT had that isn't known
 abbrev pub answered_with : Settings → Secrets → (now : ℕ) → Address → InitValue → Beginning → State → Done
 answered_with c k now source init b s =
     put c source init.tag
-    (InitAckChunk (init_of b (answering (k.signed (cookie_for c now s b init)) init.parameters)) ∷ []) s
+    (InitAckChunk (init_of b (answering c.addresses (k.signed (cookie_for c now s b init)) init.parameters)) ∷ []) s
 
 -- the same with the next tag and first TSN. Nothing is kept: both stay the next until a cookie with them opens, or a try
 -- takes them. So however many INITs come, no tag is used up. If none is left there is no answer

@@ -1,5 +1,6 @@
 -- Rows of the state table, at two endpoints that face each other.
 use Rattle.std.specs.Prelude.{◌≡◌, ℕ, true, false, ◌+◌, List, [], ◌∷◌, ◌++◌, Option, Some, None, map, length, replicate}
+use Rattle.std.specs.declared.net.ip_addr.IpAddr.TheVariants.{V4, V6}
 use Rattle.sctp_receiving.specs.Pieces as pieces
 use Rattle.sctp_sending.specs.Outgoing.{Message}
 use Rattle.sctp_cookie.specs.declared.cookie.Cookie.{Cookie}
@@ -7,6 +8,7 @@ use Rattle.sctp_codec.specs.Packets.{ChunkValue, PacketValue, kind_of, SackChunk
 use Rattle.sctp_codec.specs.Packets.{AbortChunk, ShutdownAckChunk, InitChunk, InitAckChunk, HeartbeatAckChunk}
 use Rattle.sctp_codec.specs.Packets.{InitValue, CookieEchoChunk}
 use Rattle.sctp_codec.specs.Packets.{UnknownChunk, DataChunk, ErrorChunk, ShutdownChunk, ShutdownCompleteChunk}
+use Rattle.sctp_codec.specs.Items.{ItemValue}
 use Rattle.sctp_codec.specs.Parameters.{information_of, state_cookie}
 use Rattle.sctp_rules.specs.declared.phase.Phase.TheVariants.{Closed, CookieWait, CookieEchoed, Established}
 use Rattle.sctp_rules.specs.declared.phase.Phase.TheVariants.{ShutdownPending, ShutdownSent, ShutdownReceived}
@@ -30,6 +32,7 @@ settings = record {
   own_port = 3565;
   far_port = 3565;
   address = address;
+  addresses = [];
   bounds = record { initial = 300; least = 100; most = 1000 };
   init_retransmissions = 1;
   retransmissions = 2;
@@ -706,6 +709,43 @@ init_ack_without_tag_ends_the_try =
 
 abbrev pub giving_up_is_told : Type 0
 giving_up_is_told = Does (far Aborts waits.left) Closed [] (Failed Local ∷ [])
+
+-- ---- an end with two addresses, 192.0.2.1 and 2001:db8::1 (§5.1.2)
+
+abbrev pub on_two_paths : Settings
+on_two_paths = record settings {
+  addresses =
+      V4 (record { octets = 192 ∷ 0 ∷ 2 ∷ 1 ∷ [] })
+      ∷ V6 (record { segments = 0x2001 ∷ 0x0db8 ∷ 0 ∷ 0 ∷ 0 ∷ 0 ∷ 0 ∷ 1 ∷ [] }) ∷ [];
+}
+
+abbrev pub two_addresses : List ItemValue
+two_addresses =
+    record { kind = 5; value = 192 ∷ 0 ∷ 2 ∷ 1 ∷ [] }
+    ∷ record { kind = 6; value = 0x20 ∷ 1 ∷ 0x0d ∷ 0xb8 ∷ 0 ∷ 0 ∷ 0 ∷ 0 ∷ 0 ∷ 0 ∷ 0 ∷ 0 ∷ 0 ∷ 0 ∷ 0 ∷ 1 ∷ [] } ∷ []
+
+-- its INIT lists both, and so does its INIT ACK, which has a cookie too
+abbrev pub init_lists_addresses : Type 0
+init_lists_addresses =
+    (packet (after on_two_paths (secrets_from 10) (Opens 0 true) (first_state on_two_paths))).chunks
+    ≡ InitChunk (init_of (record { tag = 10; first = 100 }) two_addresses) ∷ []
+
+abbrev pub answers_on_two_paths : Done
+answers_on_two_paths =
+    after on_two_paths (secrets_from 20) (comes 1 (packet tries))
+    (after on_two_paths (secrets_from 20) (Opens 0 false) (first_state on_two_paths)).left
+
+abbrev pub init_ack_lists_addresses : Type 0
+init_ack_lists_addresses =
+    (packet answers_on_two_paths).chunks
+    ≡ InitAckChunk (init_of (record { tag = 20; first = 100 })
+    (two_addresses ++ record { kind = state_cookie; value = 1 ∷ 0 ∷ 20 ∷ 10 ∷ 100 ∷ 100 ∷ 65536 ∷ 2 ∷ 2 ∷ 0 ∷ 0 ∷ 60000 ∷ 3565 ∷ [] } ∷ []))
+    ∷ []
+
+-- the other end echoes that cookie, whatever is listed before it
+abbrev pub cookie_behind_addresses_is_echoed : Type 0
+cookie_behind_addresses_is_echoed =
+    Does (near (comes 2 (packet answers_on_two_paths)) tries.left) CookieEchoed ((10 ∷ []) ∷ []) []
 
 -- ---- in an association
 

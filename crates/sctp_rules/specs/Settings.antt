@@ -1,5 +1,6 @@
 -- The settings of an endpoint, and what it draws and signs.
 use Rattle.std.specs.Prelude.{ℕ, List, Option}
+use Rattle.std.specs.declared.net.ip_addr.IpAddr.{IpAddr}
 use Rattle.sctp_cookie.specs.declared.cookie.Cookie.{Cookie}
 use Rattle.sctp_sending.specs.declared.bounds.Bounds.{Bounds}
 
@@ -15,6 +16,8 @@ pub record Settings : Type 0 where
   pub far_port : ℕ
   -- where the peer is, until a packet of it comes
   pub address : Address
+  -- the addresses of this end that its INIT and INIT ACK list; none: those that its packets come from
+  pub addresses : List IpAddr
   -- RTO.Initial, RTO.Min, RTO.Max
   pub bounds : Bounds
   -- Max.Init.Retransmits, Association.Max.Retrans

@@ -1,8 +1,10 @@
 //! An end of an SCTP association, which hears what the other end puts out.
 
+ghost use Rattle.std.specs.Prelude.{◌≡◌};
+
 use super::total::Total;
 use sctp_endpoint::endpoint::KEY_OCTETS;
-use sctp_endpoint::{Address, Endpoint, Event, Settings, Watch};
+use sctp_endpoint::{Address, Addresses, Endpoint, Event, Settings, Watch};
 use sctp_sending::{Bounds, Message};
 use std::alloc::{AllocError, Global};
 use std::marker::Model;
@@ -14,20 +16,27 @@ const PLACE: Address = Address {
 };
 
 /// The settings of both ends.
-const SETTINGS: Settings = Settings {
-    own_port: 3_565,
-    far_port: 3_565,
-    address: PLACE,
-    bounds: Bounds {
-        initial: 300,
-        least: 100,
-        most: 1_000,
-    },
-    init_retransmissions: 8,
-    retransmissions: 10,
-    heartbeat: 5_000,
-    cookie_life: 60_000,
-};
+fn settings() -> Settings
+    ensures initial { result.bounds.initial ≡ 300 }
+    ensures least { result.bounds.least ≡ 100 }
+    ensures most { result.bounds.most ≡ 1000 }
+{
+    Settings {
+        own_port: 3_565,
+        far_port: 3_565,
+        address: PLACE,
+        addresses: Addresses::none(),
+        bounds: Bounds {
+            initial: 300,
+            least: 100,
+            most: 1_000,
+        },
+        init_retransmissions: 8,
+        retransmissions: 10,
+        heartbeat: 5_000,
+        cookie_life: 60_000,
+    }
+}
 
 /// The stream of User Data, and the protocol of M2PA (RFC 4165 §4.1.2, §7.1).
 const USER_DATA: u16 = 1;
@@ -77,7 +86,7 @@ impl Side {
     /// An end under keys of its own. The error means that memory ran out.
     pub(crate) fn new(alloc: Global, key: u8) -> Result<Side, AllocError> {
         Ok(Side {
-            endpoint: Endpoint::new(alloc, SETTINGS, [key; KEY_OCTETS], [key; KEY_OCTETS])?,
+            endpoint: Endpoint::new(alloc, settings(), [key; KEY_OCTETS], [key; KEY_OCTETS])?,
             told: Told {
                 total: Total::NOTHING,
                 octets: [0; OCTETS],

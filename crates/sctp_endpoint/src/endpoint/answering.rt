@@ -144,7 +144,7 @@ impl Endpoint {
         }
     }
 
-    /// INIT ACK with a tag and a first TSN: the cookie, and what INIT had that isn't known.
+    /// INIT ACK with a tag and a first TSN: the addresses of this end, the cookie, and what INIT had that isn't known.
     fn answer_with<W: Watch>(
         &self,
         source: &Address,
@@ -163,7 +163,14 @@ impl Endpoint {
             .sign(&self.cookie_key);
         let offer = offer(tag, first_tsn);
         let way = self.way(source, init.offer.tag);
-        put_init_answer(&way, &offer, &cookie, init.parameters, watch);
+        put_init_answer(
+            &way,
+            &offer,
+            &self.settings.addresses,
+            &cookie,
+            init.parameters,
+            watch,
+        );
     }
 
     /// The cookie that an INIT is answered with.

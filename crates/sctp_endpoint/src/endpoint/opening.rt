@@ -133,7 +133,7 @@ impl Endpoint {
     {
         self.wait_for_cookie(tag, address);
         let mut chunks = Chunks::new();
-        chunks.add(&Reply::Init(offer(tag, tag)));
+        chunks.add(&Reply::Init(offer(tag, tag), &self.settings.addresses));
         self.try_with(chunks, failures, now, watch);
     }
 

@@ -1,10 +1,12 @@
 //! One end of a link.
 
+ghost use Rattle.std.specs.Prelude.{◌≡◌};
+
 use crate::gates::node::Node;
 use crate::gates::outbox::Outbox;
 use exchange::{Exchange, LinkId, LinkStanding, LinkView};
 use sctp_endpoint::endpoint::KEY_OCTETS;
-use sctp_endpoint::{Address, Settings};
+use sctp_endpoint::{Address, Addresses, Settings};
 use sctp_gate::Gate;
 use sctp_sending::Bounds;
 use std::alloc::Global;
@@ -21,20 +23,27 @@ const PEER: Address = Address {
 
 /// The settings of each endpoint. A timeout is longer than an answer takes, so only what isn't answered goes out again;
 /// and no heartbeat is due before this program ends.
-const ENDPOINT: Settings = Settings {
-    own_port: PORT,
-    far_port: PORT,
-    address: PEER,
-    bounds: Bounds {
-        initial: 300,
-        least: 100,
-        most: 1_000,
-    },
-    init_retransmissions: 8,
-    retransmissions: 10,
-    heartbeat: 600_000,
-    cookie_life: 60_000,
-};
+fn settings() -> Settings
+    ensures initial { result.bounds.initial ≡ 300 }
+    ensures least { result.bounds.least ≡ 100 }
+    ensures most { result.bounds.most ≡ 1000 }
+{
+    Settings {
+        own_port: PORT,
+        far_port: PORT,
+        address: PEER,
+        addresses: Addresses::none(),
+        bounds: Bounds {
+            initial: 300,
+            least: 100,
+            most: 1_000,
+        },
+        init_retransmissions: 8,
+        retransmissions: 10,
+        heartbeat: 600_000,
+        cookie_life: 60_000,
+    }
+}
 
 /// The gate of a link at a node, and what it puts out.
 pub struct GateEnd {
@@ -68,7 +77,7 @@ impl GateEnd {
         // No two keys are the same.
         let key = point << 4 | link;
         let (tags, cookies) = ([key; KEY_OCTETS], [!key; KEY_OCTETS]);
-        let gate = Gate::new(alloc, LinkId::new(link), tries, ENDPOINT, tags, cookies).ok()?;
+        let gate = Gate::new(alloc, LinkId::new(link), tries, settings(), tags, cookies).ok()?;
         Some(GateEnd {
             point,
             gate,

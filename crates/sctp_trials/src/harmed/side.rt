@@ -1,11 +1,11 @@
 //! An endpoint, and what it puts out and tells.
 
-ghost use Rattle.std.specs.Prelude.{◌≤◌, ◌^◌};
+ghost use Rattle.std.specs.Prelude.{◌≡◌, ◌≤◌, ◌^◌};
 
 use crate::harmed::octets::{TAG_AT, number};
 use crate::harmed::recorder::Recorder;
 use sctp_endpoint::endpoint::KEY_OCTETS;
-use sctp_endpoint::{Address, Endpoint, Settings};
+use sctp_endpoint::{Address, Addresses, Endpoint, Settings};
 use sctp_sending::{Bounds, Message};
 use std::alloc::{AllocError, Global};
 
@@ -19,20 +19,27 @@ const PLACE: Address = Address {
 };
 
 /// The settings of both ends.
-const SETTINGS: Settings = Settings {
-    own_port: 3_565,
-    far_port: 3_565,
-    address: PLACE,
-    bounds: Bounds {
-        initial: 300,
-        least: 100,
-        most: 1_000,
-    },
-    init_retransmissions: 8,
-    retransmissions: 10,
-    heartbeat: 5_000,
-    cookie_life: 60_000,
-};
+fn settings() -> Settings
+    ensures initial { result.bounds.initial ≡ 300 }
+    ensures least { result.bounds.least ≡ 100 }
+    ensures most { result.bounds.most ≡ 1000 }
+{
+    Settings {
+        own_port: 3_565,
+        far_port: 3_565,
+        address: PLACE,
+        addresses: Addresses::none(),
+        bounds: Bounds {
+            initial: 300,
+            least: 100,
+            most: 1_000,
+        },
+        init_retransmissions: 8,
+        retransmissions: 10,
+        heartbeat: 5_000,
+        cookie_life: 60_000,
+    }
+}
 
 /// What is done at an end.
 #[derive(Clone, Copy)]
@@ -61,7 +68,7 @@ impl Side {
         Ok(Side {
             endpoint: Endpoint::new(
                 alloc,
-                SETTINGS,
+                settings(),
                 [tag_key; KEY_OCTETS],
                 [cookie_key; KEY_OCTETS],
             )?,

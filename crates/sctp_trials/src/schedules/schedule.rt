@@ -8,7 +8,7 @@ use crate::schedules::judging::judge;
 use crate::schedules::octets::{
     COOKIE_ACK, COOKIE_ECHO, DATA, ERROR, STALE_COOKIE, cause, kind, tag, tsn,
 };
-use sctp_endpoint::{Address, Settings};
+use sctp_endpoint::{Address, Addresses, Settings};
 use sctp_sending::{Bounds, Message};
 use sctp_world::{Doing, End, Entry, Making, World};
 use std::alloc::{AllocError, Global};
@@ -99,6 +99,7 @@ fn making(number: u32, begin: u8) -> Making
             own_port: 3_565,
             far_port: 3_565,
             address: PLACE,
+            addresses: Addresses::none(),
             bounds: Bounds {
                 initial: 300,
                 least: 100,

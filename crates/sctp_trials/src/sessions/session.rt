@@ -1,6 +1,6 @@
 //! A session: an endpoint, to which happens what happened to the recorded end.
 
-ghost use Rattle.std.specs.Prelude.{◌≤◌, ◌^◌};
+ghost use Rattle.std.specs.Prelude.{◌≡◌, ◌≤◌, ◌^◌};
 
 use crate::sessions::fitting::fit;
 use crate::sessions::names::{Name, add};
@@ -8,7 +8,7 @@ use crate::sessions::recorder::{Recorder, kind_of};
 use crate::sessions::rows::{OCTETS, hexadecimal, number, octets, word};
 use sctp_codec::Packet;
 use sctp_endpoint::endpoint::KEY_OCTETS;
-use sctp_endpoint::{Address, Endpoint, Settings};
+use sctp_endpoint::{Address, Addresses, Endpoint, Settings};
 use sctp_sending::{Bounds, Message};
 use std::alloc::{AllocError, Global};
 use std::fmt::Write;
@@ -26,20 +26,27 @@ const PEER: Address = Address {
 };
 
 /// The settings of the recorded end.
-const SETTINGS: Settings = Settings {
-    own_port: 3_565,
-    far_port: 3_565,
-    address: PEER,
-    bounds: Bounds {
-        initial: 300,
-        least: 100,
-        most: 60_000,
-    },
-    init_retransmissions: 8,
-    retransmissions: 30,
-    heartbeat: 30_000,
-    cookie_life: 60_000,
-};
+fn settings() -> Settings
+    ensures initial { result.bounds.initial ≡ 300 }
+    ensures least { result.bounds.least ≡ 100 }
+    ensures most { result.bounds.most ≡ 60000 }
+{
+    Settings {
+        own_port: 3_565,
+        far_port: 3_565,
+        address: PEER,
+        addresses: Addresses::none(),
+        bounds: Bounds {
+            initial: 300,
+            least: 100,
+            most: 60_000,
+        },
+        init_retransmissions: 8,
+        retransmissions: 30,
+        heartbeat: 30_000,
+        cookie_life: 60_000,
+    }
+}
 
 /// Under these keys the endpoint draws tags and signs cookies.
 const TAG_KEY: [u8; KEY_OCTETS] = [1; KEY_OCTETS];
@@ -68,7 +75,7 @@ impl Session {
     /// A session that begins. The error means that memory ran out.
     pub fn new(alloc: Global) -> Result<Session, AllocError> {
         Ok(Session {
-            endpoint: Endpoint::new(alloc, SETTINGS, TAG_KEY, COOKIE_KEY)?,
+            endpoint: Endpoint::new(alloc, settings(), TAG_KEY, COOKIE_KEY)?,
             recorder: Recorder::new(alloc),
             names: Vec::new(alloc),
             recorded: String::new(alloc),

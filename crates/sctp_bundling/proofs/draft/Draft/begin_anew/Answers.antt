@@ -1,6 +1,5 @@
-use Rattle.std.proofs.Common.{ap, ◌∙◌}
-use Rattle.sctp_bundling.specs.Bundling.{Draft, draft_of}
-use Rattle.sctp_bundling.specs.Ways.{Way, way_of}
+use Rattle.std.proofs.Common.{◌∙◌}
+use Rattle.sctp_bundling.specs.Ways.{way_of}
 use Rattle.sctp_bundling.proofs.Bundling.{draft-none, draft-is}
 use Rattle.sctp_bundling.proofs.draft.Draft.begin_anew.Goals as goal
 

@@ -1,4 +1,4 @@
-use Rattle.std.proofs.Common.{take, ap, length, ◌∙◌, sym, arith}
+use Rattle.std.proofs.Common.{ap, length, ◌∙◌, sym, arith}
 use Rattle.std.proofs.lemmas.List.{length-take-le}
 use Rattle.sctp_bundling.specs.Bundling.{Draft}
 use Rattle.sctp_bundling.proofs.Bundling.{rest-some, rest-none}

@@ -8,6 +8,7 @@ use Rattle.sctp_ends.specs.Keyed.{signed_under}
 use Rattle.sctp_endpoint.proofs.Keyed.{signed-kept}
 use Rattle.sctp_endpoint.specs.Endpoints.{Endpoint}
 use Rattle.sctp_bundling.specs.Settings.{address_of}
+use Rattle.sctp_bundling.specs.Addresses.{listed}
 use Rattle.sctp_bundling.specs.Ways.{way_of}
 use Rattle.sctp_endpoint.specs.Flushing.{way_to}
 use Rattle.sctp_endpoint.proofs.Answering.{answer-put}
@@ -23,4 +24,5 @@ returns g c =
     let offered : Offer = record { tag = c.args.tag; window = 65536; outgoing = 2; incoming = 2; first_tsn = c.args.first_tsn } in
     given-put g.W.Watch.has c.args.watch.now c.put_init_answer.new.watch _ refl
     (answer-put g.W.Watch.has c.args.watch.now c.put_init_answer.new.watch (way_of c.way-way.result) (way_to e.settings (address_of c.args.source.now) c.args.init.now.offer.tag) c.offer-offer.result offered
-    c.sign-cookie.result (signed_under e.cookie_key made) (items_of c.args.init.now.parameters) c.way-way.ensures c.offer-offer.ensures cookie c.put_init_answer.ensures)
+    (listed c.self.inside.settings.addresses) e.settings.addresses c.sign-cookie.result (signed_under e.cookie_key made) (items_of c.args.init.now.parameters) c.way-way.ensures c.offer-offer.ensures
+    (ap (λ (x : Endpoint). x.settings.addresses) c.self.view_is) cookie c.put_init_answer.ensures)

@@ -1,7 +1,7 @@
 use Rattle.std.proofs.Common.{take}
 use Rattle.std.specs.Int.{w16, w32, to_be_bytes}
 use Rattle.sctp_codec.proofs.Joined.{joined5}
-use Rattle.sctp_codec.proofs.writing.write_offer.Goals as goal
+use Rattle.sctp_codec.proofs.inits.write_offer.Goals as goal
 
 pub returns-clause-text : goal.returns-clause-text
 returns-clause-text c =
