@@ -6,6 +6,7 @@ import errno
 import os
 import signal
 import socket
+import struct
 import subprocess
 import sys
 import tempfile
@@ -17,11 +18,13 @@ from pathlib import Path
 from typing import Any, Iterator
 
 from harness import PATIENCE, ROOT, free_port, wait_until
-from packets import DATA, chunk, packet
+from packets import DATA, INIT, chunk, packet
 
 PROGRAM = ROOT / "packaging/sctp-relay"
 OWN, EAST, WEST = "192.0.2.1", "192.0.2.2", "192.0.2.3"
 OWN_SIX, SOUTH = "2001:db8::1", "2001:db8::2"
+# The addresses of a second path.
+OWN_SECOND, EAST_SECOND = "198.51.100.1", "198.51.100.2"
 
 
 def loaded() -> Any:
@@ -47,6 +50,12 @@ def peer(**changes: str | None) -> str:
     return "[[peer]]\n" + "".join(f"{key} = {value}\n" for key, value in rows.items() if value is not None)
 
 
+def by_paths(*paths: tuple[str, ...], **changes: str) -> str:
+    """The table of a peer with several paths."""
+    listed = f"[{', '.join(str([*path]) for path in paths)}]"
+    return peer(**{"own_address": None, "peer_address": None, "paths": listed, **changes})
+
+
 def west(**changes: str) -> str:
     return peer(**{"name": '"west"', "remote": '"127.77.0.2:9899"', "peer_address": f'"{WEST}"', **changes})
 
@@ -56,6 +65,9 @@ A_UDP_ADDRESS = "must be an address and a port from 1 on, such as 127.0.0.1:9899
 A_HOST = "must be an IPv4 or IPv6 address of a host"
 SOME_PAIRS = "must be a list of pairs of SCTP ports, this end's and the peer's, such as [[3565, 3565]]"
 A_PAIR = "must be a pair of ports, 1 to 65535"
+SOME_PATHS = ("must be a list of pairs of addresses, this end's and the peer's, such as "
+              '[["192.0.2.1", "192.0.2.2"]]')
+A_PATH = "must be two IPv4 or two IPv6 addresses of hosts"
 
 FAULTS = [
     ("node = ", "this isn't TOML: Invalid value (at end of document)"),
@@ -110,6 +122,30 @@ FAULTS = [
      'peer[1] "west": sctp_ports[0] is [3565, 3566], which another peer with this host as remote has too'),
     (NODE + peer() + west(peer_address=f'"{EAST}"'),
      'peer[1] "west": sctp_ports[0] is [3565, 3566], which another peer with these addresses has too'),
+    (NODE + peer(own_address=None), f'peer[0] "east": own_address is missing, {A_HOST}'),
+    (NODE + by_paths(paths=f'"{EAST}"'), f'peer[0] "east": paths is "{EAST}", {SOME_PATHS}'),
+    (NODE + by_paths(), 'peer[0] "east": paths is a list of 0, must be 1 to 8'),
+    (NODE + by_paths(*[(OWN, EAST)] * 9), 'peer[0] "east": paths is a list of 9, must be 1 to 8'),
+    (NODE + by_paths(paths=f'["{OWN}"]'), f'peer[0] "east": paths[0] is "{OWN}", {A_PATH}'),
+    (NODE + by_paths((OWN, EAST), (OWN_SECOND,)), f'peer[0] "east": paths[1] is ["{OWN_SECOND}"], {A_PATH}'),
+    (NODE + by_paths((OWN, EAST, WEST)), f'peer[0] "east": paths[0] is ["{OWN}", "{EAST}", "{WEST}"], {A_PATH}'),
+    (NODE + by_paths((OWN, "east")), f'peer[0] "east": paths[0] is ["{OWN}", "east"], {A_PATH}'),
+    (NODE + by_paths(("0.0.0.0", EAST)), f'peer[0] "east": paths[0] is ["0.0.0.0", "{EAST}"], {A_PATH}'),
+    (NODE + by_paths(paths=f'[["{OWN}", 2]]'), f'peer[0] "east": paths[0] is ["{OWN}", 2], {A_PATH}'),
+    (NODE + by_paths((OWN, SOUTH)), f'peer[0] "east": paths[0] is ["{OWN}", "{SOUTH}"], {A_PATH}'),
+    (NODE + by_paths((OWN, EAST), (OWN, EAST)),
+     f'peer[0] "east": paths[1] is ["{OWN}", "{EAST}"], which the peer has twice'),
+    (NODE + by_paths((OWN, OWN)), f'peer[0] "east": paths[0] is ["{OWN}", "{OWN}"], and {OWN} is of both ends'),
+    (NODE + by_paths((OWN, EAST), (EAST, WEST)),
+     f'peer[0] "east": paths[1] is ["{EAST}", "{WEST}"], and {EAST} is of both ends'),
+    (NODE + by_paths((OWN, EAST), (WEST, OWN)),
+     f'peer[0] "east": paths[1] is ["{WEST}", "{OWN}"], and {OWN} is of both ends'),
+    (NODE + by_paths((OWN, EAST), own_address=f'"{OWN}"'),
+     f'peer[0] "east": own_address is "{OWN}", must be left out beside paths'),
+    (NODE + by_paths((OWN, EAST), peer_address="3"),
+     'peer[0] "east": peer_address is 3, must be left out beside paths'),
+    (NODE + by_paths((OWN, WEST), (OWN_SECOND, EAST)) + west(peer_address=f'"{EAST}"'),
+     'peer[1] "west": sctp_ports[0] is [3565, 3566], which another peer with these addresses has too'),
 ]
 
 
@@ -137,8 +173,17 @@ class Settings(unittest.TestCase):
         read = relay.read_settings((NODE + peer() + six).encode())
         self.assertEqual(str(read.node), "127.0.0.1:9899")
         self.assertEqual([it.name for it in read.peers], ["east", "south"])
-        self.assertEqual(str(read.peers[1].peer_address), SOUTH)
+        self.assertEqual([str(path) for path in read.peers[1].paths], [f"{OWN_SIX} {SOUTH}"])
         self.assertEqual(read.peers[1].links, (relay.PortPair(3565, 3565), relay.PortPair(3566, 3565)))
+
+    def test_paths(self) -> None:
+        """Packets of a peer may also cross between its paths, where both are of the same version of IP."""
+        text = by_paths((OWN, EAST), (OWN_SECOND, EAST_SECOND), (OWN_SIX, SOUTH))
+        east, = relay.read_settings((NODE + text).encode()).peers
+        self.assertEqual([str(path) for path in east.paths],
+                         [f"{OWN} {EAST}", f"{OWN_SECOND} {EAST_SECOND}", f"{OWN_SIX} {SOUTH}"])
+        crossing = {f"{OWN} {EAST_SECOND}", f"{OWN_SECOND} {EAST}"}
+        self.assertEqual({str(pair) for pair in east.pairs()[3:]}, crossing)
 
 
 class Words(unittest.TestCase):
@@ -225,7 +270,7 @@ class QuietLog(relay.Log):
         self.kept.append(" ".join(map(str, words)))
 
 
-class Passing(unittest.TestCase):
+class RelayTest(unittest.TestCase):
     """A relay in a thread, with a socket of the test in the place of the node, and of the raw sockets."""
 
     def setUp(self) -> None:
@@ -235,15 +280,18 @@ class Passing(unittest.TestCase):
         self.node.settimeout(PATIENCE)
         self.port = free_port()
         self.remotes = {"east": ("127.77.0.1", self.port), "west": ("127.77.0.2", self.port)}
-        text = f'node = "127.0.0.1:{self.node.getsockname()[1]}"\n'
-        text += peer(remote=f'"127.77.0.1:{self.port}"') + west(remote=f'"127.77.0.2:{self.port}"')
+        text = f'node = "127.0.0.1:{self.node.getsockname()[1]}"\n' + self.peers()
         self.log = QuietLog()
         self.relay = relay.Relay(relay.read_settings(text.encode()), self.log, StandIn)
-        self.raw = next(iter(self.relay.ips.values()))
-        self.addCleanup(self.raw.close)
+        self.raws = {str(own): raw for own, raw in self.relay.ips.items()}
+        for raw in self.raws.values():
+            self.addCleanup(raw.close)
         for passage in self.relay.passages:
             self.addCleanup(passage.udp.close)
         self.start()
+
+    def peers(self) -> str:
+        raise NotImplementedError
 
     def start(self) -> None:
         reading, self.signals = os.pipe()
@@ -265,8 +313,28 @@ class Passing(unittest.TestCase):
         """What it says that it counted."""
         self.log.kept.clear()
         self.signal(signal.SIGUSR1)
-        wait_until(lambda: len(self.log.kept) == 3, "it says what it counted")
+        wait_until(lambda: any("strangers" in line for line in self.log.kept), "it says what it counted")
         return self.log.kept
+
+    def came(self, octets: bytes) -> tuple[str, str]:
+        """Waits until this goes out, alone. Returns from where and to where."""
+        wait_until(lambda: any(raw.sent for raw in self.raws.values()), "it goes out")
+        (own, (far, sent)), = [(own, it) for own, raw in self.raws.items() for it in raw.sent]
+        self.assertEqual(sent, octets)
+        for raw in self.raws.values():
+            raw.sent.clear()
+        return own, far
+
+
+class Passing(RelayTest):
+    """Two peers, with the same ports."""
+
+    def setUp(self) -> None:
+        super().setUp()
+        self.raw, = self.raws.values()
+
+    def peers(self) -> str:
+        return peer(remote=f'"127.77.0.1:{self.port}"') + west(remote=f'"127.77.0.2:{self.port}"')
 
     def test_what_passes(self) -> None:
         """Octet for octet, whatever is behind the ports, by the address of each peer: both have the same SCTP ports."""
@@ -277,12 +345,10 @@ class Passing(unittest.TestCase):
                 self.assertEqual(self.node.recvfrom(1 << 16), (octets, self.remotes[name]))
             octets = packet(3565, 3566, 9, chunk(DATA, name.encode()))[:-1] + b"\xa5"
             self.node.sendto(octets, self.remotes[name])
-            wait_until(lambda: self.raw.sent, "it goes out")
-            self.assertEqual(self.raw.sent, [(address, octets)])
-            self.raw.sent.clear()
+            self.assertEqual(self.came(octets), (OWN, address))
         self.assertEqual(self.counts(), [
-            "count east to_node 2 to_peer 1 lost_to_node 0 lost_to_peer 0",
-            "count west to_node 2 to_peer 1 lost_to_node 0 lost_to_peer 0", "count strangers 0 icmp 0"])
+            "count east to_node 2 to_peer 1 lost_to_node 0 lost_to_peer 0 moves 0",
+            "count west to_node 2 to_peer 1 lost_to_node 0 lost_to_peer 0 moves 0", "count strangers 0 icmp 0"])
 
     def test_what_does_not(self) -> None:
         """Other addresses, other ports, the ports of the other way, what is too short; and nothing comes back."""
@@ -299,11 +365,10 @@ class Passing(unittest.TestCase):
         self.raw.put(EAST, right)
         self.assertEqual(self.node.recv(1 << 16), right)
         self.node.sendto(packet(3565, 3566, 9, b""), self.remotes["east"])
-        wait_until(lambda: self.raw.sent, "it goes out")
-        self.assertEqual(self.raw.sent, [(EAST, packet(3565, 3566, 9, b""))])
+        self.assertEqual(self.came(packet(3565, 3566, 9, b"")), (OWN, EAST))
         self.assertEqual(self.counts(), [
-            "count east to_node 1 to_peer 1 lost_to_node 0 lost_to_peer 0",
-            "count west to_node 0 to_peer 0 lost_to_node 0 lost_to_peer 0", "count strangers 13 icmp 0"])
+            "count east to_node 1 to_peer 1 lost_to_node 0 lost_to_peer 0 moves 0",
+            "count west to_node 0 to_peer 0 lost_to_node 0 lost_to_peer 0 moves 0", "count strangers 13 icmp 0"])
 
     def test_a_packet_that_the_system_does_not_take(self) -> None:
         """It is lost, and no other."""
@@ -314,7 +379,7 @@ class Passing(unittest.TestCase):
         wait_until(lambda: len(self.raw.sent) == 2, "the others go out")
         self.assertEqual(self.raw.sent, [(EAST, packets[0]), (EAST, packets[2])])
         self.assertEqual(self.log.kept, [f"lost east to {EAST}: Network is unreachable"])
-        self.assertEqual(self.counts()[0], "count east to_node 0 to_peer 2 lost_to_node 0 lost_to_peer 1")
+        self.assertEqual(self.counts()[0], "count east to_node 0 to_peer 2 lost_to_node 0 lost_to_peer 1 moves 0")
 
     def test_a_node_that_is_away(self) -> None:
         """What comes meanwhile is lost, which is counted and said; what comes later isn't."""
@@ -325,7 +390,7 @@ class Passing(unittest.TestCase):
             self.raw.put(EAST, right)
         wait_until(lambda: self.relay.passages[0].lost_to_node == 20, "all are lost")
         self.assertIn("lost east to the node: Connection refused", self.log.kept)
-        self.assertEqual(self.counts()[0], "count east to_node 0 to_peer 0 lost_to_node 20 lost_to_peer 0")
+        self.assertEqual(self.counts()[0], "count east to_node 0 to_peer 0 lost_to_node 20 lost_to_peer 0 moves 0")
         with socket.socket(socket.AF_INET, socket.SOCK_DGRAM) as back:
             back.bind(("127.0.0.1", port))
             back.settimeout(PATIENCE)
@@ -348,6 +413,164 @@ class Passing(unittest.TestCase):
                 self.thread.join(PATIENCE)
                 self.assertFalse(self.thread.is_alive())
                 self.start()
+
+
+class TwoPaths(RelayTest):
+    """A peer with two paths, and two links."""
+
+    FIRST, SECOND = (OWN, EAST), (OWN_SECOND, EAST_SECOND)
+
+    def peers(self) -> str:
+        remote, ports = f'"127.77.0.1:{self.port}"', "[[3565, 3566], [3575, 3576]]"
+        return by_paths(self.FIRST, self.SECOND, remote=remote, sctp_ports=ports)
+
+    def send(self, octets: bytes) -> tuple[str, str]:
+        """Sends this as the node. Returns from where and to where it goes out."""
+        self.node.sendto(octets, self.remotes["east"])
+        return self.came(octets)
+
+    def hear(self, own: str, far: str, octets: bytes) -> None:
+        """This comes from the peer, and to the node."""
+        self.raws[own].put(far, octets)
+        self.assertEqual(self.node.recvfrom(1 << 16), (octets, self.remotes["east"]))
+
+    def test_each_link_goes_to_where_it_was_heard(self) -> None:
+        """By any pair of addresses; the other link stays where it is."""
+        data, other = packet(3565, 3566, 7, chunk(DATA, b"one")), packet(3575, 3576, 7, chunk(DATA, b"other"))
+        self.assertEqual(self.send(data), self.FIRST)
+        for way in (self.SECOND, (OWN, EAST_SECOND), (OWN_SECOND, EAST), self.FIRST):
+            self.hear(*way, packet(3566, 3565, 9, chunk(relay.Chunk.SACK, bytes(12))))
+            self.assertEqual(self.send(data), way)
+            self.hear(*self.FIRST, packet(3576, 3575, 9, chunk(relay.Chunk.SACK, bytes(12))))
+            self.assertEqual(self.send(other), self.FIRST)
+        moved = f"path east 3565-3566 {OWN_SECOND} {EAST_SECOND} heard"
+        self.assertEqual((self.log.kept[0], len(self.log.kept)), (moved, 4))
+        self.assertEqual(self.counts()[0], "count east to_node 8 to_peer 9 lost_to_node 0 lost_to_peer 0 moves 4")
+
+    def test_strangers(self) -> None:
+        """They move nothing."""
+        sack = chunk(relay.Chunk.SACK, bytes(12))
+        for far, ports in ((WEST, (3566, 3565)), (OWN, (3566, 3565)), (EAST_SECOND, (3566, 3575)),
+                           (EAST, (3565, 3566))):
+            self.raws[OWN_SECOND].put(far, packet(*ports, 9, sack))
+        self.hear(*self.SECOND, packet(3576, 3575, 9, sack))
+        self.assertEqual(self.send(packet(3565, 3566, 7, chunk(DATA))), self.FIRST)
+        self.assertEqual(self.counts()[-1], "count strangers 4 icmp 0")
+
+    def test_addresses_that_are_not_listed(self) -> None:
+        """A warning names each own address that INIT and INIT ACK don't list, but for the one that they come from."""
+        def listing(kind: int, *owns: str) -> bytes:
+            listed = b"".join(struct.pack(">HH", 5, 8) + socket.inet_aton(own) for own in owns)
+            return packet(3565, 3566, 0, chunk(kind, bytes(16) + struct.pack(">HH", 12, 6) + b"\0\5\0\0" + listed))
+
+        for kind in (relay.Chunk.INIT, relay.Chunk.INIT_ACK):
+            for owns, warned in (((), OWN_SECOND), ((OWN,), OWN_SECOND), ((OWN_SECOND,), None),
+                                 ((OWN, OWN_SECOND), None)):
+                self.log.kept.clear()
+                self.hear(*self.FIRST, packet(3566, 3565, 9, chunk(relay.Chunk.SACK, bytes(12))))
+                self.send(listing(kind, *owns))
+                warning = f"warning: {kind.name} to east doesn't list {warned}"
+                self.assertEqual(self.log.kept[-1:], [warning] if warned else [])
+
+
+class Choosing(unittest.TestCase):
+    """The way of a link's packets, by a clock of the test."""
+
+    def setUp(self) -> None:
+        self.now, self.moves = 0.0, list[str]()
+        self.ways = [relay.Way(name, None, name) for name in ("first", "second", "third", "crossing")]
+        self.route = relay.Route(tuple(self.ways[:3]), self.note, lambda: self.now)
+
+    def note(self, way: object, why: str) -> None:
+        self.moves.append(f"{way.far} {why}")
+
+    def hear(self, name: str, *chunks: bytes) -> None:
+        way, = (way for way in self.ways if way.far == name)
+        self.route.hear(way, packet(3566, 3565, 9, b"".join(chunks)))
+
+    def chosen(self, *chunks: bytes, tag: int = 7) -> str:
+        return self.route.choose(packet(3565, 3566, tag, b"".join(chunks))).far
+
+    def test_heartbeats(self) -> None:
+        """They move nothing. Their answers go to where they came from, in any order, once; then all goes as before."""
+        one, other = b"\0\1\0\10one\0", b"\0\1\0\11other"
+        self.hear("second", chunk(relay.Chunk.HEARTBEAT, one))
+        self.hear("third", chunk(relay.Chunk.HEARTBEAT, other))
+        self.assertEqual(self.chosen(chunk(DATA)), "first")
+        self.assertEqual(self.chosen(chunk(relay.Chunk.HEARTBEAT_ACK, b"\0\1\0\7two")), "first")
+        sack = chunk(relay.Chunk.SACK, bytes(12))
+        self.assertEqual(self.chosen(sack, chunk(relay.Chunk.HEARTBEAT_ACK, other)), "third")
+        self.assertEqual(self.chosen(chunk(relay.Chunk.HEARTBEAT_ACK, one)), "second")
+        self.assertEqual(self.chosen(chunk(relay.Chunk.HEARTBEAT_ACK, one)), "first")
+        self.assertEqual(self.moves, [])
+
+    def test_heartbeat_beside_something_else(self) -> None:
+        self.hear("second", chunk(relay.Chunk.SACK, bytes(12)), chunk(relay.Chunk.HEARTBEAT, b"beat"))
+        self.assertEqual(self.chosen(chunk(DATA)), "second")
+
+    def test_init(self) -> None:
+        """It moves nothing. INIT ACK, whose tag is that of INIT, goes to where it came from; what the peer then says
+        moves the rest."""
+        self.hear("second", chunk(INIT, struct.pack(">I", 11) + bytes(12)))
+        self.assertEqual(self.chosen(chunk(INIT, bytes(16))), "first")
+        self.assertEqual(self.chosen(chunk(relay.Chunk.INIT_ACK, bytes(16)), tag=12), "first")
+        self.assertEqual(self.chosen(chunk(relay.Chunk.INIT_ACK, bytes(16)), tag=11), "second")
+        self.hear("second", chunk(relay.Chunk.COOKIE_ECHO, bytes(100)))
+        self.assertEqual(self.chosen(chunk(relay.Chunk.COOKIE_ACK)), "second")
+        self.assertEqual(self.moves, ["second heard"])
+
+    def test_turns(self) -> None:
+        """The paths take turns of 300 ms each, from a packet on that isn't answered, until something is heard. So does the
+        one by which it is."""
+        for now, name in ((1.0, "first"), (1.2, "first"), (1.31, "second"), (1.6, "second"), (1.62, "third"),
+                          (2.0, "first"), (2.4, "second")):
+            self.now = now
+            self.assertEqual(self.chosen(chunk(DATA)), name, now)
+        self.now = 2.69
+        self.hear("third", chunk(DATA))
+        self.assertEqual(self.chosen(chunk(DATA)), "third")
+        self.now = 2.98
+        self.assertEqual(self.chosen(chunk(DATA)), "third")
+        self.now = 3.0
+        self.assertEqual(self.chosen(chunk(DATA)), "first")
+        self.hear("third", chunk(relay.Chunk.SACK, bytes(12)))
+        self.now = 9.0
+        self.assertEqual(self.chosen(chunk(DATA)), "third")
+        self.now = 9.29
+        self.assertEqual(self.chosen(chunk(DATA)), "third")
+        self.assertEqual(self.moves[:4], ["second silence", "third silence", "first silence", "second silence"])
+        self.assertEqual(self.moves[4:], ["third heard", "first silence", "third heard"])
+
+    def test_what_asks_and_what_answers(self) -> None:
+        """Each chunk that has to be answered begins the wait, and no other; each answer ends it."""
+        asking = {relay.Chunk(number) for number in (0, 1, 4, 7, 8, 10)}
+        answering = {relay.Chunk(number) for number in (2, 3, 5, 6, 7, 8, 9, 11, 14)}
+        for kind in relay.Chunk:
+            self.setUp()
+            self.chosen(chunk(kind, bytes(16)))
+            self.now = 0.4
+            self.assertEqual(self.chosen(chunk(DATA)), "second" if kind in asking else "first", kind.name)
+            self.setUp()
+            self.chosen(chunk(DATA))
+            self.hear("first", chunk(kind, bytes(16)))
+            self.now = 0.4
+            self.assertEqual(self.chosen(chunk(DATA)), "first" if kind in answering else "second", kind.name)
+
+    def test_crossing(self) -> None:
+        """Where the peer was heard by no path, its silence leads to the first one."""
+        self.hear("crossing", chunk(relay.Chunk.SACK, bytes(12)))
+        self.assertEqual(self.chosen(chunk(DATA)), "crossing")
+        self.now = 0.4
+        self.assertEqual(self.chosen(chunk(DATA)), "first")
+
+    def test_what_is_kept_and_looked_at_has_an_end(self) -> None:
+        for number in range(1000):
+            self.hear("second", chunk(relay.Chunk.HEARTBEAT, number.to_bytes(4, "big")))
+        self.assertEqual(len(self.route.questions), relay.MOST_QUESTIONS)
+        self.assertEqual(self.chosen(chunk(relay.Chunk.HEARTBEAT_ACK, (0).to_bytes(4, "big"))), "first")
+        self.assertEqual(self.chosen(chunk(relay.Chunk.HEARTBEAT_ACK, (999).to_bytes(4, "big"))), "second")
+        for octets in (b"", b"\4", bytes(3), b"\4\0\0", b"\4\0\0\0" * 16_000, b"\xff\0\xff\xff" * 10_000):
+            self.assertLessEqual(len([*relay.chunks(bytes(12) + octets)]), relay.MOST_CHUNKS)
 
 
 if __name__ == "__main__":

@@ -1,5 +1,5 @@
 -- Words and lemmas of std, and the definitions, that the proofs here use.
-pub use Rattle.std.proofs.Common.{◌≡◌, ◌⊎◌, inl, inr, ℕ, ◌+◌, ◌<◌, ◌≤◌, List, [], ◌∷◌, ◌++◌, length, get_or, drop, map, Result, Ok, Err, append_assoc, append-nil, refl, ap, sym, ◌∙◌, Option, codes, None, Some, length-append, string_bytes, SFits, w64, rules, arith, subst, ne_eqb}
+pub use Rattle.std.proofs.Common.{◌≡◌, ◌⊎◌, inl, inr, ℕ, Bool, ◌+◌, ◌<◌, ◌≤◌, List, [], ◌∷◌, ◌++◌, length, get_or, drop, map, Result, Ok, Err, append_assoc, append-nil, refl, ap, sym, ◌∙◌, Option, codes, None, Some, length-append, string_bytes, SFits, w64, rules, arith, subst, ne_eqb}
 pub use Rattle.std.proofs.lemmas.Int.{to_z-of_z}
 pub use Rattle.std.proofs.lemmas.List.{drop_more, drop_all, map-append}
 pub use Rattle.std.proofs.lemmas.Option.{none-some, same_Some}

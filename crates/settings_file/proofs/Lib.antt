@@ -8,3 +8,4 @@ pub mod Exists
 pub mod Explained
 pub mod Sources
 pub mod Within
+pub mod Filling

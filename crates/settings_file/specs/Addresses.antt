@@ -4,15 +4,19 @@ use Rattle.std.specs.declared.net.socket_addr.SocketAddr.{SocketAddr}
 use Rattle.std.specs.declared.net.socket_addr.SocketAddr.TheVariants.{V4, V6}
 use Rattle.std.specs.Net.Addr.{ipv4_octets, ipv6_segments}
 use Rattle.std.specs.Net.Socket.{v4_ip, v6_ip, socket_ip}
-use Rattle.std.specs.Net.Grammar.{IsSocketText}
+use Rattle.std.specs.Net.Grammar.{IsSocketText, IsIpText}
+use Rattle.std.specs.declared.net.ip_addr.IpAddr.{IpAddr}
 use Rattle.std.specs.contracts.impls.SocketAddrPartialEq.TheImpl as same
 use Rattle.std.specs.contracts.impls.IpAddrPartialEq.TheImpl as same_host
 
--- a function that tells what address a text spells, and of a text that spells none says so
+-- functions that tell what address a text spells, with a port and without, and of a text that spells none say so
 pub record Spelling : Type 0 where
   pub address : List ℕ → Option SocketAddr
   pub sound : (text : List ℕ) (a : SocketAddr) → address text ≡ Some a → IsSocketText text a
   pub complete : (text : List ℕ) (a : SocketAddr) → IsSocketText text a → address text ≡ Some a
+  pub host : List ℕ → Option IpAddr
+  pub host_sound : (text : List ℕ) (a : IpAddr) → host text ≡ Some a → IsIpText text a
+  pub host_complete : (text : List ℕ) (a : IpAddr) → IsIpText text a → host text ≡ Some a
 
 -- an address that no other machine reaches: in 127.0.0.0/8, or ::1
 abbrev pub is_loopback : SocketAddr → Bool
@@ -31,6 +35,10 @@ is_address_of (Some b) a = is_same b a
 -- two addresses are of the same host, whatever their ports are
 abbrev pub is_same_host : SocketAddr → SocketAddr → Bool
 is_same_host a b = (same_host.ghosts).eq (socket_ip a) (socket_ip b)
+
+-- two hosts are the same, as `==` has it
+abbrev pub is_host : IpAddr → IpAddr → Bool
+is_host = (same_host.ghosts).eq
 
 -- both are of IPv4, or both of IPv6
 abbrev pub is_same_version : SocketAddr → SocketAddr → Bool

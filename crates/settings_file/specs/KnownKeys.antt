@@ -38,6 +38,10 @@ has_since (Some version) Second = has_joined version
 has_since (Some version) Third = has_extensions version
 has_since (Some version) Fourth = has_additions version
 
+-- whether a document is of a version that has the keys that version 4 brought
+abbrev pub has_fourth : Members → Bool
+has_fourth document = has_since (version_of document) Fourth
+
 -- whether a known key is this one, in a file of this version
 abbrev pub is_key : Option ℤ → List ℕ → KnownKey → Bool
 is_key version key known = bytes_eq known.name key && has_since version known.since
@@ -71,7 +75,8 @@ abbrev pub serve_keys : List KnownKey
 serve_keys =
     known (codes "tick_ms") First ∷ known (codes "console") First ∷ known (codes "capture") First
     ∷ known (codes "console_open") First ∷ known (codes "points") First ∷ known (codes "udp") First
-    ∷ known (codes "sctp") First ∷ known (codes "page_open") First ∷ known (codes "page") First ∷ []
+    ∷ known (codes "sctp") First ∷ known (codes "page_open") First ∷ known (codes "page") First
+    ∷ known (codes "capture_size") Fourth ∷ known (codes "capture_files") Fourth ∷ []
 
 -- the keys of its table of times and tries
 abbrev pub sctp_keys : List KnownKey
@@ -90,7 +95,8 @@ link_keys =
     known (codes "name") First ∷ known (codes "set") First ∷ known (codes "slc") First
     ∷ known (codes "share") Third ∷ known (codes "listen") First ∷ known (codes "connect") First
     ∷ known (codes "remote") First ∷ known (codes "sctp_port") First ∷ known (codes "remote_sctp_port") First
-    ∷ known (codes "tries") First ∷ []
+    ∷ known (codes "tries") First ∷ known (codes "remote_port_fixed") Fourth
+    ∷ known (codes "addresses") Fourth ∷ []
 
 -- the keys of a destination
 abbrev pub destination_keys : List KnownKey

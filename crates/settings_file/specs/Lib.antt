@@ -23,7 +23,9 @@ pub mod Addresses
 pub mod Keyed
 pub mod Consoles
 pub mod Times
+pub mod Paths
 pub mod Endpoints
 pub mod Served
 pub mod ServedInside
+pub mod CaptureKeys
 pub mod ServeReading

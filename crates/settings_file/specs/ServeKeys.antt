@@ -12,6 +12,8 @@ key_front key.Serve = codes "serve"
 key_front key.TickMs = codes "serve.tick_ms"
 key_front key.Console = codes "serve.console"
 key_front key.Capture = codes "serve.capture"
+key_front key.CaptureSize = codes "serve.capture_size"
+key_front key.CaptureFiles = codes "serve.capture_files"
 key_front key.ConsoleOpen = codes "serve.console_open"
 key_front key.Points = codes "serve.points"
 key_front key.Udp = codes "serve.udp"
@@ -30,6 +32,8 @@ key_front (key.LinkRemote i) = codes "link"
 key_front (key.LinkSctpPort i) = codes "link"
 key_front (key.LinkRemoteSctpPort i) = codes "link"
 key_front (key.LinkTries i) = codes "link"
+key_front (key.LinkRemotePortFixed i) = codes "link"
+key_front (key.LinkAddresses i) = codes "link"
 
 -- the index of the link that a key is in, from 0
 abbrev pub key_index : ServeKey → Option ℕ
@@ -39,6 +43,8 @@ key_index (key.LinkRemote i) = Some i
 key_index (key.LinkSctpPort i) = Some i
 key_index (key.LinkRemoteSctpPort i) = Some i
 key_index (key.LinkTries i) = Some i
+key_index (key.LinkRemotePortFixed i) = Some i
+key_index (key.LinkAddresses i) = Some i
 key_index other = None
 
 -- what is after the index: a dot and the key in its link, or nothing
@@ -49,6 +55,8 @@ key_back (key.LinkRemote i) = codes ".remote"
 key_back (key.LinkSctpPort i) = codes ".sctp_port"
 key_back (key.LinkRemoteSctpPort i) = codes ".remote_sctp_port"
 key_back (key.LinkTries i) = codes ".tries"
+key_back (key.LinkRemotePortFixed i) = codes ".remote_port_fixed"
+key_back (key.LinkAddresses i) = codes ".addresses"
 key_back other = []
 
 -- where a key of a server is: `serve.tick_ms`, or `listen` of a link

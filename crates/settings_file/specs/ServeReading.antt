@@ -13,10 +13,12 @@ use Rattle.settings_file.specs.declared.serve.fault.ServeFault.TheVariants.{Sett
 use Rattle.settings_file.specs.Addresses.{Spelling}
 use Rattle.settings_file.specs.ServeFaults.{fault_of}
 use Rattle.settings_file.specs.ServeKeys.{found_at}
+use Rattle.settings_file.specs.KnownKeys.{has_fourth}
 use Rattle.settings_file.specs.Shapes.{and_then}
 use Rattle.settings_file.specs.Keyed.{serve_at, tick_ms_at, console_open_at, is_open, capture_at, points_at}
 use Rattle.settings_file.specs.Keyed.{udp_at, page_open_at, page_at}
 use Rattle.settings_file.specs.Consoles.{Place, address_of, console_at}
+use Rattle.settings_file.specs.CaptureKeys.{limits_at}
 use Rattle.settings_file.specs.Times.{times_at}
 use Rattle.settings_file.specs.Endpoints.{endpoints_at}
 use Rattle.settings_file.specs.Served.{Served}
@@ -28,24 +30,26 @@ document s t =
     and_then (tick_ms_at serve) (λ tick_ms.
     and_then (console_at s (is_open (console_open_at serve)) serve) (λ console.
     and_then (capture_at serve) (λ capture.
+    and_then (limits_at (has_fourth t) capture serve) (λ capture_limits.
     and_then (console_open_at serve) (λ opened.
     and_then (points_at serve) (λ points.
     and_then (udp_at s serve) (λ udp.
-    and_then (times_at serve) (λ sctp.
+    and_then (times_at (has_fourth t) serve) (λ sctp.
     and_then (page_open_at serve) (λ is_page_open.
     and_then (page_at s is_page_open (address_of console) serve) (λ page.
-    and_then (endpoints_at s (record { console = address_of console; page = page; udp = udp }) t) (λ links.
+    and_then (endpoints_at s (record { console = address_of console; page = page; udp = udp }) (has_fourth t) t) (λ links.
     Ok (record {
       tick_ms = tick_ms;
       console = console;
       capture = capture;
+      capture_limits = capture_limits;
       points = points;
       udp = udp;
       sctp = sctp;
       is_page_open = is_page_open;
       page = page;
       links = links;
-    }))))))))))))
+    })))))))))))))
 
 -- a file has a table for a server, or some other value there
 abbrev pub is_of_server : Members → Bool

@@ -3,6 +3,7 @@ use Rattle.std.specs.Prelude.{ℕ, Bool, List, Option}
 use Rattle.std.specs.declared.net.socket_addr.SocketAddr.{SocketAddr}
 use Rattle.settings_file.specs.declared.serve.server.Endpoint.{Endpoint}
 use Rattle.settings_file.specs.declared.serve.sctp.SctpTimes.{SctpTimes}
+use Rattle.settings_file.specs.declared.serve.capture.CaptureLimits.{CaptureLimits}
 use Rattle.settings_file.specs.Consoles.{Place}
 use Rattle.point_format.specs.declared.point.PointFormat.{PointFormat}
 
@@ -10,6 +11,7 @@ pub record Served : Type 0 where
   pub tick_ms : ℕ
   pub console : Option Place
   pub capture : Option (List ℕ)
+  pub capture_limits : Option CaptureLimits
   pub points : PointFormat
   pub udp : Option SocketAddr
   pub sctp : SctpTimes

@@ -12,6 +12,7 @@ served_of s = record {
   tick_ms = s.tick_ms;
   console = option_map kept_place s.console;
   capture = option_map (λ file. string_bytes file) s.capture;
+  capture_limits = s.capture_limits;
   points = s.points;
   udp = s.udp;
   sctp = s.sctp;

@@ -1,5 +1,5 @@
 -- The times and tries of associations: the keys of the table `serve.sctp`.
-use Rattle.std.specs.Prelude.{◌≤◌, ℕ, Option, Some, None, option_and_then, Result, Ok, Err}
+use Rattle.std.specs.Prelude.{◌≤◌, ℕ, Bool, Option, Some, None, option_and_then, Result, Ok, Err}
 use Rattle.std.specs.Prelude.{if◌then◌else◌, ◌&&◌, nat_le}
 use Rattle.toml.specs.Data.{Data, Members}
 use Rattle.settings_file.specs.declared.serve.key.ServeKey.{ServeKey}
@@ -11,11 +11,12 @@ use Rattle.settings_file.specs.ServeKeys.{found_at}
 use Rattle.settings_file.specs.Shapes.{and_then, table_in}
 use Rattle.settings_file.specs.Keyed.{number_or}
 
--- the times and tries if a file says nothing of them
-abbrev pub usual_times : SctpTimes
-usual_times = record {
-  rto_initial_ms = 300;
-  rto_min_ms = 100;
+-- the times and tries if a file says nothing of them. From version 4 on no timeout is shorter than the 200 ms for which
+-- others usually delay their SACK
+abbrev pub usual_times : (is_fourth : Bool) → SctpTimes
+usual_times is_fourth = record {
+  rto_initial_ms = if is_fourth then 400 else 300;
+  rto_min_ms = if is_fourth then 400 else 100;
   rto_max_ms = 1000;
   init_tries = 8;
   retransmissions = 10;
@@ -48,8 +49,8 @@ abbrev pub tries_at : ServeKey → (usual : ℕ) → Option Members → Result �
 tries_at key usual t = number_at key 1 100 usual t
 
 -- the time between heartbeats: 100 to 600,000 ms
-abbrev pub heartbeat_at : Option Members → Result ℕ ServeFault
-heartbeat_at t = number_at key.HeartbeatMs 100 600000 usual_times.heartbeat_ms t
+abbrev pub heartbeat_at : (usual : ℕ) → Option Members → Result ℕ ServeFault
+heartbeat_at usual t = number_at key.HeartbeatMs 100 600000 usual t
 
 -- the initial timeout is from the shortest to the longest
 abbrev pub ordered : SctpTimes → Result SctpTimes ServeFault
@@ -59,14 +60,14 @@ ordered t =
     else Err (Range key.RtoInitialMs)
 
 -- the keys of the table in their order; then how the timeouts are ordered
-unfoldable pub times_in : Option Members → Result SctpTimes ServeFault
-times_in t =
-    and_then (timeout_at key.RtoInitialMs usual_times.rto_initial_ms t) (λ initial.
-    and_then (timeout_at key.RtoMinMs usual_times.rto_min_ms t) (λ least.
-    and_then (timeout_at key.RtoMaxMs usual_times.rto_max_ms t) (λ most.
-    and_then (tries_at key.InitTries usual_times.init_tries t) (λ init_tries.
-    and_then (tries_at key.Retransmissions usual_times.retransmissions t) (λ retransmissions.
-    and_then (heartbeat_at t) (λ heartbeat.
+unfoldable pub times_in : (usual : SctpTimes) → Option Members → Result SctpTimes ServeFault
+times_in usual t =
+    and_then (timeout_at key.RtoInitialMs usual.rto_initial_ms t) (λ initial.
+    and_then (timeout_at key.RtoMinMs usual.rto_min_ms t) (λ least.
+    and_then (timeout_at key.RtoMaxMs usual.rto_max_ms t) (λ most.
+    and_then (tries_at key.InitTries usual.init_tries t) (λ init_tries.
+    and_then (tries_at key.Retransmissions usual.retransmissions t) (λ retransmissions.
+    and_then (heartbeat_at usual.heartbeat_ms t) (λ heartbeat.
     ordered (record {
       rto_initial_ms = initial;
       rto_min_ms = least;
@@ -84,5 +85,5 @@ sctp_in (Some d) = and_then (table_in (Kind key.Sctp) d) (λ t. Ok (Some t))
 unfoldable pub sctp_at : Members → Result (Option Members) ServeFault
 sctp_at serve = sctp_in (found_at key.Sctp serve)
 
-unfoldable pub times_at : Members → Result SctpTimes ServeFault
-times_at serve = and_then (sctp_at serve) times_in
+unfoldable pub times_at : (is_fourth : Bool) → Members → Result SctpTimes ServeFault
+times_at is_fourth serve = and_then (sctp_at serve) (times_in (usual_times is_fourth))

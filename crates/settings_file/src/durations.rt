@@ -92,7 +92,7 @@ fn decimal_ms(count: usize) -> Option<u64>
 }
 
 /// How many digits a text begins with.
-fn digit_count(text: &[u8]) -> usize
+pub(crate) fn digit_count(text: &[u8]) -> usize
     ensures value { result ≡ digit_count text.now }
     ensures fits { result ≤ length text.now }
 {

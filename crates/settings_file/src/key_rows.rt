@@ -51,7 +51,7 @@ pub(crate) const TRUTH: &str = "true or false";
 
 const INTEGERS: &str = "a list of integers";
 
-const TEXTS: &str = "a list of texts";
+pub(crate) const TEXTS: &str = "a list of texts";
 
 pub(crate) const TABLE: &str = "a table";
 

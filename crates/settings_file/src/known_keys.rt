@@ -3,7 +3,7 @@
 ghost use Rattle.std.specs.Prelude.{◌≡◌, map};
 ghost use Rattle.std.specs.List.{list_any};
 ghost use Rattle.toml.specs.View.{table_view};
-ghost use Rattle.settings_file.specs.KnownKeys.{known_of, known_in, version_of, has_since, is_key, arrays};
+ghost use Rattle.settings_file.specs.KnownKeys.{known_of, known_in, version_of, has_since, has_fourth, is_key, arrays};
 ghost use Rattle.settings_file.specs.KnownKeys.{top_keys, timer_keys, serve_keys, sctp_keys};
 
 use crate::versions::{Since, has_additions, has_extensions, has_joined};
@@ -65,6 +65,8 @@ const SERVE: &[(&str, Since)] = &[
     ("sctp", Since::First),
     ("page_open", Since::First),
     ("page", Since::First),
+    ("capture_size", Since::Fourth),
+    ("capture_files", Since::Fourth),
 ];
 
 /// The keys of the table `serve.sctp`.
@@ -92,6 +94,8 @@ const LINK: &[(&str, Since)] = &[
     ("sctp_port", Since::First),
     ("remote_sctp_port", Since::First),
     ("tries", Since::First),
+    ("remote_port_fixed", Since::Fourth),
+    ("addresses", Since::Fourth),
 ];
 
 /// The keys of a destination.
@@ -134,6 +138,13 @@ pub(crate) fn version_of(document: &Table) -> Option<i64>
         Some(version) => version.as_integer(),
         None => None,
     }
+}
+
+/// Whether a document is of a version that has the keys that version 4 brought.
+pub(crate) fn has_fourth(document: &Table) -> bool
+    ensures { result ≡ has_fourth (table_view document.now) }
+{
+    has_since(version_of(document), Since::Fourth)
 }
 
 /// Whether a file of this version, if it says one, has the keys that came with another.

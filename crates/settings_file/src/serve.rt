@@ -2,6 +2,7 @@
 //! sentences that say what is wrong with them.
 
 mod address;
+pub mod capture;
 pub mod console_place;
 mod document;
 mod endpoints;
@@ -10,11 +11,13 @@ pub mod key;
 mod key_rows;
 mod keys;
 pub mod laws;
+pub(crate) mod paths;
 pub mod sctp;
 mod sentences;
 pub mod server;
 mod times;
 
+pub use capture::CaptureLimits;
 pub use console_place::ConsolePlace;
 pub(crate) use document::serve_in;
 pub use document::{check_server, read, read_console, read_server};

@@ -15,7 +15,8 @@ const SECOND_VERSION: i64 = 2;
 /// changed titles, and timers of tests and of emergency proving.
 const THIRD_VERSION: i64 = 3;
 
-/// The version that brought orders to change over by any route, bars of T2, durations, and usual times of timers.
+/// The version that brought orders to change over by any route, bars of T2, durations, usual times of timers, peers that
+/// keep their UDP port, and longer timeouts of SCTP.
 const LAST_VERSION: i64 = 4;
 
 /// The version that brought a key: the first, the second, the third or the last.

@@ -12,6 +12,8 @@ ghost use Rattle.settings_file.specs.ServeReading.{document, checked, console_to
 ghost use Rattle.settings_file.specs.Consoles.{place_of};
 ghost use Rattle.settings_file.specs.Keyed.{serve_at};
 
+use crate::known_keys::has_fourth;
+use crate::serve::capture::capture_limits;
 use crate::serve::console_place::{ConsolePlace, address_of, kept};
 use crate::serve::endpoints::endpoints;
 use crate::serve::fault::ServeFault;
@@ -51,10 +53,12 @@ fn contents(alloc: Global, table: &Table) -> Result<ServeSettings, ServeFault>
     let opened = console_open(serve);
     let console = console(serve, matches!(opened, Ok(true)))?;
     let file = capture(serve)?;
+    let is_fourth = has_fourth(table);
+    let capture_limits = capture_limits(serve, is_fourth, file)?;
     opened?;
     let points = points(serve)?;
     let udp = udp(serve)?;
-    let sctp = times(serve)?;
+    let sctp = times(serve, is_fourth)?;
     let is_page_open = page_open(serve)?;
     let address = address_of(console);
     let page = page(serve, is_page_open, address)?;
@@ -63,13 +67,14 @@ fn contents(alloc: Global, table: &Table) -> Result<ServeSettings, ServeFault>
         page,
         udp,
     };
-    let links = endpoints(alloc, own, table)?;
+    let links = endpoints(alloc, own, is_fourth, table)?;
     let capture = owned(alloc, file)?;
     let console = kept(alloc, console)?;
     Ok(ServeSettings {
         tick_ms,
         console,
         capture,
+        capture_limits,
         points,
         udp,
         sctp,
@@ -92,9 +97,10 @@ fn owned(alloc: Global, text: Option<&str>) -> Result<Option<String>, AllocError
 
 /// Reads the settings of a server from the document that a settings file is.
 ///
-/// Returns the settings, or the first fault, in this order: the keys `tick_ms`, `console`, `capture`, `console_open`,
-/// `points` and `udp` of `[serve]`, those of `[serve.sctp]`, `page_open` and `page`, then the keys of each link, from
-/// the first. If memory runs out, that may be returned instead. Keys of other names are ignored.
+/// Returns the settings, or the first fault, in this order: the keys `tick_ms`, `console`, `capture`, `capture_size`,
+/// `capture_files`, `console_open`, `points` and `udp` of `[serve]`, those of `[serve.sctp]`, `page_open` and `page`,
+/// then the keys of each link, from the first. If memory runs out, that may be returned instead. Keys of other names are
+/// ignored.
 pub fn read_server(alloc: Global, document: &Table) -> Result<ServeSettings, ServeFault>
     ensures { (s : Spelling) (text : List ℕ) → parse_document text ≡ Some (table_view document.now)
         → AnswersOrNoMemory (λ settings. settings) (reading s text) result }

@@ -17,7 +17,8 @@ pub enum ServeFault {
     /// A fault of the settings of the node, other than lack of memory.
     Settings(SettingsFault),
     /// 2: a required key is missing: `listen` of a link that has none of `listen`, `connect` and `remote`, `udp` of a
-    /// server that has a link with `remote`, or `console` for a caller of the console.
+    /// server that has a link with `remote`, `console` for a caller of the console, or one of `capture`, `capture_size` and
+    /// `capture_files`, where the others ask for it.
     Missing(ServeKey),
     /// 3: a value of another type than its key asks for.
     Kind(ServeKey),

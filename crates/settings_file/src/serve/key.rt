@@ -19,6 +19,10 @@ pub enum ServeKey {
     Console,
     /// `serve.capture`.
     Capture,
+    /// `serve.capture_size`.
+    CaptureSize,
+    /// `serve.capture_files`.
+    CaptureFiles,
     /// `serve.console_open`.
     ConsoleOpen,
     /// `serve.points`.
@@ -55,6 +59,10 @@ pub enum ServeKey {
     LinkRemoteSctpPort(usize),
     /// `link[i].tries`.
     LinkTries(usize),
+    /// `link[i].remote_port_fixed`.
+    LinkRemotePortFixed(usize),
+    /// `link[i].addresses`.
+    LinkAddresses(usize),
 }
 
 impl fmt::Display for ServeKey {

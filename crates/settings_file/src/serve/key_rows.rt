@@ -4,7 +4,7 @@ ghost use Rattle.std.specs.Prelude.{◌≡◌};
 ghost use Rattle.settings_file.specs.Places.{row_place};
 ghost use Rattle.settings_file.specs.ServeKeys.{key_place, key_name};
 
-use crate::key_rows::{INTEGER, KeyRow, TABLE, TEXT, TRUTH, entry_key, lone_key};
+use crate::key_rows::{INTEGER, KeyRow, TABLE, TEXT, TEXTS, TRUTH, entry_key, lone_key};
 use crate::serve::key::ServeKey;
 
 const TICK: &str = "10 to 10000";
@@ -12,11 +12,19 @@ const TICK: &str = "10 to 10000";
 const CONSOLE: &str =
     "an address and a port from 1 on, as \"127.0.0.1:2900\", or the path of a socket, as \"/run/stp/console\"";
 
+const INTEGER_OR_TEXT: &str = "an integer or a text";
+
+const SIZE: &str = "2000000 to 1000000000000, or as \"100MB\"";
+
+const FILES: &str = "2 to 1000";
+
 const ADDRESS: &str = "an address and a port from 1 on, as \"127.0.0.1:2904\"";
 
 const PAGE: &str = "an address and a port from 1 on, as \"127.0.0.1:8080\"";
 
 const UDP: &str = "an address and a port from 1 on, as \"127.0.0.1:9899\"";
+
+const ADDRESSES: &str = "at most eight addresses without a port, as \"192.0.2.1\"";
 
 const TIMEOUT: &str = "10 to 60000";
 
@@ -42,6 +50,8 @@ pub(crate) fn key_row(key: ServeKey) -> KeyRow
         ServeKey::TickMs => lone_key("serve.tick_ms", INTEGER, TICK),
         ServeKey::Console => lone_key("serve.console", TEXT, CONSOLE),
         ServeKey::Capture => lone_key("serve.capture", TEXT, "the name of a file"),
+        ServeKey::CaptureSize => lone_key("serve.capture_size", INTEGER_OR_TEXT, SIZE),
+        ServeKey::CaptureFiles => lone_key("serve.capture_files", INTEGER, FILES),
         ServeKey::ConsoleOpen => lone_key("serve.console_open", TRUTH, ""),
         ServeKey::Points => lone_key("serve.points", TEXT, "\"3-8-3\""),
         ServeKey::Udp => lone_key("serve.udp", TEXT, UDP),
@@ -62,5 +72,7 @@ pub(crate) fn key_row(key: ServeKey) -> KeyRow
             entry_key("link", i, "remote_sctp_port", INTEGER, SCTP_PORT)
         }
         ServeKey::LinkTries(i) => entry_key("link", i, "tries", TRUTH, ""),
+        ServeKey::LinkRemotePortFixed(i) => entry_key("link", i, "remote_port_fixed", TRUTH, ""),
+        ServeKey::LinkAddresses(i) => entry_key("link", i, "addresses", TEXTS, ADDRESSES),
     }
 }

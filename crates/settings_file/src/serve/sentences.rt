@@ -6,6 +6,7 @@ ghost use Rattle.settings_file.specs.ServeSentences.{Explains, place_of};
 
 use crate::fault::SettingsFault;
 use crate::key_rows::KeyRow;
+use crate::known_keys::has_fourth;
 use crate::phrases::{missing, must_be, value_is};
 use crate::places::{about, value_at};
 use crate::serve::address::address_in;
@@ -26,6 +27,9 @@ const NO_SOURCE: &str = "is missing, and a link has remote";
 /// What is wrong with an initial timeout that is left out.
 const NOT_USUAL: &str = "is missing, and 300 isn't from rto_min_ms to rto_max_ms";
 
+/// The same from version 4 on.
+const NOT_USUAL_SINCE: &str = "is missing, and 400 isn't from rto_min_ms to rto_max_ms";
+
 const LOOPBACK: &str = "a loopback address unless console_open is true";
 
 const LOOPBACK_PAGE: &str = "a loopback address unless page_open is true";
@@ -35,6 +39,13 @@ const SOCKET_PATH: &str = "a path of at most 107 octets without control characte
 
 /// What the address of a peer must be.
 const OF_VERSION: &str = "an address of the same version of IP as serve.udp";
+
+/// What a peer must be that has several addresses.
+const PEER_ADDRESSES: &str =
+    "at most eight addresses with a port from 1 on, of the same version of IP as serve.udp";
+
+/// What `remote` must be from version 4 on.
+const TEXT_OR_TEXTS: &str = "a text or a list of at least one text";
 
 /// What is wrong with an address that two listen on.
 const TAKEN: &str = "where the console, the page or another link listens too";
@@ -50,6 +61,12 @@ const CONNECTS: &str = "but the link has connect too";
 
 /// What is wrong with a peer that another link has.
 const SAME_PEER: &str = "whose host and SCTP ports another link has too";
+
+/// What is wrong with several addresses of a peer.
+const SAME_HOST: &str = "with a host twice, or one that another link has with the same SCTP ports";
+
+/// What is wrong with own addresses that aren't different.
+const SAME_ADDRESS: &str = "with an address twice";
 
 /// The sentence that says what this fault is, in the document of a settings file of this name, with a line feed:
 /// `node.toml: serve.tick_ms is 5, must be 10 to 10000`. A fault of the node's settings gives what
@@ -101,16 +118,24 @@ fn wrong(
     fault: ServeFault,
 ) -> Result<String, AllocError> {
     match value_at(document, row) {
-        None => wrong_without(alloc, row, fault),
+        None => wrong_without(alloc, document, row, fault),
         Some(value) => wrong_with(alloc, document, row, value, fault),
     }
 }
 
 /// What is wrong at a key of this row, which has no value.
-fn wrong_without(alloc: Global, row: &KeyRow, fault: ServeFault) -> Result<String, AllocError> {
+fn wrong_without(
+    alloc: Global,
+    document: &Table,
+    row: &KeyRow,
+    fault: ServeFault,
+) -> Result<String, AllocError> {
     match fault {
         ServeFault::Missing(ServeKey::LinkListen(_)) => String::from_str(alloc, NONE_THERE),
         ServeFault::Missing(ServeKey::Udp) => String::from_str(alloc, NO_SOURCE),
+        ServeFault::Range(ServeKey::RtoInitialMs) if has_fourth(document) => {
+            String::from_str(alloc, NOT_USUAL_SINCE)
+        }
         ServeFault::Range(ServeKey::RtoInitialMs) => String::from_str(alloc, NOT_USUAL),
         _ => missing(alloc, row.kind),
     }
@@ -125,7 +150,13 @@ fn wrong_with(
     fault: ServeFault,
 ) -> Result<String, AllocError> {
     match fault {
+        ServeFault::Kind(ServeKey::LinkRemote(_)) if has_entries(document, value) => {
+            must_be(alloc, value, TEXT_OR_TEXTS)
+        }
         ServeFault::Kind(_) => must_be(alloc, value, row.kind),
+        ServeFault::Range(ServeKey::LinkRemote(_)) if value.as_array().is_some() => {
+            must_be(alloc, value, PEER_ADDRESSES)
+        }
         ServeFault::Range(ServeKey::Console) if names_path(value) => {
             must_be(alloc, value, SOCKET_PATH)
         }
@@ -153,17 +184,23 @@ fn twice(document: &Table, key: ServeKey) -> &'static str {
         | ServeKey::LinkRemote(i)
         | ServeKey::LinkSctpPort(i)
         | ServeKey::LinkRemoteSctpPort(i)
-        | ServeKey::LinkTries(i) => beside(document, i),
+        | ServeKey::LinkTries(i)
+        | ServeKey::LinkRemotePortFixed(i)
+        | ServeKey::LinkAddresses(i) => beside(document, i, key),
         _ => TAKEN_BY_CONSOLE,
     }
 }
 
 /// What is wrong with a key of link `i`, by what else the link has.
-fn beside(document: &Table, i: usize) -> &'static str {
+fn beside(document: &Table, i: usize, key: ServeKey) -> &'static str {
     if has_value(document, ServeKey::LinkListen(i)) {
         LISTENS
     } else if has_value(document, ServeKey::LinkConnect(i)) {
         CONNECTS
+    } else if matches!(key, ServeKey::LinkAddresses(_)) {
+        SAME_ADDRESS
+    } else if is_list(document, key) {
+        SAME_HOST
     } else {
         SAME_PEER
     }
@@ -171,6 +208,18 @@ fn beside(document: &Table, i: usize) -> &'static str {
 
 fn has_value(document: &Table, key: ServeKey) -> bool {
     value_at(document, &key_row(key)).is_some()
+}
+
+fn is_list(document: &Table, key: ServeKey) -> bool {
+    match value_at(document, &key_row(key)) {
+        Some(value) => value.as_array().is_some(),
+        None => false,
+    }
+}
+
+/// Whether a value is a list, in a file in which `remote` may be one.
+fn has_entries(document: &Table, value: &Value) -> bool {
+    value.as_array().is_some() && has_fourth(document)
 }
 
 /// Whether a value is a text that names a Unix socket.

@@ -5,7 +5,7 @@ ghost use Rattle.std.specs.Option.{option_map};
 ghost use Rattle.settings_file.specs.Consoles.{place_of};
 ghost use Rattle.settings_file.specs.Endpoints.{listens_on, has_same_peer, have_source};
 
-use crate::serve::address::is_same_host;
+use crate::serve::capture::CaptureLimits;
 use crate::serve::console_place::{ConsolePlace, KeptPlace};
 use crate::serve::sctp::{Remote, SctpTimes};
 use point_format::PointFormat;
@@ -34,14 +34,14 @@ impl Endpoint {
         }
     }
 
-    /// Whether datagrams of this peer would be taken for those of the link: they come from the same
+    /// Whether datagrams of this peer would be taken for those of the link: they may come from the same
     /// host, between the same SCTP ports.
-    pub(crate) fn has_peer(self, remote: Remote) -> bool
-        ensures { result ≡ has_same_peer remote self }
+    pub(crate) fn has_peer(self, remote: &Remote) -> bool
+        ensures { result ≡ has_same_peer remote.now self }
     {
         match self {
             Endpoint::Remote(other) => {
-                is_same_host(remote.address, other.address)
+                remote.shares_host(&other)
                     && remote.own_port == other.own_port
                     && remote.far_port == other.far_port
             }
@@ -61,14 +61,15 @@ pub(crate) struct OwnAddresses {
     pub(crate) udp: Option<SocketAddr>,
 }
 
-/// The settings of a server: the length of a tick, where its console is, the capture file, how it shows point
-/// codes, where its datagrams go out and with which times, where its status page is, and how the association of each
+/// The settings of a server: the length of a tick, where its console is, the capture and the limits of its
+/// files, how it shows point codes, where its datagrams go out and with which times, where its status page is, and how the association of each
 /// link comes about.
 #[derive(Drop)]
 pub struct ServeSettings {
     pub(crate) tick_ms: u16,
     pub(crate) console: Option<KeptPlace>,
     pub(crate) capture: Option<String>,
+    pub(crate) capture_limits: Option<CaptureLimits>,
     pub(crate) points: PointFormat,
     pub(crate) udp: Option<SocketAddr>,
     pub(crate) sctp: SctpTimes,
@@ -115,6 +116,13 @@ impl ServeSettings {
         ensures { option_map (λ file. file.now) result ≡ self.now.capture }
     {
         self.capture.as_deref()
+    }
+
+    /// The limits of the files that the capture goes into, if they are a ring.
+    pub fn capture_limits(&self) -> Option<CaptureLimits>
+        ensures { result ≡ self.now.capture_limits }
+    {
+        self.capture_limits
     }
 
     /// How point codes are read and shown.

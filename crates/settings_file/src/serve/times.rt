@@ -6,7 +6,7 @@ ghost use Rattle.toml.specs.View.{view, table_view};
 ghost use Rattle.settings_file.specs.Faults.{Answers};
 ghost use Rattle.settings_file.specs.ServeKeys.{found_at};
 ghost use Rattle.settings_file.specs.Keyed.{number_in};
-ghost use Rattle.settings_file.specs.Times.{AreWithin, number_at, timeout_at, tries_at, heartbeat_at, ordered, times_in, sctp_at, times_at};
+ghost use Rattle.settings_file.specs.Times.{AreWithin, usual_times, number_at, timeout_at, tries_at, heartbeat_at, ordered, times_in, sctp_at, times_at};
 
 use crate::serve::fault::ServeFault;
 use crate::serve::key::ServeKey;
@@ -29,15 +29,35 @@ const SHORTEST_HEARTBEAT: u32 = 100;
 /// The longest time between heartbeats, in milliseconds.
 const LONGEST_HEARTBEAT: u32 = 600_000;
 
-/// The times and tries if a file says nothing of them.
+/// The initial and the shortest timeout if a file before version 4 says nothing of them, in milliseconds.
+const FORMER_INITIAL: u32 = 300;
+
+const FORMER_LEAST: u32 = 100;
+
+/// The times and tries if a file says nothing of them, from version 4 on.
 const USUAL: SctpTimes = SctpTimes {
-    rto_initial_ms: 300,
-    rto_min_ms: 100,
+    rto_initial_ms: 400,
+    rto_min_ms: 400,
     rto_max_ms: 1_000,
     init_tries: 8,
     retransmissions: 10,
     heartbeat_ms: 5_000,
 };
+
+/// The times and tries if a file says nothing of them.
+fn usual_times(is_fourth: bool) -> SctpTimes
+    ensures value { result ≡ usual_times is_fourth }
+    ensures within { AreWithin result }
+{
+    if is_fourth {
+        return USUAL;
+    }
+    SctpTimes {
+        rto_initial_ms: FORMER_INITIAL,
+        rto_min_ms: FORMER_LEAST,
+        ..USUAL
+    }
+}
 
 /// What a number must be, and what it is if its key is left out.
 #[derive(Clone, Copy)]
@@ -82,15 +102,17 @@ fn tries(table: Option<&Table>, key: ServeKey, usual: u32) -> Result<u32, ServeF
 }
 
 /// The time between heartbeats of the table `sctp`, in milliseconds.
-fn heartbeat(table: Option<&Table>) -> Result<u32, ServeFault>
-    ensures value { result ≡ heartbeat_at (option_map (λ table. table_view table.now) table.entry) }
+fn heartbeat(table: Option<&Table>, usual: u32) -> Result<u32, ServeFault>
+    requires above { 100 ≤ usual }
+    requires below { usual ≤ 600000 }
+    ensures value { result ≡ heartbeat_at usual (option_map (λ table. table_view table.now) table.entry) }
     ensures above { IfOk result (λ time. 100 ≤ time) }
     ensures below { IfOk result (λ time. time ≤ 600000) }
 {
     let limits = Limits {
         least: SHORTEST_HEARTBEAT,
         most: LONGEST_HEARTBEAT,
-        usual: USUAL.heartbeat_ms,
+        usual,
     };
     number(table, ServeKey::HeartbeatMs, limits)
 }
@@ -149,18 +171,17 @@ fn ordered(times: SctpTimes) -> Result<SctpTimes, ServeFault>
 
 /// The times and tries that the table `sctp` says.
 #[tactic(auto, unfolding(crate::specs::Times::times_in))]
-fn times_in(table: Option<&Table>) -> Result<SctpTimes, ServeFault>
-    ensures value { result ≡ times_in (option_map (λ table. table_view table.now) table.entry) }
+fn times_in(table: Option<&Table>, usual: SctpTimes) -> Result<SctpTimes, ServeFault>
+    requires usual { AreWithin usual }
+    ensures value { result ≡ times_in usual (option_map (λ table. table_view table.now) table.entry) }
     ensures within { IfOk result AreWithin }
 {
-    let usual = USUAL.rto_initial_ms;
-    let rto_initial_ms = timeout(table, ServeKey::RtoInitialMs, usual)?;
-    let rto_min_ms = timeout(table, ServeKey::RtoMinMs, USUAL.rto_min_ms)?;
-    let rto_max_ms = timeout(table, ServeKey::RtoMaxMs, USUAL.rto_max_ms)?;
-    let init_tries = tries(table, ServeKey::InitTries, USUAL.init_tries)?;
-    let usual = USUAL.retransmissions;
-    let retransmissions = tries(table, ServeKey::Retransmissions, usual)?;
-    let heartbeat_ms = heartbeat(table)?;
+    let rto_initial_ms = timeout(table, ServeKey::RtoInitialMs, usual.rto_initial_ms)?;
+    let rto_min_ms = timeout(table, ServeKey::RtoMinMs, usual.rto_min_ms)?;
+    let rto_max_ms = timeout(table, ServeKey::RtoMaxMs, usual.rto_max_ms)?;
+    let init_tries = tries(table, ServeKey::InitTries, usual.init_tries)?;
+    let retransmissions = tries(table, ServeKey::Retransmissions, usual.retransmissions)?;
+    let heartbeat_ms = heartbeat(table, usual.heartbeat_ms)?;
     let times = SctpTimes {
         rto_initial_ms,
         rto_min_ms,
@@ -185,10 +206,10 @@ fn sctp_in(serve: &Table) -> Result<Option<&Table>, ServeFault>
 
 /// The times and tries of associations.
 #[tactic(auto, unfolding(crate::specs::Times::times_at))]
-pub(crate) fn times(serve: &Table) -> Result<SctpTimes, ServeFault>
-    ensures value { result ≡ times_at (table_view serve.now) }
+pub(crate) fn times(serve: &Table, is_fourth: bool) -> Result<SctpTimes, ServeFault>
+    ensures value { result ≡ times_at is_fourth (table_view serve.now) }
     ensures within { IfOk result AreWithin }
 {
     let sctp = sctp_in(serve)?;
-    times_in(sctp)
+    times_in(sctp, usual_times(is_fourth))
 }

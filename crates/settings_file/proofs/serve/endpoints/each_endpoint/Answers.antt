@@ -10,7 +10,7 @@ pub loop-i-preserved : goal.loop-i-preserved
 loop-i-preserved c = (
   λ s.
       let said = rw c.as_slice.ensures.value at (c.in_ok-endpoint.ensures.value s) in
-      link-next s c.args.own c.args.values.now c.loop-i.i _ _ (c.loop-i.invariant.0 s)
+      link-next s c.args.own c.args.is_fourth c.args.values.now c.loop-i.i _ _ (c.loop-i.invariant.0 s)
       c.index-values-i.result _ _ c.loop-i-test.true c.index-values-i.is said c.in_ok-push.ensures.items,
   rw c.in_ok-push.ensures.items (one-link c.args.own.udp c.loop-i.endpoints.items c.in_ok-endpoint.endpoint c.loop-i.invariant.1 c.in_ok-endpoint.ensures.source),
 )
@@ -20,7 +20,7 @@ returns-in_err-endpoint-clause-value c =
     let p = err_from_is_err_and c.from_residual-in_err-endpoint.result c.from_residual-in_err-endpoint.ensures.1 in
     rw (p.1, p.2) (λ s.
     let said = rw c.as_slice.ensures.value at (c.in_err-endpoint.ensures.value s) in
-    inr (link-fault s c.args.own c.args.values.now c.loop-i.i _ _ (c.loop-i.invariant.0 s)
+    inr (link-fault s c.args.own c.args.is_fourth c.args.values.now c.loop-i.i _ _ (c.loop-i.invariant.0 s)
     c.index-values-i.result _ c.loop-i-test.true c.index-values-i.is said))
 
 pub returns-in_err-push-clause-value : goal.returns-in_err-push-clause-value
@@ -34,7 +34,7 @@ returns-in_err-endpoints-clause-value c =
     rw p.1 (λ s. inl p.2)
 
 pub returns-clause-value : goal.returns-clause-value
-returns-clause-value c = λ s. link-all s c.args.own c.args.values.now c.loop-i.i _ _ (c.loop-i.invariant.0 s) c.loop-i-test.false
+returns-clause-value c = λ s. link-all s c.args.own c.args.is_fourth c.args.values.now c.loop-i.i _ _ (c.loop-i.invariant.0 s) c.loop-i-test.false
 
 pub returns-clause-source : goal.returns-clause-source
 returns-clause-source c = c.loop-i.invariant.1

@@ -5,5 +5,5 @@ use Rattle.settings_file.proofs.serve.endpoints.each_endpoint.Given as goal
 
 abbrev pub invariant-loop-i : goal.invariant-loop-i
 invariant-loop-i l =
-    ((s : Spelling) → endpoints_behind s l.own l.endpoints.items (map view (drop l.i l.values)) ≡ endpoints_behind s l.own [] (map view l.values))
+    ((s : Spelling) → endpoints_behind s l.own l.is_fourth l.endpoints.items (map view (drop l.i l.values)) ≡ endpoints_behind s l.own l.is_fourth [] (map view l.values))
     × (have_source l.own.udp l.endpoints.items ≡ true)
