@@ -12,10 +12,11 @@ use crate::folder::Folder;
 use crate::program::Status;
 use crate::settings_files::{document_of, settings_in};
 use script::Sink;
+use served_node::OneLine;
 use settings::Settings;
 use settings_file::serve::{ConsolePlace, ServeSettings, read_server};
 use std::alloc::{AllocError, Global};
-use stp_server::{OpenFault, ServeFailure};
+use stp_server::{CaptureFault, OpenFault, ServeFailure};
 use toml::Table;
 
 /// Serves a node with the settings of a file until it is stopped. Faults are found in this order: the file, the
@@ -67,7 +68,7 @@ fn serve_checked<W: Sink, E: Sink>(
     errors: &mut E,
 ) -> Status {
     match read_server(rt.alloc(), document) {
-        Ok(serve) => serve_with(rt, settings, &serve, writer, errors),
+        Ok(serve) => serve_with(rt, settings, &serve, file, writer, errors),
         Err(fault) => {
             drop(settings);
             tell_server_fault(rt.alloc(), file, document, fault, writer, errors)
@@ -75,15 +76,16 @@ fn serve_checked<W: Sink, E: Sink>(
     }
 }
 
-/// Serves a node with these settings.
+/// Serves a node with these settings of a file.
 fn serve_with<W: Sink, E: Sink>(
     rt: &HostRuntime,
     settings: Settings,
     serve: &ServeSettings,
+    file: &str,
     writer: &mut W,
     errors: &mut E,
 ) -> Status {
-    match stp_server::serve(rt, settings, serve, writer) {
+    match stp_server::serve(rt, settings, serve, file, writer) {
         Ok(()) => Status::Done,
         Err(failure) => tell_failure(rt.alloc(), failure, serve, writer, errors),
     }
@@ -97,7 +99,9 @@ fn tell_failure<W: Sink, E: Sink>(
     writer: &mut W,
     errors: &mut E,
 ) -> Status {
-    if let ServeFailure::Open(OpenFault::NoMemory) = failure {
+    if let ServeFailure::Open(OpenFault::NoMemory)
+    | ServeFailure::Capture(CaptureFault::NoMemory) = failure
+    {
         return tell_no_memory(writer);
     }
     tell_made(failure_sentence(alloc, failure, serve), errors);
@@ -113,10 +117,26 @@ fn failure_sentence(
     match failure {
         ServeFailure::Open(fault) => open_sentence(alloc, fault, serve),
         ServeFailure::System => String::from_str(alloc, NO_POLL),
-        ServeFailure::Capture => {
-            let file = serve.capture().unwrap_or("");
-            format!(in alloc; "{file}: the capture file can't be made\n")
+        ServeFailure::Capture(fault) => {
+            let (file, why) = (
+                OneLine(serve.capture().unwrap_or("")),
+                capture_phrase(fault),
+            );
+            format!(in alloc; "{file}: {why}\n")
         }
+    }
+}
+
+/// Why a capture can't go where it is to go.
+fn capture_phrase(fault: CaptureFault) -> &'static str {
+    match fault {
+        CaptureFault::Link => "a symbolic link is there, and a capture follows none",
+        CaptureFault::Pipe => "a pipe is there, and a capture needs a file",
+        CaptureFault::Folder => "a folder is there, and a capture needs a file",
+        CaptureFault::Other =>
+            "a socket, a disk or a terminal is there, and a capture needs a file",
+        CaptureFault::Settings => "the capture would overwrite the settings",
+        CaptureFault::Unmade | CaptureFault::NoMemory => "the capture file can't be made",
     }
 }
 

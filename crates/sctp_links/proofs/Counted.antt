@@ -1,9 +1,11 @@
 -- One thing more that passes a gate, counted.
-use Rattle.std.proofs.Common.{◌≡◌, ◌∙◌, ℕ, List, [], ◌∷◌, ◌++◌, refl, ap, append-nil}
+use Rattle.std.proofs.Common.{◌≡◌, ◌∙◌, ℕ, List, [], ◌∷◌, ◌++◌, Option, Some, None, refl, ap, append-nil}
 use Rattle.sctp_bundling.specs.Watching.{Sent}
 use Rattle.sctp_gate.specs.Watching.{Sight, Rose, CameIn, Dropped, Fell, Failed, WentOut}
 use Rattle.served_link.specs.Counting.{NodeCounters, DatagramWent, counted_datagram}
-use Rattle.sctp_links.specs.Counting.{counted_by, counted_sent, counted_sight, counted_sights}
+use Rattle.sctp_links.specs.Counting.{counted_by, counted_failure, counted_sent, counted_sight, counted_sights}
+use Rattle.sctp_links.specs.Setbacks.{failed_by}
+use Rattle.served_link.specs.declared.setback.Setback.{Setback}
 
 sights-more : (link : ℕ) (seen : List Sight) (sight : Sight) (c : NodeCounters) →
     counted_sights link (seen ++ sight ∷ []) c ≡ counted_sight link sight (counted_sights link seen c)
@@ -15,6 +17,12 @@ sent-more : (sent : List Sent) (one : Sent) (c : NodeCounters) →
 sent-more [] one c = refl
 sent-more (first ∷ sent) one c = sent-more sent one (counted_datagram DatagramWent c)
 
+joined-failure : (link : ℕ) (setback : Option Setback) (c d : NodeCounters) →
+    counted_failure link setback (record { links = c.links; datagrams = d.datagrams })
+    ≡ record { links = (counted_failure link setback c).links; datagrams = d.datagrams }
+joined-failure link None c d = refl
+joined-failure link (Some setback) c d = refl
+
 -- a sight changes nothing of datagrams, and nothing by them
 joined : (link : ℕ) (sight : Sight) (c d : NodeCounters) →
     counted_sight link sight (record { links = c.links; datagrams = d.datagrams })
@@ -23,7 +31,7 @@ joined link Rose c d = refl
 joined link (CameIn frame outcome) c d = refl
 joined link (Dropped message) c d = refl
 joined link (Fell why) c d = refl
-joined link (Failed why) c d = refl
+joined link (Failed why) c d = joined-failure link (failed_by why) c d
 joined link (WentOut frame) c d = refl
 
 -- one datagram more

@@ -1,1 +1,5 @@
+pub mod Allowances
+pub mod AmongLinks
 pub mod Counted
+pub mod GivenAddresses
+pub mod Heard

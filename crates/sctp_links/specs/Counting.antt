@@ -1,16 +1,23 @@
 -- What passes the gate of a link, counted.
-use Rattle.std.specs.Prelude.{ℕ, List, [], ◌∷◌}
+use Rattle.std.specs.Prelude.{ℕ, List, [], ◌∷◌, Option, Some, None}
 use Rattle.sctp_bundling.specs.Watching.{Sent}
 use Rattle.sctp_gate.specs.Watching.{Sight, Rose, CameIn, Dropped, Fell, Failed, WentOut}
-use Rattle.served_link.specs.Counting.{NodeCounters, DatagramWent, came, counted_at, counted_datagram, went}
+use Rattle.served_link.specs.Counting.{NodeCounters, DatagramWent, WasSetBack, came, counted_at, counted_datagram, went}
+use Rattle.served_link.specs.declared.setback.Setback.{Setback}
+use Rattle.sctp_links.specs.Setbacks.{failed_by}
 
--- frames that came in and went out are counted for the link, as over TCP
+-- a try that failed is counted for the link
+abbrev pub counted_failure : (link : ℕ) → Option Setback → NodeCounters → NodeCounters
+counted_failure link None c = c
+counted_failure link (Some setback) c = counted_at link (WasSetBack setback) c
+
+-- and so are frames that came in and went out, as over TCP
 abbrev pub counted_sight : (link : ℕ) → Sight → NodeCounters → NodeCounters
 counted_sight link Rose c = c
 counted_sight link (CameIn frame outcome) c = counted_at link (came frame outcome) c
 counted_sight link (Dropped message) c = c
 counted_sight link (Fell why) c = c
-counted_sight link (Failed why) c = c
+counted_sight link (Failed why) c = counted_failure link (failed_by why) c
 counted_sight link (WentOut frame) c = counted_at link (went frame) c
 
 abbrev pub counted_sights : (link : ℕ) → List Sight → NodeCounters → NodeCounters

@@ -1,3 +1,4 @@
+pub mod Allowances
 pub mod Calls
 pub mod Counting
 pub mod EndpointSettings
@@ -5,4 +6,7 @@ pub mod Hosts
 pub mod Links
 pub mod Losses
 pub mod Peers
+pub mod Refusals
+pub mod Screening
+pub mod Setbacks
 pub mod Times

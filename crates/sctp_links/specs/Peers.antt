@@ -1,5 +1,5 @@
 -- Which link a datagram is for.
-use Rattle.std.specs.Prelude.{ℕ, ◌&&◌, Bool, List, [], ◌∷◌, Option, None, Some, bytes_eq, nat_eq, position}
+use Rattle.std.specs.Prelude.{ℕ, ◌&&◌, ◌||◌, Bool, false, List, [], ◌∷◌, Option, None, Some, bytes_eq, nat_eq, position}
 use Rattle.std.specs.Int.{w16, from_be_bytes}
 use Rattle.sctp_links.specs.declared.peers.Peer.{Peer}
 use Rattle.sctp_links.specs.declared.peers.Ports.{Ports}
@@ -15,10 +15,17 @@ ports_in (a ∷ b ∷ c ∷ d ∷ rest) = Some (record {
   destination = from_be_bytes w16 (c ∷ d ∷ []);
 })
 
--- what comes from this host with these ports is of this link. The UDP port may be any (RFC 6951 §5.4)
+-- a host is one of these, which are kept from the front on
+abbrev pub is_among : (host : List ℕ) → List (Option (List ℕ)) → Bool
+is_among host [] = false
+is_among host (None ∷ places) = false
+is_among host (Some other ∷ places) = bytes_eq other host || is_among host places
+
+-- what comes from a host of the peer with these ports is of this link. The UDP port may be any (RFC 6951 §5.4)
 abbrev pub is_of : (host : List ℕ) → Ports → Peer → Bool
 is_of host ports peer =
-    bytes_eq peer.host host && (nat_eq peer.far_port ports.source && nat_eq peer.own_port ports.destination)
+    nat_eq peer.far_port ports.source && (nat_eq peer.own_port ports.destination
+    && (bytes_eq peer.host host || is_among host peer.others))
 
 abbrev pub place_by : List Peer → (host : List ℕ) → Option Ports → Option ℕ
 place_by peers host None = None

@@ -6,12 +6,15 @@ ghost use Rattle.exchange.specs.KeptQueues.{kept};
 ghost use Rattle.sctp_bundling.specs.Watching.{sent_as};
 ghost use Rattle.served_link.specs.Counting.{NodeCounters};
 ghost use Rattle.sctp_gate.specs.Making.{Makes};
+ghost use Rattle.sctp_links.specs.Allowances.{full};
 ghost use Rattle.sctp_links.specs.Calls.{called};
 ghost use Rattle.sctp_links.specs.Counting.{counted_by};
 ghost use Rattle.sctp_links.specs.Times.{millis_of};
 ghost use Rattle.sctp_gate.specs.Gates.{due};
 
+use crate::allowance::Allowance;
 use crate::observer::{Datagrams, GateObserver, Origin};
+use crate::refusals::Refusals;
 use crate::times::millis;
 use exchange::Exchange;
 use script::Sink;
@@ -20,6 +23,7 @@ use sctp_gate::Gate;
 use served_link::Watch;
 use served_node::{Log, Node, Observers};
 use settings::FailureReason;
+use settings_file::serve::Remote;
 use std::marker::{Brand, Model, PhantomData};
 use std::net::SocketAddr;
 use std::time::Duration;
@@ -42,30 +46,39 @@ pub(crate) enum GateCall<'a> {
 /// A link over SCTP.
 #[derive(Drop)]
 pub(crate) struct SctpLink {
-    /// Where its peer is, as the settings say.
-    address: SocketAddr,
-    gate: Gate,
+    pub(crate) gate: Gate,
+    /// Its peer, as the settings say.
+    pub(crate) remote: Remote,
+    pub(crate) allowance: Allowance,
+    /// What was refused since the last line of the log.
+    pub(crate) refusals: Refusals,
 }
 
-// Where its peer is, is only for the log.
+// What is left for the next line of the log isn't part of it.
 impl Model for SctpLink {
-    ghost use Rattle.sctp_gate.specs.Gates.{Gate};
+    ghost use Rattle.sctp_links.specs.Links.{Link};
 
-    ghost Value = { Gate };
+    ghost Value = { Link };
 
-    ghost view = { λ l. l.gate };
+    ghost view = { λ l. record { gate = l.gate; remote = l.remote; allowance = l.allowance } };
 }
 
 impl SctpLink {
-    pub(crate) fn new(address: SocketAddr, gate: Gate) -> SctpLink
-        ensures { result ≡ gate }
+    /// The link to a peer, by this gate.
+    pub(crate) fn new(remote: &Remote, gate: Gate) -> SctpLink
+        ensures { result ≡ record { gate = gate; remote = remote.now; allowance = full } }
     {
-        SctpLink { address, gate }
+        SctpLink {
+            gate,
+            remote: *remote,
+            allowance: Allowance::new(),
+            refusals: Refusals::new(remote.address),
+        }
     }
 
     /// When a call of its gate is due, in milliseconds.
     pub(crate) fn deadline(&self) -> Option<u64>
-        ensures { result ≡ due self.now }
+        ensures { result ≡ due self.now.gate }
     {
         self.gate.deadline()
     }
@@ -79,9 +92,11 @@ impl SctpLink {
         log: &mut Log<'_, W>,
         user: &mut U,
     )
-        ensures gate { self.new ≡ (called kept what.entry (millis_of log.old.now) self.old node.old.exchange).gate }
+        ensures gate { self.new ≡ record self.old {
+          gate = (called kept what.entry (millis_of log.old.now) self.old.gate node.old.exchange).gate;
+        } }
         ensures exchange { node.new.exchange
-            ≡ (called kept what.entry (millis_of log.old.now) self.old node.old.exchange).exchange }
+            ≡ (called kept what.entry (millis_of log.old.now) self.old.gate node.old.exchange).exchange }
     {
         let was_up = self.gate.standing().is_up;
         self.perform(what, log.now, node, datagrams, log.sink, user);
@@ -101,15 +116,18 @@ impl SctpLink {
         sink: &mut W,
         user: &mut U,
     )
-        ensures gate { self.new ≡ (called kept what.entry (millis_of time) self.old node.old.exchange).gate }
-        ensures exchange { node.new.exchange ≡ (called kept what.entry (millis_of time) self.old node.old.exchange).exchange }
-        ensures counters { node.new.observers.counters ≡ counted_by self.old.link
-            (map sent_as (called kept what.entry (millis_of time) self.old node.old.exchange).sent)
-            (called kept what.entry (millis_of time) self.old node.old.exchange).seen node.old.observers.counters }
+        ensures gate { self.new ≡ record self.old {
+          gate = (called kept what.entry (millis_of time) self.old.gate node.old.exchange).gate;
+        } }
+        ensures exchange { node.new.exchange
+            ≡ (called kept what.entry (millis_of time) self.old.gate node.old.exchange).exchange }
+        ensures counters { node.new.observers.counters ≡ counted_by self.old.gate.link
+            (map sent_as (called kept what.entry (millis_of time) self.old.gate node.old.exchange).sent)
+            (called kept what.entry (millis_of time) self.old.gate node.old.exchange).seen node.old.observers.counters }
     {
         call_beside(
             &mut self.gate,
-            self.address,
+            self.remote.address,
             what,
             time,
             &mut node.exchange,

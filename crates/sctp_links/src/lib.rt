@@ -2,14 +2,20 @@
 //! counted of what passes, when timers are due, and the rounds over the one socket of the node.
 #![tactic(auto)]
 
+pub mod allowance;
 mod calling;
 pub mod endpoint_settings;
+mod hearing;
 pub mod hosts;
 pub mod keys;
+pub mod laws;
 pub mod links;
 pub mod losing;
 pub mod observer;
 pub mod peers;
+pub mod refusals;
+pub mod screening;
+pub mod setbacks;
 pub mod sockets;
 pub mod times;
 

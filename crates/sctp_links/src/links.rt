@@ -1,9 +1,13 @@
 //! All links over SCTP.
 
-ghost use Rattle.std.specs.Prelude.{◌≡◌, ◌≤◌, None};
+ghost use Rattle.std.specs.Prelude.{◌≡◌, ◌≤◌, ℕ, None, Some, slice_get, slice_set, true};
+ghost use Rattle.exchange.specs.KeptQueues.{kept};
 ghost use Rattle.served_link.specs.Counting.{StrangerCame, counted_datagram};
 ghost use Rattle.sctp_links.specs.Hosts.{address_of};
+ghost use Rattle.sctp_links.specs.Links.{Link};
 ghost use Rattle.sctp_links.specs.Peers.{link_of};
+ghost use Rattle.sctp_links.specs.Screening.{did_at, heard_link, is_left_out, screened};
+ghost use Rattle.sctp_links.specs.Times.{millis_of};
 
 use crate::calling::{GateCall, SctpLink};
 use crate::endpoint_settings::{peer_of, settings_of};
@@ -35,7 +39,7 @@ impl Model for SctpLinks {
 
     ghost Value = { Links };
 
-    ghost view = { λ l. record { peers = l.peers.items; gates = l.links.items } };
+    ghost view = { λ l. record { peers = l.peers.items; links = l.links.items } };
 }
 
 impl SctpLinks {
@@ -63,7 +67,7 @@ impl SctpLinks {
         let settings = settings_of(remote, times);
         let gate = Gate::new(alloc, link, remote.tries, settings, keys.tags, keys.cookies)?;
         self.peers.push(peer_of(remote))?;
-        self.links.push(SctpLink::new(remote.address, gate))?;
+        self.links.push(SctpLink::new(remote, gate))?;
         Ok(())
     }
 
@@ -81,15 +85,24 @@ impl SctpLinks {
         ensures stranger { link_of self.old.peers (address_of source).host octets.now ≡ None
             → (self.new ≡ self.old) × (node.new.exchange ≡ node.old.exchange) × (datagrams.new ≡ datagrams.old)
             × (node.new.observers.counters ≡ counted_datagram StrangerCame node.old.observers.counters) }
+        // Of the links its own alone changes, by what it is: what is left out changes no gate, and nothing goes out.
+        ensures link { (place : ℕ) (l : Link) →
+            link_of self.old.peers (address_of source).host octets.now ≡ Some place → slice_get self.old.links place ≡ Some l
+            → (self.new ≡ record self.old {
+              links = slice_set self.old.links place
+                  (heard_link kept (millis_of log.old.now) octets.now source l node.old.exchange);
+            })
+            × (node.new.exchange ≡ (did_at kept (millis_of log.old.now) octets.now source l node.old.exchange).exchange)
+            × (is_left_out (screened (millis_of log.old.now) octets.now source l) ≡ true
+            → datagrams.new ≡ datagrams.old) }
     {
-        let source = address_of(source);
-        let Some(place) = link_of(&self.peers, &source, octets) else {
+        let Some(place) = link_of(&self.peers, &address_of(source), octets) else {
             node.observers.stranger_came();
             return;
         };
         if let Some(link) = self.links.get_mut(place) {
-            node.observers.datagram_came(octets);
-            link.call(GateCall::Hear(octets, source), node, datagrams, log, user);
+            node.observers.datagram_came(link.gate.link(), octets);
+            link.hear(octets, source, node, datagrams, log, user);
         }
     }
 
@@ -109,6 +122,7 @@ impl SctpLinks {
                 GateCall::Settle
             };
             link.call(call, node, datagrams, log, user);
+            link.tell_refusals(node, log);
         }
     }
 

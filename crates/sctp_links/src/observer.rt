@@ -5,6 +5,7 @@ ghost use Rattle.served_link.specs.Counting.{NodeCounters};
 ghost use Rattle.sctp_links.specs.Counting.{counted_by};
 
 use crate::losing::word_of;
+use crate::setbacks::failed_by;
 use script::Sink;
 use sctp_endpoint::Address;
 use sctp_rules::Loss;
@@ -82,7 +83,7 @@ impl<D: Datagrams, W: Sink, U: Watch, K: Origin> sctp_gate::Watch
         w.observers.now.counters ≡ counted_by K.link sent seen began) };
 
     fn send(&mut self, octets: &[u8], to: &Address) {
-        self.observers.datagram_went(octets);
+        self.observers.datagram_went(self.link, octets);
         self.datagrams.send(octets, to);
     }
 
@@ -106,10 +107,13 @@ impl<D: Datagrams, W: Sink, U: Watch, K: Origin> sctp_gate::Watch
     }
 
     fn failed(&mut self, why: Loss) {
-        if !matches!(why, Loss::Local) {
-            let (name, address) = (self.observers.name(self.link), self.address);
-            tell(self.sink, self.now, &format_args!("fail {name} {address}"));
-        }
+        let Some(setback) = failed_by(why) else {
+            return;
+        };
+        self.observers.was_set_back(self.link, setback);
+        let (name, address) = (self.observers.name(self.link), self.address);
+        let text = format_args!("fail {name} {address} {}", setback.name());
+        tell(self.sink, self.now, &text);
     }
 
     fn went_out(&mut self, frame: &[u8]) {

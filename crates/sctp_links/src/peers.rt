@@ -1,20 +1,46 @@
 //! Which link a datagram is for.
 
-ghost use Rattle.std.specs.Prelude.{◌≡◌, ◌<◌, length, IfSome};
-ghost use Rattle.sctp_links.specs.Peers.{is_of, link_of, ports_in};
+ghost use Rattle.std.specs.Prelude.{◌≡◌, ◌<◌, ◌||◌, bytes_eq, length, IfSome};
+ghost use Rattle.sctp_links.specs.Peers.{is_among, is_of, link_of, ports_in};
 ghost use Rattle.std.specs.Prelude.{position};
 
 use sctp_endpoint::Address;
+use settings_file::serve::sctp::MOST_OTHERS;
 
 /// What the datagrams of a link have: the host that they come from, and the SCTP ports of both ends.
-#[derive(Clone, Copy, PartialEq, Eq)]
+#[derive(Clone, Copy)]
 pub struct Peer {
     /// The host that they come from: of IPv6, or that of IPv4 in the form that IPv6 has for it.
     pub host: [u8; 16],
+    /// The others that they may come from, in the same form, from the front on.
+    pub others: [Option<[u8; 16]>; MOST_OTHERS],
     /// The SCTP port of this end, to which they go.
     pub own_port: u16,
     /// The SCTP port of the peer, from which they come.
     pub far_port: u16,
+}
+
+impl Peer {
+    /// Whether a host is one of the peer's.
+    fn has_host(&self, host: &[u8; 16]) -> bool
+        ensures { result ≡ (bytes_eq self.now.host host.now || is_among host.now self.now.others) }
+    {
+        self.host == *host || is_among(host, &self.others)
+    }
+}
+
+/// Whether a host is one of these, which are kept from the front on.
+fn is_among(host: &[u8; 16], places: &[Option<[u8; 16]>]) -> bool
+    ensures { result ≡ is_among host.now places.now }
+{
+    'each_place: for place in places {
+        match place {
+            Some(other) if other == host => return true,
+            Some(_) => {}
+            None => return false,
+        }
+    }
+    false
 }
 
 /// The SCTP ports of a packet.
@@ -39,8 +65,8 @@ pub fn ports_in(octets: &[u8]) -> Option<Ports>
     }
 }
 
-/// The index of the link that a datagram is for: the first whose peer's host it comes from, and whose SCTP ports it
-/// has. The UDP port may be any (RFC 6951 §5.4). None if it is no link's, or too short to have ports.
+/// The index of the link that a datagram is for: the first one of whose peer's hosts it comes from, and whose SCTP ports
+/// it has. The UDP port may be any (RFC 6951 §5.4). None if it is no link's, or too short to have ports.
 pub fn link_of(peers: &[Peer], source: &Address, octets: &[u8]) -> Option<usize>
     ensures place { result ≡ link_of peers.now source.now.host octets.now }
     ensures fits { IfSome result (λ place. place < length peers.now) }
@@ -57,8 +83,8 @@ fn place_of(peers: &[Peer], source: &Address, ports: Ports) -> Option<usize>
     ensures fits { IfSome result (λ place. place < length peers.now) }
 {
     peers.iter().position(|peer| {
-        peer.host == source.host
-            && peer.far_port == ports.source
+        peer.far_port == ports.source
             && peer.own_port == ports.destination
+            && peer.has_host(&source.host)
     })
 }

@@ -83,6 +83,11 @@ impl SctpSockets {
     {
         self.links.add(alloc, link, remote, times, keys)?;
         log.tell_at("remote", node.observers.name(link), remote.address);
+        for other in remote.others.iter() {
+            if let Some(address) = other {
+                log.tell_at("remote", node.observers.name(link), *address);
+            }
+        }
         Ok(())
     }
 

@@ -8,11 +8,14 @@ use Rattle.signalling_types.specs.declared.cause.Cause.TheVariants.{WrongNetwork
 use Rattle.signalling_types.specs.declared.notice.FailureReason.{FailureReason}
 use Rattle.signalling_types.specs.declared.notice.FailureReason.TheVariants.{Association}
 use Rattle.signalling_types.specs.declared.outcome.Outcome.TheVariants.{Queued, Held, Local, Refused}
-use Rattle.served_link.specs.Counting.{Counted, FrameCame, FrameWent, Failure, Retry, reason_number, saturated, no_counts, one_more_at, counted, row_counted_at, row_at, value_of}
+use Rattle.served_link.specs.Counting.{Counted, FrameCame, FrameWent, Failure, Retry, WasSetBack, reason_number, setback_number, saturated, no_counts, one_more_at, counted, row_counted_at, row_at, value_of}
 use Rattle.served_link.specs.Laws.{one_if, frame_adds, adds, counted_each, counted_all, adds_of}
 use Rattle.served_link.specs.declared.counter.TheConstants.{CAUSES, REASONS}
+use Rattle.served_link.specs.declared.setback.TheConstants.{SETBACKS}
+use Rattle.served_link.specs.declared.setback.Setback.{Setback}
+use Rattle.served_link.specs.declared.setback.Setback.TheVariants.{OtherPort}
 use Rattle.served_link.specs.declared.counter.Counter.{Counter}
-use Rattle.served_link.specs.declared.counter.Counter.TheVariants.{FramesIn, OctetsIn, FramesOut, OctetsOut, Forwarded, Delivered, Refused as RefusedBy, Failed, Retries}
+use Rattle.served_link.specs.declared.counter.Counter.TheVariants.{FramesIn, OctetsIn, FramesOut, OctetsOut, Forwarded, Delivered, Refused as RefusedBy, Failed, Retries, Setbacks}
 use Rattle.served_link.specs.declared.row.LinkCounters.{LinkCounters}
 
 -- ---- numbers
@@ -30,6 +33,10 @@ cause-fits cause = (omega arith, omega arith)
 reason-fits : (reason : FailureReason) → reason_number reason < REASONS
 reason-fits Association = omega arith
 reason-fits reason = omega arith
+
+setback-fits : (setback : Setback) → setback_number setback < SETBACKS
+setback-fits OtherPort = omega arith
+setback-fits setback = omega arith
 
 -- ---- counts in a list
 
@@ -56,19 +63,21 @@ cause-test a b =
 record IsRow (row : LinkCounters) : Type 0 where
   refused : length row.refused ≡ CAUSES
   failed : length row.failed ≡ REASONS
+  setbacks : length row.setbacks ≡ SETBACKS
 
 first-row : IsRow no_counts
-first-row = record { refused = length-replicate {A = ℕ} CAUSES 0; failed = length-replicate {A = ℕ} REASONS 0 }
+first-row = record { refused = length-replicate {A = ℕ} CAUSES 0; failed = length-replicate {A = ℕ} REASONS 0; setbacks = length-replicate {A = ℕ} SETBACKS 0 }
 
 frame-kept : (octets : ℕ) (user : Bool) (outcome : Outcome) (row : LinkCounters) → IsRow row → IsRow (counted (FrameCame octets user outcome) row)
-frame-kept octets user (Refused cause) row h = record { refused = length-set row.refused _ _ ∙ h.refused; failed = h.failed }
-frame-kept octets user outcome row h = record { refused = h.refused; failed = h.failed }
+frame-kept octets user (Refused cause) row h = record { refused = length-set row.refused _ _ ∙ h.refused; failed = h.failed; setbacks = h.setbacks }
+frame-kept octets user outcome row h = record { refused = h.refused; failed = h.failed; setbacks = h.setbacks }
 
 row-kept : (what : Counted) (row : LinkCounters) → IsRow row → IsRow (counted what row)
 row-kept (FrameCame octets user outcome) row h = frame-kept octets user outcome row h
-row-kept (FrameWent octets) row h = record { refused = h.refused; failed = h.failed }
-row-kept (Failure reason) row h = record { refused = h.refused; failed = length-set row.failed _ _ ∙ h.failed }
-row-kept Retry row h = record { refused = h.refused; failed = h.failed }
+row-kept (FrameWent octets) row h = record { refused = h.refused; failed = h.failed; setbacks = h.setbacks }
+row-kept (Failure reason) row h = record { refused = h.refused; failed = length-set row.failed _ _ ∙ h.failed; setbacks = h.setbacks }
+row-kept Retry row h = record { refused = h.refused; failed = h.failed; setbacks = h.setbacks }
+row-kept (WasSetBack setback) row h = record { refused = h.refused; failed = h.failed; setbacks = length-set row.setbacks _ _ ∙ h.setbacks }
 
 frame-adds : (counter : Counter) (octets : ℕ) (user : Bool) (outcome : Outcome) (row : LinkCounters) (s : ℕ) → IsRow row → value_of counter row ≡ saturated s
     → value_of counter (counted (FrameCame octets user outcome) row) ≡ saturated (s + frame_adds counter octets user outcome)
@@ -95,6 +104,8 @@ frame-adds (Failed reason) octets user (Queued link) row s h e = stays (slice_in
 frame-adds (Failed reason) octets user outcome row s h e = stays (slice_index row.failed (reason_number reason)) s e
 frame-adds Retries octets user (Queued link) row s h e = stays row.retries s e
 frame-adds Retries octets user outcome row s h e = stays row.retries s e
+frame-adds (Setbacks setback) octets user (Queued link) row s h e = stays (slice_index row.setbacks (setback_number setback)) s e
+frame-adds (Setbacks setback) octets user outcome row s h e = stays (slice_index row.setbacks (setback_number setback)) s e
 
 one-adds : (counter : Counter) (what : Counted) (row : LinkCounters) (s : ℕ) → IsRow row → value_of counter row ≡ saturated s
     → value_of counter (counted what row) ≡ saturated (s + adds counter what)
@@ -108,12 +119,17 @@ one-adds (Failed reason) (Failure other) row s h e =
 one-adds counter (Failure other) row s h e = stays (value_of counter row) s e
 one-adds Retries Retry row s h e = more row.retries s 1 e
 one-adds counter Retry row s h e = stays (value_of counter row) s e
+one-adds (Setbacks setback) (WasSetBack other) row s h e =
+    at-place row.setbacks (setback_number other) (setback_number setback) s (setback_number other == setback_number setback) (eqb_tells (setback_number other) (setback_number setback))
+    (omega (arith, h.setbacks, setback-fits other)) e
+one-adds counter (WasSetBack other) row s h e = stays (value_of counter row) s e
 
 -- ---- of one link
 
 first-value : (counter : Counter) → value_of counter no_counts ≡ saturated 0
 first-value (RefusedBy cause) = get_or-replicate CAUSES (cause_number cause - 1) 0 0 (omega (arith, (cause-fits cause).0, (cause-fits cause).1))
 first-value (Failed reason) = get_or-replicate REASONS (reason_number reason) 0 0 (reason-fits reason)
+first-value (Setbacks setback) = get_or-replicate SETBACKS (setback_number setback) 0 0 (setback-fits setback)
 first-value counter = refl
 
 each-adds : (counter : Counter) (whats : List Counted) (row : LinkCounters) (s : ℕ) → IsRow row → value_of counter row ≡ saturated s

@@ -13,8 +13,14 @@ use Rattle.served_link.specs.declared.counter.TheConstants.{CAUSES, REASONS}
 use Rattle.served_link.specs.declared.counter.Counter.{Counter}
 use Rattle.served_link.specs.declared.counter.Counter.TheVariants.{FramesIn, OctetsIn, FramesOut, OctetsOut}
 use Rattle.served_link.specs.declared.counter.Counter.TheVariants.{Forwarded, Delivered, Refused as RefusedBy}
-use Rattle.served_link.specs.declared.counter.Counter.TheVariants.{Failed, Retries}
+use Rattle.served_link.specs.declared.counter.Counter.TheVariants.{Failed, Retries, Setbacks}
 use Rattle.served_link.specs.declared.row.LinkCounters.{LinkCounters}
+use Rattle.served_link.specs.declared.setback.TheConstants.{SETBACKS}
+use Rattle.served_link.specs.declared.setback.Setback.{Setback}
+use Rattle.served_link.specs.declared.setback.Setback.TheVariants.{OtherPort, TooMany, WithoutTag, HostName}
+use Rattle.served_link.specs.declared.setback.Setback.TheVariants.{FewStreams, Unwanted, NoTagLeft, ShuttingDown}
+use Rattle.served_link.specs.declared.setback.Setback.TheVariants.{WithoutCookie, LongCookie, EndedByPeer}
+use Rattle.served_link.specs.declared.setback.Setback.TheVariants.{Unanswered, BadAnswer, EndedByNode}
 use Rattle.served_link.specs.declared.datagrams.DatagramCounters.{DatagramCounters}
 
 -- what is counted for a link
@@ -27,6 +33,8 @@ pub data Counted : Type 0 where
   Failure : (reason : FailureReason) → Counted
   -- its connection was tried again
   Retry : Counted
+  -- its association over SCTP didn't open
+  WasSetBack : (setback : Setback) → Counted
 
 -- a message is a user's unless it is of network management or of link tests (Q.704 §14.2.1)
 abbrev pub is_users : Option Message → Bool
@@ -55,6 +63,23 @@ reason_number Changeover = 5
 reason_number Operator = 6
 reason_number Test = 7
 
+-- the index of a setback among all
+abbrev pub setback_number : Setback → ℕ
+setback_number OtherPort = 0
+setback_number TooMany = 1
+setback_number WithoutTag = 2
+setback_number HostName = 3
+setback_number FewStreams = 4
+setback_number Unwanted = 5
+setback_number NoTagLeft = 6
+setback_number ShuttingDown = 7
+setback_number WithoutCookie = 8
+setback_number LongCookie = 9
+setback_number EndedByPeer = 10
+setback_number Unanswered = 11
+setback_number BadAnswer = 12
+setback_number EndedByNode = 13
+
 -- a count of 64 bits and this many more, which stays at its greatest value
 abbrev pub saturated : ℕ → ℕ
 saturated n = min n (2 ^ 64 - 1)
@@ -71,6 +96,7 @@ no_counts = record {
   refused = replicate CAUSES 0;
   failed = replicate REASONS 0;
   retries = 0;
+  setbacks = replicate SETBACKS 0;
 }
 
 abbrev pub one_more_at : ℕ → List ℕ → List ℕ
@@ -102,6 +128,7 @@ counted (FrameWent octets) row =
     record row { frames_out = saturated (row.frames_out + 1); octets_out = saturated (row.octets_out + octets) }
 counted (Failure reason) row = record row { failed = one_more_at (reason_number reason) row.failed }
 counted Retry row = record row { retries = saturated (row.retries + 1) }
+counted (WasSetBack setback) row = record row { setbacks = one_more_at (setback_number setback) row.setbacks }
 
 -- the counters of a link, in the counters of all
 abbrev pub row_at : List LinkCounters → ℕ → LinkCounters
@@ -159,3 +186,4 @@ value_of Delivered row = row.delivered
 value_of (RefusedBy cause) row = slice_index row.refused (cause_number cause - 1)
 value_of (Failed reason) row = slice_index row.failed (reason_number reason)
 value_of Retries row = row.retries
+value_of (Setbacks setback) row = slice_index row.setbacks (setback_number setback)

@@ -6,6 +6,45 @@ use Rattle.served_link.specs.declared.datagrams.DatagramCounters.{DatagramCounte
 use Rattle.served_link.specs.declared.counter.Counter.{Counter}
 use Rattle.served_link.specs.declared.counter.Counter.TheVariants.{FramesIn, OctetsIn, FramesOut, OctetsOut}
 use Rattle.served_link.specs.declared.counter.Counter.TheVariants.{Forwarded, Delivered, Refused, Failed, Retries}
+use Rattle.served_link.specs.declared.counter.Counter.TheVariants.{Setbacks}
+use Rattle.served_link.specs.declared.setback.Setback.{Setback}
+use Rattle.served_link.specs.declared.setback.Setback.TheVariants.{OtherPort, TooMany, WithoutTag, HostName}
+use Rattle.served_link.specs.declared.setback.Setback.TheVariants.{FewStreams, Unwanted, NoTagLeft, ShuttingDown}
+use Rattle.served_link.specs.declared.setback.Setback.TheVariants.{WithoutCookie, LongCookie, EndedByPeer}
+use Rattle.served_link.specs.declared.setback.Setback.TheVariants.{Unanswered, BadAnswer, EndedByNode}
+
+-- why INITs are refused, and why tries fail: the words of the log
+abbrev pub setback_name : Setback → List ℕ
+setback_name OtherPort = codes "other_port"
+setback_name TooMany = codes "too_many"
+setback_name WithoutTag = codes "without_tag"
+setback_name HostName = codes "host_name"
+setback_name FewStreams = codes "few_streams"
+setback_name Unwanted = codes "unwanted"
+setback_name NoTagLeft = codes "no_tag_left"
+setback_name ShuttingDown = codes "shutting_down"
+setback_name WithoutCookie = codes "without_cookie"
+setback_name LongCookie = codes "long_cookie"
+setback_name EndedByPeer = codes "peer"
+setback_name Unanswered = codes "silence"
+setback_name BadAnswer = codes "framing"
+setback_name EndedByNode = codes "node"
+
+abbrev pub setback_kind : Setback → List ℕ
+setback_kind OtherPort = codes "inits_"
+setback_kind TooMany = codes "inits_"
+setback_kind WithoutTag = codes "inits_"
+setback_kind HostName = codes "inits_"
+setback_kind FewStreams = codes "inits_"
+setback_kind Unwanted = codes "inits_"
+setback_kind NoTagLeft = codes "inits_"
+setback_kind ShuttingDown = codes "inits_"
+setback_kind WithoutCookie = codes "inits_"
+setback_kind LongCookie = codes "inits_"
+setback_kind EndedByPeer = codes "tries_"
+setback_kind Unanswered = codes "tries_"
+setback_kind BadAnswer = codes "tries_"
+setback_kind EndedByNode = codes "tries_"
 
 abbrev pub counter_name : Counter → List ℕ
 counter_name FramesIn = codes "frames_in"
@@ -17,6 +56,7 @@ counter_name Delivered = codes "delivered"
 counter_name (Refused cause) = codes "refused_" ++ cause_name cause
 counter_name (Failed reason) = codes "failed_" ++ failure_name reason
 counter_name Retries = codes "retries"
+counter_name (Setbacks setback) = setback_kind setback ++ setback_name setback
 
 abbrev pub counter_line : Counter → (link : List ℕ) → (value : ℕ) → List ℕ
 counter_line counter link value =

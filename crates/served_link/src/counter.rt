@@ -4,6 +4,7 @@ ghost use Rattle.std.specs.Prelude.{◌≡◌, ◌+◌, ◌<◌};
 ghost use Rattle.signalling_types.specs.Causes.{cause_number};
 ghost use Rattle.served_link.specs.Counting.{reason_number};
 
+use crate::setback::Setback;
 use signalling_types::{Cause, FailureReason};
 
 /// What is counted for each link.
@@ -27,11 +28,13 @@ pub enum Counter {
     Failed(FailureReason),
     /// Connections of the link that were tried again.
     Retries,
+    /// INITs that were refused, and tries that failed, for this reason.
+    Setbacks(Setback),
 }
 
 impl Counter {
     /// All counters, in the order in which they are shown.
-    pub const ALL: [Counter; 40] = [
+    pub const ALL: [Counter; 54] = [
         Counter::FramesIn,
         Counter::OctetsIn,
         Counter::FramesOut,
@@ -72,6 +75,20 @@ impl Counter {
         Counter::Failed(FailureReason::Operator),
         Counter::Failed(FailureReason::Test),
         Counter::Retries,
+        Counter::Setbacks(Setback::OtherPort),
+        Counter::Setbacks(Setback::TooMany),
+        Counter::Setbacks(Setback::WithoutTag),
+        Counter::Setbacks(Setback::HostName),
+        Counter::Setbacks(Setback::FewStreams),
+        Counter::Setbacks(Setback::Unwanted),
+        Counter::Setbacks(Setback::NoTagLeft),
+        Counter::Setbacks(Setback::ShuttingDown),
+        Counter::Setbacks(Setback::WithoutCookie),
+        Counter::Setbacks(Setback::LongCookie),
+        Counter::Setbacks(Setback::EndedByPeer),
+        Counter::Setbacks(Setback::Unanswered),
+        Counter::Setbacks(Setback::BadAnswer),
+        Counter::Setbacks(Setback::EndedByNode),
     ];
 }
 

@@ -3,11 +3,12 @@
 ghost use Rattle.std.specs.Prelude.{◌≡◌, slice_get, IfOk};
 ghost use Rattle.std.specs.Option.{option_copied};
 ghost use Rattle.served_link.specs.Counting.{DatagramCame, DatagramWent, StrangerCame, counted_datagram};
-ghost use Rattle.served_link.specs.Counting.{Failure, Retry, came, counted_at, first_counters, went};
+ghost use Rattle.served_link.specs.Counting.{Failure, Retry, WasSetBack, came, counted_at, first_counters, went};
 
 use crate::datagrams::DatagramCounters;
 use crate::frame::has_user_message;
 use crate::row::LinkCounters;
+use crate::setback::Setback;
 use signalling_types::{FailureReason, LinkId, Outcome};
 use std::alloc::{AllocError, Global};
 use std::marker::Model;
@@ -80,6 +81,15 @@ impl Counters {
     {
         if let Some(row) = self.rows.get_mut(link.index()) {
             row.count_retry();
+        }
+    }
+
+    /// The association of a link over SCTP didn't open.
+    pub fn count_setback(&mut self, link: LinkId, setback: Setback)
+        ensures { self.new ≡ counted_at link (WasSetBack setback) self.old }
+    {
+        if let Some(row) = self.rows.get_mut(link.index()) {
+            row.count_setback(setback);
         }
     }
 

@@ -15,6 +15,7 @@ pub mod outgoing;
 mod reading;
 pub mod retrying;
 pub mod row;
+pub mod setback;
 pub mod ticking;
 pub mod watch;
 
@@ -26,5 +27,6 @@ pub use line::{LINE_OCTETS, write_counter};
 pub use outgoing::OUTPUT_OCTETS;
 pub use retrying::{LONGEST_WAIT, Retry};
 pub use row::LinkCounters;
+pub use setback::Setback;
 pub use ticking::{MOST_TICKS, TickClock};
 pub use watch::{Unwatched, Watch};

@@ -13,7 +13,7 @@ pub const LINE_OCTETS: usize = 80;
 
 /// Writes the line of a counter: `counter NAME LINK VALUE`, without a line feed. NAME is `frames_in`, `octets_in`,
 /// `frames_out`, `octets_out`, `forwarded`, `delivered`, `refused_` and the cause's name, `failed_` and the reason's
-/// name, or `retries`.
+/// name, `retries`, or `inits_` or `tries_` and the name of a setback.
 pub fn write_counter(counter: Counter, link: &str, value: u64, out: &mut ArrayString<LINE_OCTETS>)
     requires { length link.now ≤ Limits.NAME_OCTETS }
     ensures { out.new.bytes ≡ counter_line counter link.now value }
@@ -50,5 +50,9 @@ fn push_name(counter: Counter, out: &mut ArrayString<LINE_OCTETS>)
             out.push_str(reason.name());
         }
         Counter::Retries => out.push_str("retries"),
+        Counter::Setbacks(setback) => {
+            out.push_str(setback.kind());
+            out.push_str(setback.name());
+        }
     }
 }

@@ -1,10 +1,11 @@
 //! The counters of one link.
 
 ghost use Rattle.std.specs.Prelude.{◌≡◌, ◌<◌, length};
-ghost use Rattle.served_link.specs.Counting.{FrameCame, FrameWent, Failure, Retry, counted, no_counts};
+ghost use Rattle.served_link.specs.Counting.{FrameCame, FrameWent, Failure, Retry, WasSetBack, counted, no_counts};
 ghost use Rattle.served_link.specs.Counting.{one_more_at, value_of};
 
 use crate::counter::{CAUSES, Counter, REASONS, cause_place, reason_place};
+use crate::setback::{SETBACKS, Setback};
 use signalling_types::{FailureReason, Outcome};
 
 /// The counters of one link since start. Each stays at 2^64 - 1 once it is there.
@@ -28,6 +29,8 @@ pub struct LinkCounters {
     pub failed: [u64; REASONS],
     /// Connections that were tried again.
     pub retries: u64,
+    /// INITs that were refused, and tries that failed: by reason, in the order of `Setback`.
+    pub setbacks: [u64; SETBACKS],
 }
 
 impl LinkCounters {
@@ -45,6 +48,7 @@ impl LinkCounters {
             refused: [0; CAUSES],
             failed: [0; REASONS],
             retries: 0,
+            setbacks: [0; SETBACKS],
         }
     }
 
@@ -62,6 +66,7 @@ impl LinkCounters {
             Counter::Refused(cause) => self.refused[cause_place(cause)],
             Counter::Failed(reason) => self.failed[reason_place(reason)],
             Counter::Retries => self.retries,
+            Counter::Setbacks(setback) => self.setbacks[setback.place()],
         }
     }
 
@@ -101,6 +106,13 @@ impl LinkCounters {
         ensures { self.new ≡ counted Retry self.old }
     {
         self.retries = self.retries.saturating_add(1);
+    }
+
+    /// The link's association over SCTP didn't open.
+    pub fn count_setback(&mut self, setback: Setback)
+        ensures { self.new ≡ counted (WasSetBack setback) self.old }
+    {
+        count_one(&mut self.setbacks, setback.place());
     }
 }
 

@@ -1,6 +1,7 @@
 pub mod Answers
 pub mod Clients
 pub mod Counters
+pub mod Captured
 pub mod Lines
 pub mod Listening
 pub mod Logging

@@ -1,6 +1,7 @@
 -- What a client of the console asks for by a line.
 use Rattle.std.specs.Prelude.{ℕ, Bool, true, false, if◌then◌else◌, List, codes, Option, None, Some, Result, Ok, Err}
-use Rattle.std.specs.Prelude.{bytes_eq}
+use Rattle.std.specs.Prelude.{bytes_eq, length, take, drop}
+use Rattle.std.specs.Option.{option_map}
 use Rattle.point_format.specs.declared.point.PointFormat.{PointFormat}
 use Rattle.script.specs.Asking.{Asked, AskUp, AskDown, AskFrame, AskTick, AskTake, AskWants, AskSubmit, AskOrder}
 use Rattle.script.specs.Asking.{AskShow, Reading, Skips, IsMalformed, Asks, asked_line, parsed_line}
@@ -13,12 +14,38 @@ pub data Heard : Type 0 where
   HearsNothing : Heard
   HearsScript : Asked → Heard
   HearsCounters : Heard
+  HearsCapture : (is_on : Bool) → (name : Option (List ℕ)) → Heard
+  HearsCaptured : Heard
   HearsHelp : Heard
   HearsUsers : Heard
   HearsNotices : Heard
   HearsFrames : Heard
   HearsStop : Heard
   HearsNoLine : Heard
+
+-- what is behind a front, if a text begins with that
+abbrev pub behind : (front text : List ℕ) → Option (List ℕ)
+behind front text = if bytes_eq (take (length front) text) front then Some (drop (length front) text) else None
+
+-- the capture of the link of this name, if there is a name
+abbrev pub captures_named : (is_on : Bool) → Option (List ℕ) → Option Heard
+captures_named is_on None = None
+captures_named is_on (Some name) = Some (HearsCapture is_on (Some name))
+
+abbrev pub either_heard : Option Heard → Option Heard → Option Heard
+either_heard None other = other
+either_heard (Some heard) other = Some heard
+
+abbrev pub capture_of_link : List ℕ → Option Heard
+capture_of_link text =
+    either_heard (captures_named true (behind (codes "capture start ") text))
+    (captures_named false (behind (codes "capture stop ") text))
+
+abbrev pub capture_line : List ℕ → Option Heard
+capture_line text =
+    if bytes_eq text (codes "capture start") then Some (HearsCapture true None)
+    else if bytes_eq text (codes "capture stop") then Some (HearsCapture false None)
+    else capture_of_link text
 
 -- the lines that only a client writes
 abbrev pub own_line : List ℕ → Option Heard
@@ -29,7 +56,8 @@ own_line text =
     else if bytes_eq text (codes "watch frames") then Some HearsFrames
     else if bytes_eq text (codes "show counters") then Some HearsCounters
     else if bytes_eq text (codes "stop") then Some HearsStop
-    else None
+    else if bytes_eq text (codes "show capture") then Some HearsCaptured
+    else capture_line text
 
 -- a client submits messages, gives orders and is shown texts; frames, associations and ticks come from the network and
 -- the clock
@@ -62,6 +90,8 @@ abbrev pub heard_line : ConsoleLine → Heard
 heard_line line.Skipped = HearsNothing
 heard_line (line.Script asked) = HearsScript (asked_line asked)
 heard_line line.Counters = HearsCounters
+heard_line (line.Capture is_on name) = HearsCapture is_on (option_map (λ name. name.now) name)
+heard_line line.Captured = HearsCaptured
 heard_line line.Help = HearsHelp
 heard_line line.Users = HearsUsers
 heard_line line.Notices = HearsNotices

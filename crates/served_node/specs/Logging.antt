@@ -1,5 +1,5 @@
 -- What is written of a line of the log.
-use Rattle.std.specs.Prelude.{◌≡◌, ◌≤◌, ◌⊎◌, ◌++◌, ℕ, List, [], ◌∷◌, length}
+use Rattle.std.specs.Prelude.{◌≡◌, ◌≤◌, ◌⊎◌, ◌++◌, ℕ, List, [], ◌∷◌, length, map, nat_lt, nat_eq, ◌||◌, if◌then◌else◌}
 use Rattle.std.specs.Io.KnownBytes.{Appends}
 use Rattle.script.specs.Streams.{Output, AppendsFirst, counted}
 use Rattle.served_node.specs.declared.log.TheConstants.{TEXT_OCTETS}
@@ -10,6 +10,14 @@ Writes octets old new =
     ((new.failures ≡ old.failures) × Appends old.written new.written octets)
     ⊎ ((new.failures ≡ counted old.failures) × AppendsFirst old.written new.written octets)
 
--- a text of at most this many octets was written, with a line feed after it
+-- an octet of a text, with a question mark (63) for each control character: no octet ends a line
+abbrev pub shown_octet : ℕ → ℕ
+shown_octet octet = if nat_lt octet 32 || nat_eq octet 127 then 63 else octet
+
+-- the line of a text, with a line feed after it
+abbrev pub line_of : List ℕ → List ℕ
+line_of text = map shown_octet text ++ 10 ∷ []
+
+-- the line of a text of at most this many octets was written
 abbrev pub TellsALine : Output → Output → Type 0
-TellsALine old new = (text : List ℕ) × (length text ≤ TEXT_OCTETS) × Writes (text ++ 10 ∷ []) old new
+TellsALine old new = (text : List ℕ) × (length text ≤ TEXT_OCTETS) × Writes (line_of text) old new

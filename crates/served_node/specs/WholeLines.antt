@@ -4,10 +4,11 @@ use Rattle.exchange.specs.Calls.{Kept}
 use Rattle.script.specs.Asking.{Asked}
 use Rattle.script.specs.Streams.{Output, counted}
 use Rattle.script.specs.declared.sink.WriteFailed.{WriteFailed}
-use Rattle.served_node.specs.Lines.{Heard, heard, HearsNothing, HearsScript, HearsCounters, HearsHelp, HearsUsers, HearsNotices, HearsFrames, HearsStop, HearsNoLine}
+use Rattle.served_node.specs.Lines.{Heard, heard, HearsNothing, HearsScript, HearsCounters, HearsCapture, HearsCaptured, HearsHelp, HearsUsers, HearsNotices, HearsFrames, HearsStop, HearsNoLine}
 use Rattle.served_node.specs.Answers.{Waiting, IsAnswered}
 use Rattle.served_node.specs.Clients.{ClientState, begun, OnlyOutboxChanges, told_of}
 use Rattle.served_node.specs.Counters.{counters_text}
+use Rattle.served_node.specs.Captured.{Captured, after_order, answer_to, captured_text, order_of}
 use Rattle.served_node.specs.declared.console_session.help.TheConstants.{HELP}
 use Rattle.served_node.specs.declared.console_session.client.TheConstants.{MALFORMED, WATCHING, STOPPING}
 use Rattle.served_link.specs.Counting.{NodeCounters}
@@ -65,33 +66,43 @@ IsRefused is_first Closes old new =
     (new ≡ unanswered old) ⊎ ((is_first ≡ true) × (new ≡ answered old MALFORMED.now))
 IsRefused is_first Stops old new = ⊥
 
--- What a line does to the node and to its client, and what becomes of the client. Only a line of a script changes the
--- node, and only `stop` asks it to stop.
+-- What a line does to the node, to what is captured and to its client, and what becomes of the client. Only a line of
+-- a script changes the node, only an order about the capture what is captured, and only `stop` asks the node to stop.
 abbrev pub DoesHeard :
-    Heard → (is_first : Bool) → NodeCounters → Ending → (s after : Kept) → (old new : ClientState) → Type 0
-DoesHeard HearsNothing is_first counters ending s after old new = (ending ≡ Stays) × (after ≡ s) × (new ≡ old)
-DoesHeard (HearsScript asked) is_first counters ending s after old new =
-    IsDone asked ending s after old.outbox new.outbox × OnlyOutboxChanges old new
-DoesHeard HearsCounters is_first counters ending s after old new =
-    (after ≡ s) × IsShown (counters_text s counters) ending old new
-DoesHeard HearsHelp is_first counters ending s after old new = (after ≡ s) × IsTold HELP.now Stays ending old new
-DoesHeard HearsUsers is_first counters ending s after old new =
-    (after ≡ s) × IsTold WATCHING.now Stays ending (told_of old Message) new
-DoesHeard HearsNotices is_first counters ending s after old new =
-    (after ≡ s) × IsTold WATCHING.now Stays ending (told_of old Notice) new
-DoesHeard HearsFrames is_first counters ending s after old new =
-    (after ≡ s) × IsTold WATCHING.now Stays ending (told_of old Frame) new
-DoesHeard HearsStop is_first counters ending s after old new = (after ≡ s) × IsTold STOPPING.now Stops ending old new
-DoesHeard HearsNoLine is_first counters ending s after old new = (after ≡ s) × IsRefused is_first ending old new
+    Heard → (is_first : Bool) → NodeCounters → (captured captured_after : Captured) → Ending → (s after : Kept)
+    → (old new : ClientState) → Type 0
+DoesHeard HearsNothing is_first counters captured captured_after ending s after old new =
+    (ending ≡ Stays) × (after ≡ s) × (captured_after ≡ captured) × (new ≡ old)
+DoesHeard (HearsScript asked) is_first counters captured captured_after ending s after old new =
+    IsDone asked ending s after old.outbox new.outbox × (captured_after ≡ captured) × OnlyOutboxChanges old new
+DoesHeard HearsCounters is_first counters captured captured_after ending s after old new =
+    (after ≡ s) × (captured_after ≡ captured) × IsShown (counters_text s counters) ending old new
+DoesHeard (HearsCapture is_on name) is_first counters captured captured_after ending s after old new =
+    (after ≡ s) × (captured_after ≡ after_order (order_of s.settings is_on name) captured)
+    × IsTold (answer_to (order_of s.settings is_on name) captured) Stays ending old new
+DoesHeard HearsCaptured is_first counters captured captured_after ending s after old new =
+    (after ≡ s) × (captured_after ≡ captured) × IsShown (captured_text s captured) ending old new
+DoesHeard HearsHelp is_first counters captured captured_after ending s after old new =
+    (after ≡ s) × (captured_after ≡ captured) × IsTold HELP.now Stays ending old new
+DoesHeard HearsUsers is_first counters captured captured_after ending s after old new =
+    (after ≡ s) × (captured_after ≡ captured) × IsTold WATCHING.now Stays ending (told_of old Message) new
+DoesHeard HearsNotices is_first counters captured captured_after ending s after old new =
+    (after ≡ s) × (captured_after ≡ captured) × IsTold WATCHING.now Stays ending (told_of old Notice) new
+DoesHeard HearsFrames is_first counters captured captured_after ending s after old new =
+    (after ≡ s) × (captured_after ≡ captured) × IsTold WATCHING.now Stays ending (told_of old Frame) new
+DoesHeard HearsStop is_first counters captured captured_after ending s after old new =
+    (after ≡ s) × (captured_after ≡ captured) × IsTold STOPPING.now Stops ending old new
+DoesHeard HearsNoLine is_first counters captured captured_after ending s after old new =
+    (after ≡ s) × (captured_after ≡ captured) × IsRefused is_first ending old new
 
 -- what a line of a client does, which is its first or isn't, with points in this format
-abbrev pub DoesLineAt : PointFormat → (is_first : Bool) → List ℕ → NodeCounters → Ending → (s after : Kept)
-    → (old new : ClientState) → Type 0
-DoesLineAt points is_first line counters ending s after old new =
-    DoesHeard (heard points line) is_first counters ending s after old new
+abbrev pub DoesLineAt : PointFormat → (is_first : Bool) → List ℕ → NodeCounters → (captured captured_after : Captured)
+    → Ending → (s after : Kept) → (old new : ClientState) → Type 0
+DoesLineAt points is_first line counters captured captured_after ending s after old new =
+    DoesHeard (heard points line) is_first counters captured captured_after ending s after old new
 
 -- what a line of a client does. No line after it is the client's first
-abbrev pub DoesLine :
-    PointFormat → List ℕ → NodeCounters → Ending → (s after : Kept) → (old new : ClientState) → Type 0
-DoesLine points line counters ending s after old new =
-    DoesLineAt points old.is_first line counters ending s after (begun old) new
+abbrev pub DoesLine : PointFormat → List ℕ → NodeCounters → (captured captured_after : Captured) → Ending
+    → (s after : Kept) → (old new : ClientState) → Type 0
+DoesLine points line counters captured captured_after ending s after old new =
+    DoesLineAt points old.is_first line counters captured captured_after ending s after (begun old) new

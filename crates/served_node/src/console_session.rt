@@ -2,6 +2,7 @@
 //! told.
 
 mod answering;
+mod capturing;
 mod client;
 mod command;
 mod counting;

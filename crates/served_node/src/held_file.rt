@@ -1,15 +1,13 @@
-//! The file of a capture, which holds nobody up.
+//! The file of a capture, or its ring of files.
 
 ghost use Rattle.std.specs.Prelude.{◌≡◌, ◌-◌, ◌&&◌, [], length, nat_le, IfOk};
 
-use crate::readiness::{AT_ONCE, Readiness, is_ready};
+use crate::ring_files::RingFiles;
 use std::alloc::{AllocError, Global};
 use std::fs::File;
 use std::io;
 use std::io::Write;
 use std::marker::Model;
-use std::net::Net;
-use std::os::fd::AsRawFd;
 
 /// Octets that wait to be written to the file, at most.
 const HELD_OCTETS: usize = 1 << 20;
@@ -17,13 +15,15 @@ const HELD_OCTETS: usize = 1 << 20;
 /// Writes in one flush, at most.
 const WRITES: usize = 512;
 
-/// A file, and the octets that wait to be written to it. A write holds them, and a flush writes as many as the file
-/// takes at once: all to a file on a disk, and to a pipe as many as it has room for.
+/// A file, or a ring of files, and the octets that wait to be written to it. A write holds them, and a flush writes
+/// them. What is held at a flush goes into one file of a ring: the next one, if it has no room in this one.
 #[derive(Drop)]
 pub struct HeldFile {
-    file: File,
-    readiness: Option<Readiness>,
+    file: Option<File>,
     held: Vec<u8>,
+    /// How many of them are to go into this file, whatever comes after them.
+    placed: usize,
+    ring: Option<RingFiles>,
 }
 
 // The octets that wait.
@@ -37,15 +37,34 @@ impl Model for HeldFile {
 
 impl HeldFile {
     /// A file to which nothing waits to be written. The error means that memory ran out.
-    pub fn new<N: Net>(net: &N, alloc: Global, file: File) -> Result<HeldFile, AllocError>
+    pub fn new(alloc: Global, file: File) -> Result<HeldFile, AllocError>
         ensures { IfOk result (λ file. file ≡ []) }
     {
         let held = Vec::with_capacity(alloc, HELD_OCTETS)?;
         Ok(HeldFile {
-            readiness: Readiness::of(net, alloc, file.as_raw_fd()),
-            file,
+            file: Some(file),
             held,
+            placed: 0,
+            ring: None,
         })
+    }
+
+    /// A ring of files to which nothing waits to be written. The error means that memory ran out.
+    pub fn ring(alloc: Global, files: RingFiles) -> Result<HeldFile, AllocError>
+        ensures { IfOk result (λ file. file ≡ []) }
+    {
+        let held = Vec::with_capacity(alloc, HELD_OCTETS)?;
+        Ok(HeldFile {
+            file: None,
+            held,
+            placed: 0,
+            ring: Some(files),
+        })
+    }
+
+    /// The ring of its files, if they are one.
+    pub(crate) fn files(&self) -> Option<&RingFiles> {
+        self.ring.as_ref()
     }
 
     /// Whether this many octets more find room.
@@ -55,16 +74,27 @@ impl HeldFile {
         octets <= HELD_OCTETS && self.held.len() <= HELD_OCTETS - octets
     }
 
-    /// Writes some octets, the first ones that wait: to a pipe no more than it takes at once.
+    /// Places what waits, all in one file: the next one of a ring, if it has no room in this one.
+    fn place(&mut self) -> io::Result<()> {
+        if let Some(ring) = &mut self.ring
+            && let Some(file) = ring.next_file(self.held.len())?
+        {
+            self.file = Some(file);
+        }
+        self.placed = self.held.len();
+        Ok(())
+    }
+
+    /// Writes some octets, the first ones that wait.
     fn write_first(&mut self) -> io::Result<()> {
-        let most = if self.readiness.is_some() {
-            AT_ONCE
-        } else {
-            HELD_OCTETS
+        let first = self.held.len().min(self.placed);
+        let Some(file) = &mut self.file else {
+            return Ok(());
         };
-        let first = self.held.len().min(most);
-        let count = self.file.write(&self.held[..first])?;
-        self.held.drain(..count.min(self.held.len()));
+        let count = file.write(&self.held[..first])?;
+        let count = count.min(first);
+        self.held.drain(..count);
+        self.placed = self.placed.saturating_sub(count);
         Ok(())
     }
 }
@@ -78,8 +108,11 @@ impl Write for HeldFile {
     }
 
     fn flush(&mut self) -> io::Result<()> {
+        if self.placed == 0 && !self.held.is_empty() {
+            self.place()?;
+        }
         for _ in 0..WRITES {
-            if self.held.is_empty() || !is_ready(&mut self.readiness) {
+            if self.placed == 0 {
                 return Ok(());
             }
             self.write_first()?;

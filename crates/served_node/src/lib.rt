@@ -3,6 +3,8 @@
 //! is answered (`console_session`).
 #![tactic(auto)]
 
+pub mod capture_place;
+pub mod captured_links;
 mod client_socket;
 pub mod clients;
 pub mod console_listener;
@@ -20,10 +22,13 @@ mod noticing;
 pub mod observers;
 mod packets;
 mod readiness;
+pub mod ring_files;
 pub mod socket;
 pub mod socket_file;
 mod telling;
 
+pub use capture_place::{CaptureFault, CapturePlace};
+pub use captured_links::{CaptureOrder, CapturedLinks};
 pub use clients::ConsoleClients;
 pub use console_listener::ConsoleListener;
 pub use console_stream::ConsoleStream;
@@ -32,7 +37,7 @@ pub use dropping::DroppingLog;
 pub use fault::OpenFault;
 pub use held_file::HeldFile;
 pub use listener::Listener;
-pub use log::Log;
+pub use log::{Log, OneLine};
 pub use naming::SocketName;
 pub use node::Node;
 pub use observers::{FileCapture, FrameObserver, Observers};

@@ -91,6 +91,7 @@ impl Node {
                 counters,
                 clients,
                 points,
+                captured,
                 ..
             },
         } = self;
@@ -98,6 +99,7 @@ impl Node {
             exchange,
             counters,
             points: *points,
+            captured,
         };
         clients.read(&mut context)
     }

@@ -4,6 +4,7 @@ ghost use Rattle.std.specs.Prelude.{◌≡◌, ◌≤◌, length, IfOk};
 ghost use Rattle.served_link.specs.Counting.{first_counters};
 ghost use Rattle.served_node.specs.Observers.{counted_sight};
 
+use crate::captured_links::CapturedLinks;
 use crate::clients::ConsoleClients;
 use crate::console_session::News;
 use crate::held_file::HeldFile;
@@ -44,6 +45,10 @@ pub struct Observers {
     pub(crate) seen: Seen,
     names: Vec<String>,
     pub(crate) capture: Option<FileCapture>,
+    /// Which links the capture has.
+    pub captured: CapturedLinks,
+    /// The number of the last file of a ring that the log was told of.
+    told_file: u32,
     pub(crate) missed_frames: u64,
 }
 
@@ -66,6 +71,8 @@ impl Observers {
             seen: Seen::new(),
             names,
             capture: None,
+            captured: CapturedLinks::none(),
+            told_file: 0,
             missed_frames: 0,
         })
     }
@@ -128,13 +135,17 @@ impl Observers {
         }
     }
 
-    /// The capture has a frame, if there is one and it has room for it. Otherwise the frame is counted as missed.
+    /// The capture has a frame of a link that it has, if it has room for it. Otherwise the frame is counted as missed.
     fn capture_frame(&mut self, link: LinkId, direction: Direction, frame: &ObservedFrame<'_>)
         ensures { self.new.counters ≡ self.old.counters }
     {
         let Some(capture) = &mut self.capture else {
             return;
         };
+        if !self.captured.has(link) {
+            return;
+        }
+        make_room(capture, PACKET_OCTETS);
         if capture.output().writer().has_room(PACKET_OCTETS) {
             capture.write(self.now, link, direction, frame);
         } else {
@@ -142,8 +153,8 @@ impl Observers {
         }
     }
 
-    /// What was captured goes out, as far as its file takes it. The log is told if that fails, which ends the
-    /// capture, and how many frames were missed once there is room for others.
+    /// What was captured goes out, as far as its file takes it. The log is told which file of a ring was begun; if that
+    /// fails, which ends the capture; and how many frames were missed once there is room for others.
     pub fn flush_capture<W: Sink>(&mut self, log: &mut Log<'_, W>)
         ensures { self.new.counters ≡ self.old.counters }
     {
@@ -153,6 +164,7 @@ impl Observers {
         capture.flush();
         let has_failed = capture.has_failed();
         let has_room = capture.output().writer().has_room(LONGEST_PACKET);
+        self.told_file = tell_begun(capture.output().writer(), self.told_file, log);
         if has_failed {
             log.tell(&"capture failed");
             self.capture_to(None);
@@ -163,10 +175,14 @@ impl Observers {
         }
     }
 
-    /// Each frame goes into this capture from now on; into none, if there is none.
+    /// Each frame of each link goes into this capture from now on; into none, if there is none.
     pub fn capture_to(&mut self, capture: Option<FileCapture>)
         ensures { self.new.counters ≡ self.old.counters }
     {
+        self.captured = match &capture {
+            Some(_) => CapturedLinks::all(),
+            None => CapturedLinks::none(),
+        };
         self.capture = capture;
     }
 
@@ -201,6 +217,25 @@ impl Observers {
             self.clients.tell_line(News::Message, line.as_bytes());
         }
     }
+}
+
+/// Writes what was captured, if there is no room for so many octets more.
+pub(crate) fn make_room(capture: &mut FileCapture, octets: usize) {
+    if !capture.output().writer().has_room(octets) {
+        capture.flush();
+    }
+}
+
+/// Tells which file of a ring is written, unless that was told. Returns its number.
+fn tell_begun<W: Sink>(file: &HeldFile, told: u32, log: &mut Log<'_, W>) -> u32 {
+    let Some(files) = file.files() else {
+        return told;
+    };
+    let (capture, number) = (files.capture(), files.number());
+    if number != told {
+        log.tell(&format_args!("capture {capture}.{number:08}"));
+    }
+    number
 }
 
 /// The names of the links, in the order of the settings.

@@ -2,27 +2,28 @@
 
 ghost use Rattle.std.specs.Prelude.{◌≡◌};
 ghost use Rattle.served_link.specs.Counting.{DatagramCame, DatagramWent, StrangerCame, counted_datagram};
-ghost use Rattle.served_link.specs.Counting.{came, counted_at, went};
+ghost use Rattle.served_link.specs.Counting.{WasSetBack, came, counted_at, went};
 
-use crate::observers::Observers;
+use crate::observers::{Observers, make_room};
+use served_link::Setback;
 use settings::{LinkId, Outcome};
 use trace::{Direction, ObservedFrame, RECORD_HEADER_OCTETS};
 
 impl Observers {
-    /// A datagram of a link came: it is counted, and the capture has it.
-    pub fn datagram_came(&mut self, octets: &[u8])
+    /// A datagram of a link came: it is counted, and the capture has it if it has the link.
+    pub fn datagram_came(&mut self, link: LinkId, octets: &[u8])
         ensures { self.new.counters ≡ counted_datagram DatagramCame self.old.counters }
     {
         self.counters.count_datagram_in();
-        self.capture_packet(octets);
+        self.capture_packet(link, octets);
     }
 
-    /// A datagram of a link goes out: it is counted, and the capture has it.
-    pub fn datagram_went(&mut self, octets: &[u8])
+    /// A datagram of a link goes out: it is counted, and the capture has it if it has the link.
+    pub fn datagram_went(&mut self, link: LinkId, octets: &[u8])
         ensures { self.new.counters ≡ counted_datagram DatagramWent self.old.counters }
     {
         self.counters.count_datagram_out();
-        self.capture_packet(octets);
+        self.capture_packet(link, octets);
     }
 
     /// A datagram came that belongs to no link: it is counted.
@@ -30,6 +31,13 @@ impl Observers {
         ensures { self.new.counters ≡ counted_datagram StrangerCame self.old.counters }
     {
         self.counters.count_stranger();
+    }
+
+    /// The association of a link over SCTP didn't open: it is counted.
+    pub fn was_set_back(&mut self, link: LinkId, setback: Setback)
+        ensures { self.new.counters ≡ counted_at link (WasSetBack setback) self.old.counters }
+    {
+        self.counters.count_setback(link, setback);
     }
 
     /// A message came in as a frame and was handed in, with this outcome. It is counted, and the clients that asked for
@@ -54,14 +62,18 @@ impl Observers {
         }
     }
 
-    /// The capture has a packet, if there is one and it has room for it. Otherwise the packet is counted as missed.
-    fn capture_packet(&mut self, octets: &[u8])
+    /// The capture has a packet of a link that it has, if it has room for it. Otherwise the packet is counted as missed.
+    fn capture_packet(&mut self, link: LinkId, octets: &[u8])
         ensures { self.new.counters ≡ self.old.counters }
     {
         let Some(capture) = &mut self.capture else {
             return;
         };
+        if !self.captured.has(link) {
+            return;
+        }
         let needed = octets.len().saturating_add(RECORD_HEADER_OCTETS);
+        make_room(capture, needed);
         if capture.output().writer().has_room(needed) {
             capture.write_packet(self.now, octets);
         } else {

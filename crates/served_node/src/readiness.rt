@@ -7,9 +7,6 @@ use std::net::Net;
 use std::os::fd::RawFd;
 use std::time::Duration;
 
-/// Octets that a pipe takes at once when it is ready, at most (pipe(7)).
-pub(crate) const AT_ONCE: usize = 4096;
-
 /// The one token of the poll.
 const TOKEN: Token = Token(0);
 

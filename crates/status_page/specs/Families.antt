@@ -16,6 +16,11 @@ use Rattle.signalling_types.specs.declared.notice.FailureReason.TheVariants.{Sta
 use Rattle.signalling_types.specs.declared.notice.FailureReason.TheVariants.{Operator, Test}
 use Rattle.served_link.specs.declared.counter.Counter.{Counter}
 use Rattle.served_link.specs.declared.counter.Counter.TheVariants as counting
+use Rattle.served_link.specs.declared.setback.Setback.{Setback}
+use Rattle.served_link.specs.declared.setback.Setback.TheVariants.{OtherPort, TooMany, WithoutTag, HostName}
+use Rattle.served_link.specs.declared.setback.Setback.TheVariants.{FewStreams, Unwanted, NoTagLeft, ShuttingDown}
+use Rattle.served_link.specs.declared.setback.Setback.TheVariants.{WithoutCookie, LongCookie, EndedByPeer}
+use Rattle.served_link.specs.declared.setback.Setback.TheVariants.{Unanswered, BadAnswer, EndedByNode}
 use Rattle.status_page.specs.declared.family.Kind.{Kind}
 use Rattle.status_page.specs.declared.family.Kind.TheVariants.{Counter as Growing, Gauge}
 use Rattle.status_page.specs.declared.family.Family.{Family}
@@ -24,7 +29,7 @@ use Rattle.status_page.specs.declared.family.Family.TheVariants.{Raised, Lost, B
 use Rattle.status_page.specs.declared.family.Family.TheVariants.{Barred, Queue}
 use Rattle.status_page.specs.declared.family.Family.TheVariants.{FramesReceived, OctetsReceived, FramesSent}
 use Rattle.status_page.specs.declared.family.Family.TheVariants.{OctetsSent, Forwarded, Delivered, Refused}
-use Rattle.status_page.specs.declared.family.Family.TheVariants.{Failures, Retries}
+use Rattle.status_page.specs.declared.family.Family.TheVariants.{Failures, Retries, InitsRefused, TriesFailed}
 use Rattle.status_page.specs.declared.metric.Metric.{Metric}
 use Rattle.status_page.specs.declared.metric.Metric.TheVariants.{Node, Link}
 use Rattle.status_page.specs.declared.metric.NodeMetric.TheVariants as of_node
@@ -37,7 +42,7 @@ abbrev pub families : List Family
 families =
     Build ∷ Uptime ∷ PoolLimit ∷ Pool ∷ Held ∷ Notices ∷ Flags ∷ Raised ∷ Lost ∷ Broken ∷ InService ∷
     ChangingOver ∷ Barred ∷ Queue ∷ FramesReceived ∷ OctetsReceived ∷ FramesSent ∷ OctetsSent ∷ Forwarded ∷
-    Delivered ∷ Refused ∷ Failures ∷ Retries ∷ []
+    Delivered ∷ Refused ∷ Failures ∷ Retries ∷ InitsRefused ∷ TriesFailed ∷ []
 
 -- the name: a counter ends in total, and a unit is in the name
 abbrev pub family_name : Family → List ℕ
@@ -64,6 +69,8 @@ family_name Delivered = codes "stp_messages_delivered_total"
 family_name Refused = codes "stp_refused_total"
 family_name Failures = codes "stp_link_failures_total"
 family_name Retries = codes "stp_connection_retries_total"
+family_name InitsRefused = codes "stp_inits_refused_total"
+family_name TriesFailed = codes "stp_tries_failed_total"
 
 -- what is said of it
 abbrev pub family_help : Family → List ℕ
@@ -90,6 +97,8 @@ family_help Delivered = codes "Messages from the link for a user part or a subsy
 family_help Refused = codes "Frames from the link that were refused, or whose message was."
 family_help Failures = codes "Failures of the link."
 family_help Retries = codes "Connections of the link that were tried again."
+family_help InitsRefused = codes "INITs and INIT ACKs of the link that were refused or left out."
+family_help TriesFailed = codes "Tries to open the link's association over SCTP that failed."
 
 -- whether it only grows
 abbrev pub kind_of : Family → Kind
@@ -116,6 +125,8 @@ kind_of Delivered = Growing
 kind_of Refused = Growing
 kind_of Failures = Growing
 kind_of Retries = Growing
+kind_of InitsRefused = Growing
+kind_of TriesFailed = Growing
 
 abbrev pub kind_name : Kind → List ℕ
 kind_name Growing = codes "counter"
@@ -131,6 +142,15 @@ causes =
 
 abbrev pub reasons : List FailureReason
 reasons = Association ∷ Timer ∷ Sequence ∷ Status ∷ Length ∷ Changeover ∷ Operator ∷ Test ∷ []
+
+-- why INITs are refused, and why tries fail
+abbrev pub init_reasons : List Setback
+init_reasons =
+    OtherPort ∷ TooMany ∷ WithoutTag ∷ HostName ∷ FewStreams ∷ Unwanted ∷ NoTagLeft ∷ ShuttingDown ∷
+    WithoutCookie ∷ LongCookie ∷ []
+
+abbrev pub try_reasons : List Setback
+try_reasons = EndedByPeer ∷ Unanswered ∷ BadAnswer ∷ EndedByNode ∷ []
 
 -- the kinds of notices
 abbrev pub notice_kinds : List NoticeKind
@@ -167,3 +187,5 @@ metrics_of Delivered = counted counting.Delivered ∷ []
 metrics_of Refused = map (λ cause. counted (counting.Refused cause)) causes
 metrics_of Failures = map (λ reason. counted (counting.Failed reason)) reasons
 metrics_of Retries = counted counting.Retries ∷ []
+metrics_of InitsRefused = map (λ reason. counted (counting.Setbacks reason)) init_reasons
+metrics_of TriesFailed = map (λ reason. counted (counting.Setbacks reason)) try_reasons

@@ -5,6 +5,8 @@ use Rattle.signalling_types.specs.Notices.{failure_name}
 use Rattle.served_link.specs.declared.counter.Counter.{Counter}
 use Rattle.served_link.specs.declared.counter.Counter.TheVariants.{FramesIn, OctetsIn, FramesOut, OctetsOut}
 use Rattle.served_link.specs.declared.counter.Counter.TheVariants.{Forwarded, Delivered, Refused, Failed, Retries}
+use Rattle.served_link.specs.declared.counter.Counter.TheVariants.{Setbacks}
+use Rattle.served_link.specs.Lines.{setback_name}
 use Rattle.status_page.specs.declared.family.Family.{Family}
 use Rattle.status_page.specs.declared.labels.TheConstants.{VERSION}
 use Rattle.status_page.specs.declared.metric.NodeMetric.{NodeMetric}
@@ -53,7 +55,7 @@ node_labels of_node.TimesLate = codes "{name=\"late_any\"}"
 node_labels of_node.MessagesLost = []
 node_labels of_node.TimesBroken = []
 
--- the cause of a refusal, or the reason of a failure
+-- the cause of a refusal, or the reason of a failure or a setback
 abbrev pub counter_labels : Counter → List ℕ
 counter_labels FramesIn = []
 counter_labels OctetsIn = []
@@ -64,6 +66,7 @@ counter_labels Delivered = []
 counter_labels (Refused cause) = codes ",cause=\"" ++ cause_name cause ++ codes "\""
 counter_labels (Failed reason) = codes ",reason=\"" ++ failure_name reason ++ codes "\""
 counter_labels Retries = []
+counter_labels (Setbacks reason) = codes ",reason=\"" ++ setback_name reason ++ codes "\""
 
 abbrev pub metric_labels : LinkMetric → List ℕ
 metric_labels of_link.InService = []

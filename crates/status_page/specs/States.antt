@@ -17,6 +17,8 @@ use Rattle.console.specs.Texts.{notice_line}
 use Rattle.served_link.specs.declared.counter.Counter.{Counter}
 use Rattle.served_link.specs.declared.counter.Counter.TheVariants.{FramesIn, OctetsIn, FramesOut, OctetsOut}
 use Rattle.served_link.specs.declared.counter.Counter.TheVariants.{Forwarded, Delivered, Refused, Failed, Retries}
+use Rattle.served_link.specs.declared.counter.Counter.TheVariants.{Setbacks}
+use Rattle.served_link.specs.Lines.{setback_name}
 use Rattle.served_link.specs.declared.row.LinkCounters.{LinkCounters}
 use Rattle.served_link.specs.Counting.{value_of}
 use Rattle.status_page.specs.Each.{each}
@@ -24,14 +26,14 @@ use Rattle.status_page.specs.declared.labels.TheConstants.{VERSION}
 use Rattle.status_page.specs.declared.noticed.NoticeKind.{NoticeKind}
 use Rattle.status_page.specs.declared.noticed.NoticeKind.TheVariants as noticed
 use Rattle.status_page.specs.declared.noticed.NoticeLog.{NoticeLog}
-use Rattle.status_page.specs.Families.{causes, notice_kinds, reasons}
+use Rattle.status_page.specs.Families.{causes, init_reasons, notice_kinds, reasons, try_reasons}
 use Rattle.status_page.specs.Measuring.{counters_at, held_users, is_changing_over, kept_messages}
 use Rattle.status_page.specs.Noticed.{kind_seen, time_of}
 use Rattle.status_page.specs.Members.{object, text_member, number_member, bool_member, object_member, array_member}
 
 -- ---- counters
 
--- the member that shows a counter: for refusals the cause, for failures the reason
+-- the member that shows a counter: for refusals the cause, for failures and setbacks the reason
 abbrev pub counter_key : Counter → List ℕ
 counter_key FramesIn = codes "frames_in"
 counter_key OctetsIn = codes "octets_in"
@@ -42,6 +44,7 @@ counter_key Delivered = codes "delivered"
 counter_key (Refused cause) = cause_name cause
 counter_key (Failed reason) = failure_name reason
 counter_key Retries = codes "retries"
+counter_key (Setbacks reason) = setback_name reason
 
 abbrev pub counter_member : LinkCounters → Counter → List Token
 counter_member row counter = number_member (counter_key counter) (value_of counter row)
@@ -53,12 +56,15 @@ counter_members row counters = flat_map (counter_member row) counters
 abbrev pub totals : List Counter
 totals = FramesIn ∷ OctetsIn ∷ FramesOut ∷ OctetsOut ∷ Forwarded ∷ Delivered ∷ Retries ∷ []
 
--- all counters of a link: refusals by their cause and failures by their reason
+-- all counters of a link: refusals by their cause; failures, INITs that were refused and tries that failed by their
+-- reason
 unfoldable pub all_counters : LinkCounters → List Token
 all_counters row =
     counter_members row totals
     ++ object_member (codes "refused") (counter_members row (map (λ cause. Refused cause) causes))
     ++ object_member (codes "failed") (counter_members row (map (λ reason. Failed reason) reasons))
+    ++ object_member (codes "inits") (counter_members row (map (λ reason. Setbacks reason) init_reasons))
+    ++ object_member (codes "tries") (counter_members row (map (λ reason. Setbacks reason) try_reasons))
 
 -- ---- links and sets
 

@@ -4,9 +4,8 @@ ghost use Rattle.std.specs.Prelude.{◌≡◌, ◌≤◌, length};
 ghost use Rattle.status_page.specs.Families.{family_help, family_name, kind_name, kind_of, metrics_of};
 
 use crate::metric::{LinkMetric, Metric, NodeMetric};
-use crate::noticed::{NOTICE_KINDS, NoticeKind};
+use crate::reasons::{FAILURES, INITS_REFUSED, NOTICES, REFUSED, TRIES_FAILED};
 use served_link::Counter;
-use signalling_types::{Cause, FailureReason};
 
 /// What a metric does over time.
 #[derive(Clone, Copy)]
@@ -85,11 +84,15 @@ pub enum Family {
     Failures,
     /// Connections that were tried again.
     Retries,
+    /// INITs that were refused, by reason.
+    InitsRefused,
+    /// Tries that failed, by reason.
+    TriesFailed,
 }
 
 impl Family {
     /// All families, in the order in which they are shown.
-    pub const ALL: [Family; 23] = [
+    pub const ALL: [Family; 25] = [
         Family::Build,
         Family::Uptime,
         Family::PoolLimit,
@@ -113,6 +116,8 @@ impl Family {
         Family::Refused,
         Family::Failures,
         Family::Retries,
+        Family::InitsRefused,
+        Family::TriesFailed,
     ];
 
     /// The family's name.
@@ -144,6 +149,8 @@ impl Family {
             Family::Refused => "stp_refused_total",
             Family::Failures => "stp_link_failures_total",
             Family::Retries => "stp_connection_retries_total",
+            Family::InitsRefused => "stp_inits_refused_total",
+            Family::TriesFailed => "stp_tries_failed_total",
         }
     }
 
@@ -181,6 +188,9 @@ impl Family {
             Family::Refused => "Frames from the link that were refused, or whose message was.",
             Family::Failures => "Failures of the link.",
             Family::Retries => "Connections of the link that were tried again.",
+            Family::InitsRefused =>
+                "INITs and INIT ACKs of the link that were refused or left out.",
+            Family::TriesFailed => "Tries to open the link's association over SCTP that failed.",
         }
     }
 
@@ -211,7 +221,9 @@ impl Family {
             | Family::Delivered
             | Family::Refused
             | Family::Failures
-            | Family::Retries => Kind::Counter,
+            | Family::Retries
+            | Family::InitsRefused
+            | Family::TriesFailed => Kind::Counter,
         }
     }
 
@@ -249,59 +261,8 @@ impl Family {
             Family::Refused => &REFUSED,
             Family::Failures => &FAILURES,
             Family::Retries => &[Metric::Link(LinkMetric::Counted(Counter::Retries))],
+            Family::InitsRefused => &INITS_REFUSED,
+            Family::TriesFailed => &TRIES_FAILED,
         }
     }
 }
-
-const NOTICES: [Metric; NOTICE_KINDS] = [
-    Metric::Node(NodeMetric::Notices(NoticeKind::Refused)),
-    Metric::Node(NodeMetric::Notices(NoticeKind::Frame)),
-    Metric::Node(NodeMetric::Notices(NoticeKind::Failed)),
-    Metric::Node(NodeMetric::Notices(NoticeKind::Lost)),
-    Metric::Node(NodeMetric::Notices(NoticeKind::Unsent)),
-    Metric::Node(NodeMetric::Notices(NoticeKind::Expired)),
-    Metric::Node(NodeMetric::Notices(NoticeKind::Unbarred)),
-    Metric::Node(NodeMetric::Notices(NoticeKind::Late)),
-    Metric::Node(NodeMetric::Notices(NoticeKind::Missed)),
-];
-
-/// Frames that were refused, by each cause.
-const REFUSED: [Metric; 25] = [
-    Metric::Link(LinkMetric::Counted(Counter::Refused(Cause::WrongNetwork))),
-    Metric::Link(LinkMetric::Counted(Counter::Refused(Cause::NoLabel))),
-    Metric::Link(LinkMetric::Counted(Counter::Refused(Cause::UnknownDestination))),
-    Metric::Link(LinkMetric::Counted(Counter::Refused(Cause::NoRoute))),
-    Metric::Link(LinkMetric::Counted(Counter::Refused(Cause::PoolFull))),
-    Metric::Link(LinkMetric::Counted(Counter::Refused(Cause::NoUserPart))),
-    Metric::Link(LinkMetric::Counted(Counter::Refused(Cause::NotInProfile))),
-    Metric::Link(LinkMetric::Counted(Counter::Refused(Cause::BadManagement))),
-    Metric::Link(LinkMetric::Counted(Counter::Refused(Cause::BadSccp))),
-    Metric::Link(LinkMetric::Counted(Counter::Refused(Cause::NoNature))),
-    Metric::Link(LinkMetric::Counted(Counter::Refused(Cause::NoDigits))),
-    Metric::Link(LinkMetric::Counted(Counter::Refused(Cause::Unequipped))),
-    Metric::Link(LinkMetric::Counted(Counter::Refused(Cause::TooLong))),
-    Metric::Link(LinkMetric::Counted(Counter::Refused(Cause::LostUnconfirmed))),
-    Metric::Link(LinkMetric::Counted(Counter::Refused(Cause::ManagementFull))),
-    Metric::Link(LinkMetric::Counted(Counter::Refused(Cause::NotFromAdjacent))),
-    Metric::Link(LinkMetric::Counted(Counter::Refused(Cause::LinkNotReady))),
-    Metric::Link(LinkMetric::Counted(Counter::Refused(Cause::ChangeoverPending))),
-    Metric::Link(LinkMetric::Counted(Counter::Refused(Cause::NoMemory))),
-    Metric::Link(LinkMetric::Counted(Counter::Refused(Cause::TableFull))),
-    Metric::Link(LinkMetric::Counted(Counter::Refused(Cause::DuplicateRow))),
-    Metric::Link(LinkMetric::Counted(Counter::Refused(Cause::NoSuchName))),
-    Metric::Link(LinkMetric::Counted(Counter::Refused(Cause::HopCounter))),
-    Metric::Link(LinkMetric::Counted(Counter::Refused(Cause::ShareFull))),
-    Metric::Link(LinkMetric::Counted(Counter::Refused(Cause::SubsystemProhibited))),
-];
-
-/// Failures, by each reason.
-const FAILURES: [Metric; 8] = [
-    Metric::Link(LinkMetric::Counted(Counter::Failed(FailureReason::Association))),
-    Metric::Link(LinkMetric::Counted(Counter::Failed(FailureReason::Timer))),
-    Metric::Link(LinkMetric::Counted(Counter::Failed(FailureReason::Sequence))),
-    Metric::Link(LinkMetric::Counted(Counter::Failed(FailureReason::Status))),
-    Metric::Link(LinkMetric::Counted(Counter::Failed(FailureReason::Length))),
-    Metric::Link(LinkMetric::Counted(Counter::Failed(FailureReason::Changeover))),
-    Metric::Link(LinkMetric::Counted(Counter::Failed(FailureReason::Operator))),
-    Metric::Link(LinkMetric::Counted(Counter::Failed(FailureReason::Test))),
-];

@@ -86,7 +86,7 @@ fn push_further(metric: LinkMetric, labels: &mut ArrayString<LABELS_OCTETS>)
     }
 }
 
-/// Appends the label of a counter of refusals or of failures, its cause or its reason.
+/// Appends the label of a counter of refusals, failures or setbacks, its cause or its reason.
 fn push_reason(counter: Counter, labels: &mut ArrayString<LABELS_OCTETS>)
     requires { length labels.old.bytes ≤ 24 }
     ensures label { labels.new.bytes ≡ labels.old.bytes ++ counter_labels counter }
@@ -99,6 +99,11 @@ fn push_reason(counter: Counter, labels: &mut ArrayString<LABELS_OCTETS>)
             labels.push_str("\"");
         }
         Counter::Failed(reason) => {
+            labels.push_str(",reason=\"");
+            labels.push_str(reason.name());
+            labels.push_str("\"");
+        }
+        Counter::Setbacks(reason) => {
             labels.push_str(",reason=\"");
             labels.push_str(reason.name());
             labels.push_str("\"");

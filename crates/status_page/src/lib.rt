@@ -17,6 +17,7 @@ pub mod names;
 pub mod noticed;
 pub mod page;
 pub mod patience;
+mod reasons;
 mod sample;
 pub mod service;
 mod state;

@@ -12,7 +12,7 @@ use crate::members::{put_bool, put_number, put_text};
 use console::link_name;
 use exchange::{Exchange, LinkView};
 use json::Writer;
-use served_link::{Counter, Counters, LinkCounters};
+use served_link::{Counter, Counters, LinkCounters, Setback};
 use settings::Settings;
 use signalling_types::{Cause, FailureReason, LinkId, SetId};
 use std::alloc::AllocError;
@@ -67,6 +67,28 @@ const FAILURES: [Counter; 8] = [
     Counter::Failed(FailureReason::Changeover),
     Counter::Failed(FailureReason::Operator),
     Counter::Failed(FailureReason::Test),
+];
+
+/// INITs that were refused, by each reason.
+const INITS: [Counter; 10] = [
+    Counter::Setbacks(Setback::OtherPort),
+    Counter::Setbacks(Setback::TooMany),
+    Counter::Setbacks(Setback::WithoutTag),
+    Counter::Setbacks(Setback::HostName),
+    Counter::Setbacks(Setback::FewStreams),
+    Counter::Setbacks(Setback::Unwanted),
+    Counter::Setbacks(Setback::NoTagLeft),
+    Counter::Setbacks(Setback::ShuttingDown),
+    Counter::Setbacks(Setback::WithoutCookie),
+    Counter::Setbacks(Setback::LongCookie),
+];
+
+/// Tries that failed, by each reason.
+const TRIES: [Counter; 4] = [
+    Counter::Setbacks(Setback::EndedByPeer),
+    Counter::Setbacks(Setback::Unanswered),
+    Counter::Setbacks(Setback::BadAnswer),
+    Counter::Setbacks(Setback::EndedByNode),
 ];
 
 /// Appends the object of a link; nothing if there is no such link.
@@ -148,7 +170,9 @@ fn put_counters(row: &LinkCounters, out: &mut Writer) -> Result<(), AllocError>
 {
     put_each(&TOTALS, row, out)?;
     put_object("refused", &REFUSALS, row, out)?;
-    put_object("failed", &FAILURES, row, out)
+    put_object("failed", &FAILURES, row, out)?;
+    put_object("inits", &INITS, row, out)?;
+    put_object("tries", &TRIES, row, out)
 }
 
 /// Appends an object of these counters.
@@ -191,5 +215,6 @@ fn key(counter: Counter) -> &'static str
         Counter::Refused(cause) => cause.name(),
         Counter::Failed(reason) => reason.name(),
         Counter::Retries => "retries",
+        Counter::Setbacks(reason) => reason.name(),
     }
 }

@@ -1,14 +1,14 @@
 //! Why a node is no longer served.
 
-use served_node::OpenFault;
+use served_node::{CaptureFault, OpenFault};
 use std::io;
 
 /// Why a node is no longer served, although nobody stopped it.
 pub enum ServeFailure {
     /// The server couldn't be opened.
     Open(OpenFault),
-    /// The capture file couldn't be made.
-    Capture,
+    /// The capture can't go where it is to go.
+    Capture(CaptureFault),
     /// The clock or the poll failed.
     System,
 }

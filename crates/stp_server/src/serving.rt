@@ -7,30 +7,32 @@ use crate::server::{Places, Server};
 use script::Sink;
 use sctp_links::times::millis;
 use served_link::{MOST_TICKS, TickClock, Unwatched};
-use served_node::{DroppingLog, FileCapture, HeldFile, Log, OpenFault};
+use served_node::{CaptureFault, CapturePlace, DroppingLog, FileCapture, Log};
 use settings::Settings;
 use settings_file::serve::ServeSettings;
+use std::fmt;
 use std::time::{Duration, Instant, SystemTime};
-use std::{fmt, fs};
 use trace::{Capture, UntilFailure};
 
-/// Serves a node with these settings until a client stops it. The log writes to standard output; lines that it doesn't
-/// take at once are dropped.
+/// Serves a node with these settings, which are those of this file, until a client stops it. The log writes to standard
+/// output; lines that it doesn't take at once are dropped.
 pub fn serve<W: Sink>(
     rt: &HostRuntime,
     settings: Settings,
     serve: &ServeSettings,
+    file: &str,
     log: &mut W,
 ) -> Result<(), ServeFailure> {
     let mut log = DroppingLog::new(rt, rt.alloc(), log);
-    serve_logged(rt, settings, serve, &mut log)
+    serve_logged(rt, settings, serve, file, &mut log)
 }
 
-/// Serves a node with these settings, with this log.
+/// Serves a node with these settings of a file, with this log.
 fn serve_logged<W: Sink>(
     rt: &HostRuntime,
     settings: Settings,
     serve: &ServeSettings,
+    file: &str,
     log: &mut W,
 ) -> Result<(), ServeFailure> {
     let (links, tick_ms) = (settings.link_count(), serve.tick_ms());
@@ -50,7 +52,7 @@ fn serve_logged<W: Sink>(
     };
     match Server::open(rt, rt.alloc(), settings, places, log) {
         Ok(mut server) => {
-            let served = serve_opened(rt, &mut server, serve, log);
+            let served = serve_opened(rt, &mut server, serve, file, log);
             server.close(rt);
             served
         }
@@ -69,29 +71,46 @@ fn serve_opened<W: Sink>(
     rt: &HostRuntime,
     server: &mut Server,
     serve: &ServeSettings,
+    file: &str,
     log: &mut W,
 ) -> Result<(), ServeFailure> {
-    if let Some(file) = serve.capture() {
-        server.capture_to(capture(rt, file)?);
-        tell(&format_args!("capture {file}"), Duration::ZERO, log);
+    if let Some(place) = capture_place(serve, file) {
+        server.capture_to(capture(rt, place)?);
+        // The files of a ring are told of as they begin.
+        if place.ring.is_none() {
+            tell(&format_args!("capture {}", place.file), Duration::ZERO, log);
+        }
     }
     let started = Instant::now(rt)?;
     run(rt, server, serve.tick_ms(), started, log)
 }
 
-/// A capture into a new file of this name.
-fn capture(rt: &HostRuntime, file: &str) -> Result<FileCapture, ServeFailure> {
+/// Where the capture goes, if there is one, in the settings of this file.
+fn capture_place<'a>(serve: &'a ServeSettings, file: &'a str) -> Option<CapturePlace<'a>> {
+    Some(CapturePlace {
+        file: serve.capture()?,
+        ring: serve
+            .capture_limits()
+            .map(|limits| (limits.size, limits.files)),
+        settings: file,
+    })
+}
+
+/// A capture that goes there.
+fn capture(rt: &HostRuntime, place: CapturePlace<'_>) -> Result<FileCapture, ServeFailure> {
     let now = SystemTime::now(rt)?;
     let since_1970 = now
         .duration_since(SystemTime::UNIX_EPOCH)
         .unwrap_or(Duration::ZERO);
-    let Ok(file) = fs::create(rt, file) else {
-        return Err(ServeFailure::Capture);
+    let file = match place.open(rt) {
+        Ok(file) => file,
+        Err(fault) => return Err(ServeFailure::Capture(fault)),
     };
-    match HeldFile::new(rt, rt.alloc(), file) {
-        Ok(file) => Ok(Capture::begin(UntilFailure::new(file), since_1970)),
-        Err(_) => Err(ServeFailure::Open(OpenFault::NoMemory)),
+    let capture = Capture::begin(UntilFailure::new(file), since_1970);
+    if place.ring.is_some() && capture.has_failed() {
+        return Err(ServeFailure::Capture(CaptureFault::Unmade));
     }
+    Ok(capture)
 }
 
 /// Makes round after round. What came is handed in before a tick that is due passes: after a pause, the confirmations

@@ -5,8 +5,8 @@ use crate::datagrams::incoming::Incoming;
 use crate::datagrams::plugs::{Inbox, Plug};
 use crate::datagrams::watched_socket::WatchedSocket;
 use exchange::Exchange;
-use sctp_endpoint::Settings as EndpointSettings;
 use sctp_endpoint::endpoint::KEY_OCTETS;
+use sctp_endpoint::{Addresses, Settings as EndpointSettings};
 use sctp_gate::Gate;
 use sctp_sending::Bounds;
 use settings::LinkId;
@@ -91,6 +91,7 @@ impl GateEnd {
             own_port: M2PA_PORT,
             far_port: M2PA_PORT,
             address: plug.inbox.other(),
+            addresses: Addresses::none(),
             bounds: BOUNDS,
             init_retransmissions: INIT_RETRANSMISSIONS,
             retransmissions: RETRANSMISSIONS,

@@ -4,16 +4,20 @@ ghost use Rattle.std.specs.Prelude.{◌≡◌, ◌≢◌, ℕ, ◌+◌, ◌<◌,
 ghost use Rattle.std.specs.Prelude.{length, take, drop};
 ghost use Rattle.script.specs.Asking.{asked_line};
 ghost use Rattle.served_node.specs.Answers.{IsAnswered};
+ghost use Rattle.std.specs.Option.{option_map};
+ghost use Rattle.served_node.specs.Captured.{after_order, answer_to, order_of};
 ghost use Rattle.served_node.specs.Clients.{just_came, sees_of, told_of, OnlyOutboxChanges};
 ghost use Rattle.served_node.specs.Clients.{line_feed, without_return, EndsNoLine, IsOneLine};
 ghost use Rattle.served_node.specs.WholeLines.{DoesLine, DoesLineAt, IsAnsweredBy, ending_of, output_of};
 ghost use Rattle.served_node.specs.declared.console_session.outbox.TheConstants.{OUTBOX_OCTETS};
 
 use super::answering::do_script_line;
+use super::capturing::{order_capture, print_captured};
 use super::command::{ConsoleLine, parse_console_line, without_return};
 use super::counting::print_counters;
 use super::help::HELP;
 use super::outbox::Outbox;
+use crate::captured_links::CapturedLinks;
 use exchange::Exchange;
 use point_format::PointFormat;
 use script::{Grown, Line, Malformed, OpenLine, Sink, WriteFailed};
@@ -65,6 +69,8 @@ pub struct ConsoleContext<'a> {
     pub counters: &'a Counters,
     /// How point codes are read and shown.
     pub points: PointFormat,
+    /// Which of its links are captured.
+    pub captured: &'a mut CapturedLinks,
 }
 
 /// A client of the console: the line that it is writing, what waits to be written to it, and what it is told.
@@ -127,6 +133,7 @@ impl ConsoleClient {
             → LINE_OCTETS < length self.old.line + length front → result.1 ≡ Ending.Closes }
         // They do nothing to the node, and don't stop it.
         ensures still { EndsNoLine octets.now → context.new.exchange.now ≡ context.old.exchange.now }
+        ensures captured_still { EndsNoLine octets.now → context.new.captured.now ≡ context.old.captured.now }
         ensures goes_on { EndsNoLine octets.now → result.1 ≢ Ending.Stops }
         // How points are read, and the counters, stay whatever comes.
         ensures points { context.new.points ≡ context.old.points }
@@ -135,8 +142,8 @@ impl ConsoleClient {
         ensures done { (front behind : List ℕ) → octets.now ≡ front ++ line_feed ∷ behind → EndsNoLine front
             → length self.old.line + length front ≤ LINE_OCTETS
             → (result.0 ≡ length front + 1)
-            × DoesLine context.old.points (without_return (self.old.line ++ front)) context.old.counters.now result.1
-            context.old.exchange.now context.new.exchange.now
+            × DoesLine context.old.points (without_return (self.old.line ++ front)) context.old.counters.now
+            context.old.captured.now context.new.captured.now result.1 context.old.exchange.now context.new.exchange.now
             (record self.old { line = [] }) self.new }
     {
         for (k, octet) in octets.iter().enumerate() {
@@ -154,7 +161,8 @@ impl ConsoleClient {
         ensures points { context.new.points ≡ context.old.points }
         ensures counters { context.new.counters.now ≡ context.old.counters.now }
         ensures done { DoesLine context.old.points (without_return self.old.line)
-            context.old.counters.now result context.old.exchange.now context.new.exchange.now
+            context.old.counters.now context.old.captured.now context.new.captured.now result
+            context.old.exchange.now context.new.exchange.now
             (record self.old { line = [] }) self.new }
     {
         let line = mem::replace(&mut self.line, OpenLine::first());
@@ -175,6 +183,7 @@ impl ConsoleClient {
         ensures points { context.new.points ≡ context.old.points }
         ensures counters { context.new.counters.now ≡ context.old.counters.now }
         ensures done { DoesLineAt context.old.points is_first line.now context.old.counters.now
+            context.old.captured.now context.new.captured.now
             (ending_of result) context.old.exchange.now context.new.exchange.now self.old self.new }
     {
         match parse_console_line(line, context.points) {
@@ -182,6 +191,10 @@ impl ConsoleClient {
             Ok(ConsoleLine::Script(line)) => self.do_script(line, context)?,
             Ok(ConsoleLine::Counters) => {
                 print_counters(context.exchange, context.counters, &mut self.outbox)?;
+            }
+            Ok(ConsoleLine::Capture { is_on, link }) => self.order_capture(is_on, link, context)?,
+            Ok(ConsoleLine::Captured) => {
+                print_captured(context.exchange, context.captured, &mut self.outbox)?;
             }
             Ok(ConsoleLine::Help) => self.answer(HELP)?,
             Ok(ConsoleLine::Users) => self.begin(News::Message)?,
@@ -209,11 +222,33 @@ impl ConsoleClient {
     ) -> Result<(), WriteFailed>
         ensures points { context.new.points ≡ context.old.points }
         ensures counters { context.new.counters.now ≡ context.old.counters.now }
+        ensures captured { context.new.captured.now ≡ context.old.captured.now }
         ensures same { OnlyOutboxChanges self.old self.new }
         ensures answer { IsAnswered (asked_line line.entry) context.old.exchange.now result context.new.exchange.now
             (output_of self.old.outbox) (output_of self.new.outbox) }
     {
         do_script_line(context.exchange, line, &mut self.outbox)
+    }
+
+    /// Does an order about the capture of the link of this name, or of all, and answers it.
+    fn order_capture(
+        &mut self,
+        is_on: bool,
+        name: Option<&[u8]>,
+        context: &mut ConsoleContext<'_>,
+    ) -> Result<(), WriteFailed>
+        ensures points { context.new.points ≡ context.old.points }
+        ensures counters { context.new.counters.now ≡ context.old.counters.now }
+        ensures exchange { context.new.exchange.now ≡ context.old.exchange.now }
+        ensures captured { context.new.captured.now
+            ≡ after_order (order_of context.old.exchange.now.settings is_on (option_map (λ name. name.now) name.entry))
+            context.old.captured.now }
+        ensures answer { IsAnsweredBy
+            (answer_to (order_of context.old.exchange.now.settings is_on (option_map (λ name. name.now) name.entry))
+            context.old.captured.now) result self.old self.new }
+    {
+        let answer = order_capture(context.exchange.settings(), context.captured, is_on, name);
+        self.answer(answer)
     }
 
     fn answer(&mut self, text: &[u8]) -> Result<(), WriteFailed>

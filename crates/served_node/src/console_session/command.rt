@@ -1,7 +1,9 @@
 //! The lines of a client.
 
 ghost use Rattle.std.specs.Prelude.{◌≡◌};
-ghost use Rattle.served_node.specs.Lines.{heard, heard_of, own_line, own_line_of, is_for_clients};
+ghost use Rattle.std.specs.Option.{option_map};
+ghost use Rattle.served_node.specs.Lines.{heard, heard_line, heard_of, own_line, own_line_of, is_for_clients};
+ghost use Rattle.served_node.specs.Lines.{HearsCapture, behind, capture_line, capture_of_link};
 ghost use Rattle.served_node.specs.Clients.{without_return};
 ghost use Rattle.script.specs.Asking.{asked_line};
 
@@ -20,6 +22,16 @@ pub enum ConsoleLine<'a> {
     Script(Line<'a>),
     /// `show counters`: the counters of each link.
     Counters,
+    /// `capture start` or `capture stop`: all links are captured from now on, or none is; with a link's name behind it,
+    /// that link alone.
+    Capture {
+        /// Whether it is `start`.
+        is_on: bool,
+        /// The link's name; no link need have it.
+        link: Option<&'a [u8]>,
+    },
+    /// `show capture`: whether each link is captured.
+    Captured,
     /// `help`: what a client may write.
     Help,
     /// `users`: from now on the messages for this point.
@@ -63,9 +75,48 @@ fn own_line(line: &[u8]) -> Option<ConsoleLine<'_>>
         Some(ConsoleLine::Counters)
     } else if line == b"stop".as_slice() {
         Some(ConsoleLine::Stop)
+    } else if line == b"show capture".as_slice() {
+        Some(ConsoleLine::Captured)
     } else {
-        None
+        capture_line(line)
     }
+}
+
+/// What a line about the capture asks for.
+fn capture_line(line: &[u8]) -> Option<ConsoleLine<'_>>
+    ensures { own_line_of result ≡ capture_line line.now }
+{
+    if line == b"capture start".as_slice() {
+        Some(captures(true, None))
+    } else if line == b"capture stop".as_slice() {
+        Some(captures(false, None))
+    } else {
+        capture_of_link(line)
+    }
+}
+
+/// What a line about the capture of one link asks for.
+fn capture_of_link(line: &[u8]) -> Option<ConsoleLine<'_>>
+    ensures { own_line_of result ≡ capture_of_link line.now }
+{
+    if let Some(name) = behind(b"capture start ", line) {
+        return Some(captures(true, Some(name)));
+    }
+    let name = behind(b"capture stop ", line)?;
+    Some(captures(false, Some(name)))
+}
+
+fn captures(is_on: bool, link: Option<&[u8]>) -> ConsoleLine<'_>
+    ensures { heard_line result ≡ HearsCapture is_on (option_map (λ name. name.now) link.entry) }
+{
+    ConsoleLine::Capture { is_on, link }
+}
+
+/// What is behind a front, if a line begins with that.
+fn behind<'a>(front: &[u8], line: &'a [u8]) -> Option<&'a [u8]>
+    ensures { option_map (λ rest. rest.now) result ≡ behind front.now line.now }
+{
+    line.strip_prefix(front)
 }
 
 /// Whether a line of a script may come from a client.

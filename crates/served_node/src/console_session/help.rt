@@ -11,6 +11,7 @@ show notices              the last 64 notices
 show flags                how often a message may have been lost, or flows gone out of order
 show losses               the messages named as lost, and how often that wasn't known for sure
 show counters             what passed on each link since the start: counter NAME LINK VALUE
+show capture              each link: whether it is captured
 submit HEX                a user part submits a message: its SIO, then its SIF
 activate LINK             the link may open; activate LINK emergency: with emergency proving
 deactivate LINK           the link goes out of service, and stays out
@@ -22,5 +23,7 @@ title remove T P N DIGITS a translation row is removed
 users                     from now on each message for this point: local LINK HEX
 watch                     from now on each notice as it falls
 watch frames              from now on each frame in words
+capture start             from now on all links are captured; capture start LINK: that one, too
+capture stop              from now on no link is captured; capture stop LINK: that one isn't
 stop                      the node closes its connections and ends
 ";
