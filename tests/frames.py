@@ -60,16 +60,21 @@ class Packet:
         return self.frame[22] if is_management else None
 
 
-def read_capture(file: Path) -> list[Packet]:
-    """The packets of a pcap file of link type 248. Fails at one that isn't a whole frame in an SCTP packet."""
+def read_capture(file: Path, may_be_cut: bool = False) -> list[Packet]:
+    """The packets of a pcap file of link type 248. Fails at one that isn't a whole frame in an SCTP packet, unless it is
+    the last and may be cut."""
     octets = file.read_bytes()
     magic, major, minor, _, _, longest, kind = struct.unpack_from("<IHHiIII", octets)
     assert (magic, major, minor, kind) == (0xA1B2C3D4, 2, 4, 248), f"the header of {file}"
     packets, at = [], 24
     while at < len(octets):
+        if may_be_cut and at + 16 > len(octets):
+            break
         _, _, captured, length = struct.unpack_from("<IIII", octets, at)
         assert captured == length <= longest, f"a record of {captured} of {length} octets at {at}"
         at += 16 + captured
+        if may_be_cut and at > len(octets):
+            break
         assert at <= len(octets), f"a record ends at {at} of {len(octets)} octets"
         packets.append(_packet(octets[at - captured : at]))
     return packets

@@ -9,6 +9,7 @@ from __future__ import annotations
 
 import atexit
 import contextlib
+import json
 import os
 import re
 import signal
@@ -90,8 +91,8 @@ class Link:
 
 @dataclass(frozen=True)
 class SctpLink:
-    """A link over SCTP: its name, the adjacent point, its code, the UDP port of the peer, the SCTP ports of both, and
-    where the peer is."""
+    """A link over SCTP: its name, the adjacent point, its code, the UDP port of the peer, the SCTP ports of both, where
+    the peer is, and the own addresses that it lists."""
 
     name: str
     adjacent: int
@@ -101,29 +102,38 @@ class SctpLink:
     far_port: int
     tries: bool = True
     host: str = HOST
+    is_port_fixed: bool = False
+    addresses: Sequence[str] = ()
 
     def text(self) -> str:
         return (
             f'[[link]]\nname = "{self.name}"\nset = "to-{self.adjacent}"\nslc = {self.code}\n'
             f'remote = "{self.host}:{self.remote}"\nsctp_port = {self.own_port}\n'
             f"remote_sctp_port = {self.far_port}\ntries = {str(self.tries).lower()}\n"
+            + "remote_port_fixed = true\n" * self.is_port_fixed
+            + f"addresses = {json.dumps([*self.addresses])}\n" * bool(self.addresses)
         )
 
 
-def settings(own: int, links: Sequence[Link | SctpLink], *, window: int = 128, pool: int = 1000, tick_ms: int = 50,
-             console: int | str | None = None, page: int | None = None, page_open: bool = False, capture: str | None = None,
+def settings(own: int, links: Sequence[Link | SctpLink], *, version: int = 2, window: int = 128, pool: int = 1000,
+             tick_ms: int = 50, console: int | str | None = None, page: int | None = None, page_open: bool = False,
+             capture: str | None = None, capture_size: int | str | None = None, capture_files: int | None = None,
              points: str | None = None, udp: int | None = None, sctp: dict[str, int] | None = None, **timers: int) -> str:
     """The settings of a node with these links. A console is at a port, or at the path of a Unix socket. Timers that
     aren't named are LONG, but for the proving period."""
     adjacents = list(dict.fromkeys(link.adjacent for link in links))
     ticks = {**dict.fromkeys(TIMERS, LONG), "l4": 1, **timers}
-    lines = ["version = 2", f"own = {own}", "network = 2", f"window = {window}", f"pool = {pool}"]
+    listing = any(isinstance(link, SctpLink) and link.addresses for link in links)
+    version = 4 if listing or capture_size is not None else version
+    lines = [f"version = {version}", f"own = {own}", "network = 2", f"window = {window}", f"pool = {pool}"]
     lines += ["users = [5]", "subsystems = [8]", "[serve]", f"tick_ms = {tick_ms}"]
     lines += [f'console = "{HOST}:{console}"'] * isinstance(console, int)
     lines += [f'console = "{console}"'] * isinstance(console, str)
     lines += [f'page = "{HOST}:{page}"'] * (page is not None)
     lines += ["page_open = true"] * page_open
-    lines += [f'capture = "{capture}"'] * (capture is not None)
+    lines += [f"capture = {json.dumps(capture)}"] * (capture is not None)
+    lines += [f"capture_size = {json.dumps(capture_size)}"] * (capture_size is not None)
+    lines += [f"capture_files = {capture_files}"] * (capture_files is not None)
     lines += [f'points = "{points}"'] * (points is not None)
     lines += [f'udp = "{HOST}:{udp}"'] * (udp is not None)
     if sctp is not None:

@@ -1,4 +1,4 @@
-"""Two network namespaces with a wire between them, relays of SCTP over IP in them, and nodes that these join.
+"""Two network namespaces with wires between them, relays of SCTP over IP in them, and nodes that these join.
 
 Each namespace lasts as long as a process that holds it. That one reads from the test, and what else runs there is
 killed as the test ends. So nothing is left of them, however the test ends.
@@ -23,16 +23,32 @@ from harness import PATIENCE, ROOT, started, wait_until
 RELAY = ROOT / "packaging/sctp-relay"
 WIRE = Path(__file__).with_name("wire.py")
 
-# The interface of each end of the wire, and its prefixes.
-INTERFACE, FOUR, SIX = "across", "10.77.0.{}/24", "fd77::{}/64"
+# The interface at each end of the wire of a path, and an address there, without and with the length of its prefix.
+INTERFACE, FOUR, SIX = "across{}", "10.{}.0.{}", "fd{}::{}"
+FIRST_PREFIX, FOUR_LENGTH, SIX_LENGTH = 77, "/24", "/64"
 # A program with no privilege but raw sockets, also where it is root.
 RAW_SOCKETS_ALONE = ("setpriv", "--bounding-set=-all,+net_raw", "--inh-caps=-all", "--no-new-privs")
 # What shows that there may be raw sockets of SCTP.
 TRIAL = "import socket; socket.socket(socket.AF_INET, socket.SOCK_RAW, 132)"
 
 
+def interface(path: int = 0) -> str:
+    """The interface at each end of a path, by its number."""
+    return INTERFACE.format(path)
+
+
+def four(number: int, path: int = 0) -> str:
+    """The IPv4 address of that number on a path."""
+    return FOUR.format(FIRST_PREFIX + path, number)
+
+
+def six(number: int, path: int = 0) -> str:
+    """The IPv6 address of that number on a path."""
+    return SIX.format(FIRST_PREFIX + path, number)
+
+
 class Namespace:
-    """A network namespace, with an interface of its own besides the loopback one."""
+    """A network namespace, with interfaces of its own besides the loopback one."""
 
     def __init__(self) -> None:
         pipes = {"stdin": subprocess.PIPE, "stdout": subprocess.PIPE, "stderr": subprocess.DEVNULL}
@@ -53,23 +69,33 @@ class Namespace:
     def run(self, *words: str) -> None:
         subprocess.run([*self.words, *words], check=True, capture_output=True, timeout=PATIENCE)
 
-    def join(self, wire: Namespace, name: str) -> None:
-        """Makes the interface, whose other end is in the namespace of the wire under this name."""
-        self.run("ip", "link", "add", INTERFACE, "type", "veth", "peer", "name", name, "netns", str(wire.holder.pid))
-        for interface in ("lo", INTERFACE):
-            self.run("ip", "link", "set", interface, "up")
+    def read(self, file: str) -> list[list[str]]:
+        """The words of each line of a file, as it is in the namespace."""
+        told = subprocess.run([*self.words, "cat", file], check=True, capture_output=True, timeout=PATIENCE)
+        return [line.split() for line in told.stdout.decode().splitlines()]
+
+    def join(self, wire: Namespace, name: str, path: int = 0) -> None:
+        """Makes the interface of a path, whose other end is in the namespace of the wire under this name."""
+        ends = (interface(path), "type", "veth", "peer", "name", name, "netns", str(wire.holder.pid))
+        self.run("ip", "link", "add", *ends)
+        for each in ("lo", interface(path)):
+            self.run("ip", "link", "set", each, "up")
         wire.run("ip", "link", "set", name, "up")
 
-    def address(self, number: int) -> None:
-        """Gives the interface a further address of both versions of IP."""
-        self.run("ip", "address", "add", FOUR.format(number), "dev", INTERFACE)
-        self.run("ip", "address", "add", SIX.format(number), "dev", INTERFACE, "nodad")
+    def address(self, number: int, path: int = 0) -> None:
+        """Gives the interface of a path a further address of both versions of IP."""
+        self.run("ip", "address", "add", four(number, path) + FOUR_LENGTH, "dev", interface(path))
+        self.run("ip", "address", "add", six(number, path) + SIX_LENGTH, "dev", interface(path), "nodad")
 
     def ip_count(self, name: str) -> int:
         """A counter that the namespace's IP has."""
-        told = subprocess.run([*self.words, "cat", "/proc/net/snmp"], check=True, capture_output=True, timeout=PATIENCE)
-        names, values = [line.split() for line in told.stdout.decode().splitlines() if line.startswith("Ip: ")]
+        names, values = [words for words in self.read("/proc/net/snmp") if words[0] == "Ip:"]
         return int(values[names.index(name)])
+
+    def packets_out(self, path: int = 0) -> int:
+        """How many frames went out by the interface of a path."""
+        row, = [words for words in self.read("/proc/net/dev") if words[0] == f"{interface(path)}:"]
+        return int(row[10])
 
     def close(self) -> None:
         self.holder.kill()
@@ -137,19 +163,20 @@ class Program:
 
 @dataclass(frozen=True)
 class RelayedPeer:
-    """A peer of a relay: its name, where the node meets it, the addresses, and the pairs of SCTP ports."""
+    """A peer of a relay: its name, where the node meets it, the addresses of each path, and the pairs of SCTP ports."""
 
     name: str
     remote: str
-    own: str
-    peer: str
+    paths: Sequence[tuple[str, str]]
     ports: Sequence[tuple[int, int]]
 
     def text(self) -> str:
-        return (
-            f'[[peer]]\nname = "{self.name}"\nremote = "{self.remote}"\nown_address = "{self.own}"\n'
-            f'peer_address = "{self.peer}"\nsctp_ports = {[list(pair) for pair in self.ports]}\n'
-        )
+        rows = [f'[[peer]]\nname = "{self.name}"\nremote = "{self.remote}"']
+        if len(self.paths) == 1:
+            rows.append('own_address = "{}"\npeer_address = "{}"'.format(*self.paths[0]))
+        else:
+            rows.append(f"paths = {[list(path) for path in self.paths]}")
+        return "\n".join([*rows, f"sctp_ports = {[list(pair) for pair in self.ports]}", ""])
 
 
 class Relay:
@@ -191,22 +218,37 @@ def counted(lines: Sequence[str]) -> Counter[str]:
 
 
 class Network:
-    """Two namespaces with the addresses 1 and 2 of both versions of IP, and a wire that loses a share of packets."""
+    """Two namespaces with the addresses 1 and 2 of both versions of IP on each path, and for each path a wire, which
+    loses a share of packets."""
 
     def __init__(self, folder: Path) -> None:
         self.folder, self.namespaces, self.relays = folder, list[Namespace](), list[Relay]()
-        self.wire: Program | None = None
+        self.wires: list[Program] = []
 
-    def make(self, loss: float) -> None:
+    def make(self, loss: float, paths: int = 1) -> None:
         for _ in range(3):
             self.namespaces.append(Namespace())
         self.near, self.middle, self.far = self.namespaces
-        for number, (namespace, end) in enumerate(((self.near, "near"), (self.far, "far")), 1):
-            namespace.join(self.middle, end)
-            namespace.address(number)
-        words = (sys.executable, WIRE, "near", "far", str(loss), "1")
-        self.wire = Program(self.middle, self.folder / "wire", *words)
-        self.wire.await_line("ready")
+        self.loss = loss
+        for path in range(paths):
+            for number, (namespace, end) in enumerate(((self.near, "near"), (self.far, "far")), 1):
+                namespace.join(self.middle, f"{end}{path}", path)
+                namespace.address(number, path)
+            self.wires.append(self.wire(path))
+
+    def wire(self, path: int) -> Program:
+        words = (sys.executable, WIRE, f"near{path}", f"far{path}", str(self.loss), "1")
+        wire = Program(self.middle, self.folder / f"wire{path}", *words)
+        wire.await_line("ready")
+        return wire
+
+    def cut(self, path: int) -> None:
+        """From now on nothing passes by a path, and nobody is told."""
+        self.wires[path].kill()
+
+    def mend(self, path: int) -> None:
+        """Packets pass by the path again."""
+        self.wires[path] = self.wire(path)
 
     def relay(self, namespace: Namespace, node: str, *peers: RelayedPeer) -> Relay:
         """Starts a relay."""
@@ -215,16 +257,15 @@ class Network:
         relay.start()
         return relay
 
-    def cut(self) -> tuple[int, int]:
-        """Ends the wire. Returns how many packets of SCTP passed, and how many were lost."""
-        assert self.wire is not None
-        _, passed, _, lost = self.wire.finish()[-1].split()
+    def finish(self) -> tuple[int, int]:
+        """Ends the wire of the first path. Returns how many packets of SCTP passed, and how many were lost."""
+        _, passed, _, lost = self.wires[0].finish()[-1].split()
         return int(passed), int(lost)
 
     def close(self) -> None:
         for relay in self.relays:
             relay.kill()
-        if self.wire is not None:
-            self.wire.kill()
+        for wire in self.wires:
+            wire.kill()
         for namespace in self.namespaces:
             namespace.close()

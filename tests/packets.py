@@ -8,7 +8,7 @@ from pathlib import Path
 # The polynomial of CRC32c, reflected (RFC 9260 appendix A).
 POLYNOMIAL = 0x82F63B78
 
-DATA, INIT, ABORT = 0, 1, 6
+DATA, INIT, INIT_ACK, ABORT = 0, 1, 2, 6
 
 
 def _entry(octet: int) -> int:

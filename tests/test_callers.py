@@ -12,7 +12,7 @@ KEPT_NOTICES = 64
 LOST = 100
 LINE_OCTETS = 8300
 QUESTIONS = 6000
-HELP_LINES = 21
+HELP_LINES = 24
 ROUTE = f"route {FAR} to-{FAR} allowed"
 
 # What a web page may have a browser write to any port, without the body.
@@ -48,7 +48,7 @@ class Callers(NodeTest):
         for number, line in enumerate(shown):
             self.assertRegex(line, rf"^link e{number} InService waiting 0 fsn \d+ bsn \d+$")
         self.assertEqual(self.near.ask("show routes"), [ROUTE])
-        self.assertEqual(len(self.near.ask("show counters")), 3 * 40 + 3)
+        self.assertEqual(len(self.near.ask("show counters")), 3 * 54 + 3)
         self.assertEqual(len(self.near.ask("help")), HELP_LINES)
         self.assertEqual(self.near.ask("# nothing\n"), [])
         caller = self.near.call()

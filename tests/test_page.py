@@ -430,7 +430,7 @@ def counted_of(link: dict) -> Iterator[tuple[str, int]]:
     """The counters of a link as the console names them."""
     for name in ("frames_in", "octets_in", "frames_out", "octets_out", "forwarded", "delivered", "retries"):
         yield name, link[name]
-    for group in ("refused", "failed"):
+    for group in ("refused", "failed", "inits", "tries"):
         for name, value in link[group].items():
             yield f"{group}_{name}", value
 

@@ -4,9 +4,11 @@ from __future__ import annotations
 
 import random
 import socket
+import struct
+import time
 
 from harness import HOST, Node, NodeTest, SctpLink, free_port, wait_until
-from packets import ABORT, DATA, INIT, chunk, crc32c, is_whole, kinds, packet, read_packets
+from packets import ABORT, DATA, INIT, INIT_ACK, chunk, crc32c, is_whole, kinds, packet, read_packets
 from traffic import FAR, NEAR, Flowing
 
 CAPTURE = "node.pcap"
@@ -28,9 +30,10 @@ NEAR_PORT, FAR_PORT = 3565, 4565
 class SctpPair:
     """Two nodes with links over SCTP between them, of which both ends try to open each."""
 
-    def __init__(self, test: NodeTest, *, links: int = 3, is_begun: bool = True, **more) -> None:
+    def __init__(self, test: NodeTest, *, links: int = 3, is_begun: bool = True, is_port_fixed: bool = False, **more) -> None:
         self.near_udp, self.far_udp = free_port(), free_port()
         self.names = [f"e{number}" for number in range(links)]
+        self.is_port_fixed = is_port_fixed
         self.near = test.node(NEAR, self.links_to(FAR, self.far_udp, NEAR_PORT, FAR_PORT), udp=self.near_udp, **more)
         self.far = test.node(FAR, self.links_to(NEAR, self.near_udp, FAR_PORT, NEAR_PORT), udp=self.far_udp, **more)
         if is_begun:
@@ -40,7 +43,7 @@ class SctpPair:
 
     def links_to(self, adjacent: int, udp: int, own_port: int, far_port: int) -> list[SctpLink]:
         return [
-            SctpLink(name, adjacent, code, udp, own_port + code, far_port + code)
+            SctpLink(name, adjacent, code, udp, own_port + code, far_port + code, is_port_fixed=self.is_port_fixed)
             for code, name in enumerate(self.names)
         ]
 
@@ -99,7 +102,7 @@ class Service(NodeTest):
         pair = SctpPair(self, is_begun=False, sctp=IMPATIENT)
         pair.near.start()
         for name in pair.names:
-            pair.near.await_log(f"fail {name} {HOST}:{pair.far_udp}$")
+            pair.near.await_log(f"fail {name} {HOST}:{pair.far_udp} silence$")
         pair.far.start()
         pair.begin()
         pair.exchange(MESSAGES)
@@ -145,17 +148,76 @@ class Strangers(NodeTest):
         for node in (pair.near, pair.far):
             self.assertEqual(node.logged("notice|close|fail"), 0)
             self.assertEqual(node.logged("open"), 3)
+        counted = pair.near.counters()["e0"]
+        self.assertEqual(counted["inits_other_port"], 1)
 
     def is_answered(self, source: str, octets: bytes, port: int) -> bool:
         """Sends a datagram from a socket of its own, and says whether something comes back soon."""
         with socket.socket(socket.AF_INET, socket.SOCK_DGRAM) as stranger:
             stranger.bind((source, 0))
-            stranger.settimeout(0.1)
-            stranger.sendto(octets, (HOST, port))
-            try:
-                return bool(stranger.recv(1 << 16))
-            except TimeoutError:
-                return False
+            return bool(answer_to(stranger, octets, port))
+
+
+class Inits(NodeTest):
+    def test_another_port_is_left_out(self) -> None:
+        """While an association is up, an INIT from another UDP port of the peer's host gets no answer. It is counted, and
+        the log names where it came from: once a second at most, with how many they were."""
+        pair = SctpPair(self)
+        pair.exchange(MESSAGES)
+        with socket.socket(socket.AF_INET, socket.SOCK_DGRAM) as other:
+            other.bind((HOST, 0))
+            port = other.getsockname()[1]
+            for tag in range(1, 11):
+                self.assertEqual(answer_to(other, init(tag), pair.near_udp), b"")
+        pair.near.await_log(f"refuse e0 {HOST}:{port} other_port [0-9]+$", 2)
+        self.assertEqual(pair.near.counters()["e0"]["inits_other_port"], 10)
+        told = [int(line.split()[-1]) for line in words(pair.near) if line.startswith("refuse e0")]
+        self.assertEqual(sum(told), 10)
+        pair.exchange(MESSAGES)
+        self.assertEqual(pair.near.logged("notice|close|fail"), 0)
+
+    def test_a_port_that_is_fixed(self) -> None:
+        """It counts also while no association is up; without the key any port of the peer's host does."""
+        for is_fixed in (False, True):
+            pair = SctpPair(self, is_begun=False, is_port_fixed=is_fixed, version=4)
+            pair.near.start()
+            with socket.socket(socket.AF_INET, socket.SOCK_DGRAM) as other:
+                other.bind((HOST, 0))
+                answer = answer_to(other, init(1), pair.near_udp)
+            self.assertEqual(kinds(answer) if answer else [], [] if is_fixed else [INIT_ACK])
+            self.assertEqual(pair.near.counters()["e0"]["inits_other_port"], int(is_fixed))
+            pair.near.kill()
+
+    def test_reasons(self) -> None:
+        """An INIT that is refused is counted with its reason, and told to the log."""
+        pair = SctpPair(self, is_begun=False)
+        pair.near.start()
+        with socket.socket(socket.AF_INET, socket.SOCK_DGRAM) as other:
+            other.bind((HOST, 0))
+            self.assertEqual(kinds(answer_to(other, init(1, streams=1), pair.near_udp)), [ABORT])
+            pair.near.await_log("refuse e0 .* few_streams 1$")
+            self.assertEqual(answer_to(other, init(0), pair.near_udp), b"")
+            pair.near.ask("deactivate e0")
+            time.sleep(1)
+            self.assertEqual(answer_to(other, init(1), pair.near_udp), b"")
+            pair.near.await_log("refuse e0 .* unwanted 1$")
+        counted = pair.near.counters()["e0"]
+        self.assertEqual([counted[f"inits_{why}"] for why in ("few_streams", "without_tag", "unwanted")], [1, 1, 1])
+
+
+def init(tag: int, *, streams: int = 2) -> bytes:
+    """An INIT of the far end of link e0."""
+    return packet(FAR_PORT, NEAR_PORT, 0, chunk(INIT, struct.pack(">IIHHI", tag, 1 << 16, streams, streams, 1)))
+
+
+def answer_to(sender: socket.socket, octets: bytes, port: int) -> bytes:
+    """Sends a datagram, and gives what comes back soon; nothing if nothing does."""
+    sender.settimeout(0.1)
+    sender.sendto(octets, (HOST, port))
+    try:
+        return sender.recv(1 << 16)
+    except TimeoutError:
+        return b""
 
 
 class Restarts(NodeTest):

@@ -5,7 +5,6 @@ import fcntl
 import os
 import re
 import signal
-import struct
 
 from harness import NodeTest, run, wait_until
 from traffic import Pair
@@ -17,13 +16,6 @@ LONGEST_OCTETS, MANY, BURST = 272, 16_000, 1000
 
 # The octets of the smallest pipe, and callers whose lines in the log are more.
 PIPE_OCTETS, CALLERS = 4096, 200
-
-# Messages whose frames have more octets than the 1,048,576 that a capture keeps for a slow reader.
-CAPTURED = 6000
-
-# The headers of a pcap file and of its records, and the longest packet: a frame of 290 octets after 28, and its
-# padding.
-FILE_HEADER_OCTETS, RECORD_HEADER_OCTETS, LONGEST_PACKET = 24, 16, 320
 
 
 class FullSocket(NodeTest):
@@ -75,32 +67,6 @@ class SlowReaders(NodeTest):
                 self.assertRegex(line, rb"^\d+\.\d{3} [a-z]+")
         pair.exchange(MESSAGES)
 
-    def test_a_capture_that_nobody_reads(self) -> None:
-        """The node goes on; frames for which there is no room are dropped whole, and counted once there is room."""
-        fifo = self.folder / "frames"
-        os.mkfifo(fifo)
-        reader = os.open(fifo, os.O_RDONLY | os.O_NONBLOCK)
-        self.addCleanup(os.close, reader)
-        pair = Pair(self, octets=LONGEST_OCTETS, pool=5000, near_capture=str(fifo))
-        for _ in range(CAPTURED // MESSAGES):
-            pair.forth.exchange(MESSAGES)
-        self.assertEqual(pair.near.logged("capture missed"), 0)
-        captured = bytearray()
-
-        def is_missed() -> bool:
-            with contextlib.suppress(BlockingIOError):
-                captured.extend(os.read(reader, 1 << 20))
-            pair.near.ask("show links")
-            return pair.near.logged(r"capture missed \d+ frames$") > 0
-
-        wait_until(is_missed, "the log tells how many frames were missed")
-        pair.forth.exchange(MESSAGES)
-        at = FILE_HEADER_OCTETS
-        while at + RECORD_HEADER_OCTETS <= len(captured):
-            octets, length = struct.unpack_from("<II", captured, at + 8)
-            self.assertEqual(octets, length, "each record is whole")
-            self.assertLessEqual(octets, LONGEST_PACKET)
-            at += RECORD_HEADER_OCTETS + octets
 
 class FailingStreams(NodeTest):
     def setUp(self) -> None:

@@ -59,7 +59,7 @@ class LongRun(OverIpTest):
         self.check_undisturbed(pair.near, pair.far)
         counts, seconds = pair.far_relay.counts(), pair.far_relay.program.processor_seconds()
         carried = counts["across to_node"] + counts["across to_peer"]
-        passed, lost = pair.network.cut()
+        passed, lost = pair.network.finish()
         print(f"{pair.forth.count()} messages there and {pair.back.count()} back, each once, its flow in order, "
               f"in {took:.0f} s; no association ended, no flag was raised")
         print(f"{passed} packets passed and {lost} were lost; the relay was killed {self.kills} times, and away for "

@@ -19,6 +19,7 @@ from dataclasses import dataclass
 HERE = pathlib.Path(__file__).resolve().parent
 sys.path[:0] = [str(HERE), str(HERE.parent)]
 
+from checksums import GOOD, statuses  # noqa: E402
 from harness import HOST, TIMERS, Node, free_port, wait_until  # noqa: E402
 from two_ends import build  # noqa: E402
 
@@ -272,14 +273,9 @@ def read_capture(folder: pathlib.Path) -> str:
     capture = folder / "node" / "node.pcap"
     if shutil.which("tshark") is None or not capture.exists():
         return "no tshark"
-    words = ["tshark", "-r", str(capture), "-o", "sctp.checksum:TRUE"]
-    count = len(subprocess.run(words, capture_output=True, text=True).stdout.splitlines())
-    wrong = "sctp.checksum.status == 0 || sctp.checksum.status == \"Bad\" || _ws.malformed"
-    told = subprocess.run([*words, "-Y", wrong], capture_output=True, text=True)
-    assert told.returncode == 0, told.stderr
-    bad = len(told.stdout.splitlines())
-    assert bad == 0, f"tshark complains of {bad} packets: {told.stdout.splitlines()[:3]}"
-    return f"{count} packets, none malformed, checksums right"
+    found = statuses(capture)
+    assert found.keys() == {GOOD}, f"tshark complains: {found}"
+    return f"{found[GOOD]} packets, none malformed, checksums right"
 
 
 def make(run: Run, program) -> tuple[bool, str]:
