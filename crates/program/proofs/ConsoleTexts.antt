@@ -1,6 +1,6 @@
 -- What the texts of a console are to its client.
-use Rattle.std.proofs.Common.{◌≡◌, ℕ, zero, suc, List, [], ◌∷◌, ◌++◌, Bool, true, false, Some, refl, ap, arith, length, inl, inr}
-use Rattle.std.specs.Prelude.{codes, decimal, nat_eq, nat_le, ◌||◌, take}
+use Rattle.std.proofs.Common.{◌≡◌, ℕ, zero, suc, List, [], ◌∷◌, ◌++◌, Bool, true, false, Option, None, Some, refl, ap, arith, length, inl, inr}
+use Rattle.std.specs.Prelude.{codes, decimal, nat_eq, nat_le, ◌||◌, take, if◌then◌else◌}
 use Rattle.std.specs.Fmt.{digits}
 use Rattle.std.proofs.lemmas.Bool.Decides.{nat_tests}
 use Rattle.std.proofs.lemmas.Bool.{leb-true}
@@ -19,12 +19,14 @@ use Rattle.exchange.specs.Calls.{Kept}
 use Rattle.console.specs.Names.{name_in}
 use Rattle.console.specs.Texts.{refused_text, notice_text, flag_line, loss_line}
 use Rattle.program.specs.ConsoleAnswers.{blanks, is_answer, is_last, is_refusal}
+use Rattle.served_node.specs.Captured.{Captured, answer_to, captured_line, order_of}
 use Rattle.served_node.specs.Clients.{ClientState}
 use Rattle.served_node.specs.WholeLines.{IsTold, IsRefused}
 use Rattle.served_node.specs.declared.console_session.client.Ending.{Ending}
 use Rattle.served_node.specs.declared.console_session.client.Ending.TheVariants.{Stays, Closes, Stops}
+use Rattle.served_node.specs.declared.captured_links.CaptureOrder.{CaptureOrder}
 use Rattle.served_node.specs.declared.console_session.help.TheConstants.{HELP}
-use Rattle.program.specs.ConsoleLaws.{Answers, IsSaid, IsHelp, LinesAnswer, IsNone, ShownAnswersNone, outcomes_answer}
+use Rattle.program.specs.ConsoleLaws.{Answers, IsSaid, IsHelp, IsOrderAnswer, LinesAnswer, IsNone, ShownAnswersNone, outcomes_answer}
 
 -- a line without anything unknown is judged by computing
 pub judged : (refuses closes_first closes : Bool) (line : List ℕ) → nat_le (length line) 64 ≡ true → is_answer line ≡ true → is_refusal line ≡ refuses
@@ -124,14 +126,24 @@ watching = judged false false false (codes "handled") refl refl refl refl refl
 stopping : Answers false true true (codes "stopping\n")
 stopping = judged false true true (codes "stopping") refl refl refl refl refl
 
+-- an order about what is captured
+done-or-ignored : (order : CaptureOrder) (captured : Captured) (is_there : Bool) → captured.is_there ≡ is_there → IsOrderAnswer (answer_to (Some order) captured)
+done-or-ignored order captured true there = rw there (inl watching)
+done-or-ignored order captured false there = rw there (inr (judged true false false (codes "ignored") refl refl refl refl refl))
+
+ordered : (order : Option CaptureOrder) (captured : Captured) → IsOrderAnswer (answer_to order captured)
+ordered None captured = inr (judged true false false (codes "refused 22 NoSuchName") refl refl refl refl refl)
+ordered (Some order) captured = done-or-ignored order captured captured.is_there refl
+
 pub others : LinesAnswer
 others = record {
-  malformed = λ is_first counters ending s after old new does. malformed-said is_first ending old new does.1;
-  users = λ is_first counters ending s after old new does. told-said (Answers false false false) _ Stays ending _ new watching does.1;
-  notices = λ is_first counters ending s after old new does. told-said (Answers false false false) _ Stays ending _ new watching does.1;
-  frames = λ is_first counters ending s after old new does. told-said (Answers false false false) _ Stays ending _ new watching does.1;
-  help = λ is_first counters ending s after old new does. told-said IsHelp HELP.now Stays ending old new refl does.1;
-  stop = λ is_first counters ending s after old new does. told-said (Answers false true true) _ Stops ending old new stopping does.1;
+  malformed = λ is_first counters captured captured_after ending s after old new does. malformed-said is_first ending old new does.2;
+  users = λ is_first counters captured captured_after ending s after old new does. told-said (Answers false false false) _ Stays ending _ new watching does.2;
+  notices = λ is_first counters captured captured_after ending s after old new does. told-said (Answers false false false) _ Stays ending _ new watching does.2;
+  frames = λ is_first counters captured captured_after ending s after old new does. told-said (Answers false false false) _ Stays ending _ new watching does.2;
+  help = λ is_first counters captured captured_after ending s after old new does. told-said IsHelp HELP.now Stays ending old new refl does.2;
+  stop = λ is_first counters captured captured_after ending s after old new does. told-said (Answers false true true) _ Stops ending old new stopping does.2;
+  capture = λ is_on name is_first counters captured captured_after ending s after old new does. told-said IsOrderAnswer _ Stays ending old new (ordered (order_of s.settings is_on name) captured) does.2;
 }
 
 -- ---- what is shown
@@ -163,6 +175,10 @@ losses s zero line e = there _ line refl e
 losses s (suc zero) line e = there _ line refl e
 losses s (suc (suc k)) line e = cc e
 
+captured-lines : (name : List ℕ) (is_on : Bool) → IsNone (captured_line name is_on)
+captured-lines name true = refl
+captured-lines name false = refl
+
 pub shown : ShownAnswersNone
 shown = record {
   links = λ name v is_barred. refl;
@@ -174,4 +190,5 @@ shown = record {
   losses = losses;
   counters = λ counter name value. refl;
   datagrams = λ name value. refl;
+  captured = captured-lines;
 }

@@ -1,6 +1,6 @@
 -- What a console answers and shows, as its client reads it.
 use Rattle.std.specs.Prelude.{◌≡◌, ◌⊎◌, ℕ, ◌≤◌, Bool, true, false, List, [], ◌∷◌, ◌++◌, length, take}
-use Rattle.std.specs.Prelude.{Some}
+use Rattle.std.specs.Prelude.{Option, Some}
 use Rattle.settings_rows.specs.Configuration.{Configuration, TitleEntry}
 use Rattle.signalling_types.specs.declared.limits.TheConstants.Limits.{NAME_OCTETS}
 use Rattle.signalling_types.specs.declared.notice.Notice.{Notice}
@@ -16,9 +16,10 @@ use Rattle.served_link.specs.declared.counter.Counter.{Counter}
 use Rattle.served_link.specs.Lines.{counter_line, datagram_line}
 use Rattle.console.specs.Texts.{link_text, route_text, title_text, subsystem_text, notice_text, flag_line, loss_line}
 use Rattle.script.specs.Texts.{outcome_line}
+use Rattle.served_node.specs.Captured.{Captured, captured_line}
 use Rattle.served_node.specs.Clients.{ClientState, told_of}
 use Rattle.served_node.specs.Lines.{Heard as Line, HearsUsers, HearsNotices, HearsFrames, HearsHelp, HearsStop}
-use Rattle.served_node.specs.Lines.{HearsNoLine}
+use Rattle.served_node.specs.Lines.{HearsCapture, HearsNoLine}
 use Rattle.served_node.specs.WholeLines.{DoesHeard, answered, unanswered}
 use Rattle.served_node.specs.declared.console_session.client.Ending.{Ending}
 use Rattle.served_node.specs.declared.console_session.client.News.TheVariants as news
@@ -58,12 +59,17 @@ IsSaid IsText old new = (new ≡ unanswered old) ⊎ ((text : List ℕ) × IsTex
 
 abbrev pub Says : Line → (ClientState → ClientState) → (IsText : List ℕ → Type 0) → Type 0
 Says line begun IsText =
-    (is_first : Bool) (counters : NodeCounters) (ending : Ending) (s after : Kept) (old new : ClientState)
-    → DoesHeard line is_first counters ending s after old new → IsSaid IsText (begun old) new
+    (is_first : Bool) (counters : NodeCounters) (captured captured_after : Captured) (ending : Ending) (s after : Kept)
+    (old new : ClientState) → DoesHeard line is_first counters captured captured_after ending s after old new
+    → IsSaid IsText (begun old) new
 
 -- of the text of `help` the first line is an answer, and no other
 abbrev pub IsHelp : List ℕ → Type 0
 IsHelp text = read text nothing ≡ record nothing { is_first = false; answers = 1 }
+
+-- an order is done, or isn't
+abbrev pub IsOrderAnswer : List ℕ → Type 0
+IsOrderAnswer text = Answers false false false text ⊎ Answers true false false text
 
 -- what other lines are answered
 pub record LinesAnswer : Type 0 where
@@ -73,6 +79,7 @@ pub record LinesAnswer : Type 0 where
   pub frames : Says HearsFrames (λ old. told_of old news.Frame) (Answers false false false)
   pub help : Says HearsHelp (λ old. old) IsHelp
   pub stop : Says HearsStop (λ old. old) (Answers false true true)
+  pub capture : (is_on : Bool) (name : Option (List ℕ)) → Says (HearsCapture is_on name) (λ old. old) IsOrderAnswer
 
 -- ---- what is none
 
@@ -91,3 +98,4 @@ pub record ShownAnswersNone : Type 0 where
   pub losses : (s : Kept) (k : ℕ) (line : List ℕ) → loss_line s k ≡ Some line → IsNone line
   pub counters : (counter : Counter) (name : List ℕ) (value : ℕ) → IsNone (counter_line counter name value)
   pub datagrams : (name : List ℕ) (value : ℕ) → IsNone (datagram_line name value)
+  pub captured : (name : List ℕ) (is_on : Bool) → IsNone (captured_line name is_on)
