@@ -153,7 +153,7 @@ module _ (shape : Shape) (joined : IsJoined shape) (p : Network) (f : Line → �
       ))
 
 -- what came from all nodes came to all
-came-across : (shape : Shape) → IsJoined shape → (test : Message → Bool) (p : Network) →
+pub came-across : (shape : Shape) → IsJoined shape → (test : Message → Bool) (p : Network) →
     sum_to (came_from shape test p) shape.nodes ≡ sum_to (came_to shape test p) shape.nodes
 came-across shape joined test p =
     at-all shape joined p (λ z. count_by test z.near.came)

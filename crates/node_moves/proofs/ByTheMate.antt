@@ -6,8 +6,8 @@ use Rattle.node_moves.proofs.Mated.{mated-theirs, of-four}
 use Rattle.node_moves.proofs.MatedRun.{come-is, come_from, failed-is, failed_from, first_four, sent-is, sent_from}
 use Rattle.node_moves.specs.Laws.{waits_at}
 use Rattle.node_moves.specs.MatedPair.{mated}
-use Rattle.node_moves.specs.MatedRun.{AnAnswer, AnOrder, ComesByTheMate, Word, come, message_one, message_two, users, words}
-use Rattle.node_moves.specs.Networks.{NetworkNode, NetworkState}
+use Rattle.node_moves.specs.MatedRun.{AnAnswer, AnOrder, ComesByTheMate, Word, come, delivered, message_one, message_two, queued, users, users_in, words}
+use Rattle.node_moves.specs.Networks.{Fate, NetworkNode, NetworkState, messages_of}
 use Rattle.changeover.specs.Changeover.{may_restart}
 use Rattle.exchange_rules.specs.State.{lost_any}
 unfoldable use Rattle.exchange_rules.specs.Exchange.{apply}
@@ -24,7 +24,7 @@ unfoldable use Rattle.changeback.specs.Return.{changes_of, changes}
 
 -- ---- on the way
 
-its-coming : users ((sent_from first_four).three.came 0) ≡ message_one ∷ []
+its-coming : users_in ((sent_from first_four).three.came 0) ≡ delivered message_one ∷ []
 unfolding apply tell_owed first_sets links_below status_of set_timer clear_timer start_unless_running clear_set due_name after_due due_count names_of choice_among link_by changes_of changes take_back_each owes_nothing any_flow flows rerouted order_each
 its-coming = refl
 
@@ -48,9 +48,9 @@ record Shown : Type 0 where
   named : ℕ
   restarts : Bool
   accepted : List Message
-  first_users : List Message
-  second_users : List Message
-  third_users : List Message
+  first_users : List Fate
+  second_users : List Fate
+  third_users : List Fate
   second_words : List Word
   third_words : List Word
 
@@ -61,15 +61,15 @@ shown x = record {
   named = x.node.parts.messages_lost;
   restarts = may_restart (changeover_of x.node.parts 0);
   accepted = users x.accepted;
-  first_users = users (x.came 0);
-  second_users = users (x.came 1);
-  third_users = users (x.came 2);
-  second_words = words (x.came 1);
-  third_words = words (x.came 2);
+  first_users = users_in (x.came 0);
+  second_users = users_in (x.came 1);
+  third_users = users_in (x.came 2);
+  second_words = words (messages_of (x.came 1));
+  third_words = words (messages_of (x.came 2));
 }
 
 -- a node at which nothing was broken or lost
-abbrev shows : (accepted first_users second_users third_users : List Message) → (second_words third_words : List Word) → Shown
+abbrev shows : (accepted : List Message) → (first_users second_users third_users : List Fate) → (second_words third_words : List Word) → Shown
 shows accepted first_users second_users third_users second_words third_words = record {
   broken = 0;
   lost = false;
@@ -87,11 +87,11 @@ near-shows : shown (come_from first_four).one ≡ shows (message_one ∷ message
 unfolding apply tell_owed first_sets links_below status_of set_timer clear_timer start_unless_running clear_set due_name after_due due_count names_of choice_among link_by changes_of changes take_back_each owes_nothing any_flow flows rerouted order_each
 near-shows = refl
 
-mate-shows : shown (come_from first_four).two ≡ shows (message_two ∷ []) [] [] (message_two ∷ []) [] (AnOrder ∷ AnAnswer ∷ [])
+mate-shows : shown (come_from first_four).two ≡ shows (message_two ∷ []) [] [] (queued 0 message_two ∷ []) [] (AnOrder ∷ AnAnswer ∷ [])
 unfolding apply tell_owed first_sets links_below status_of set_timer clear_timer start_unless_running clear_set due_name after_due due_count names_of choice_among link_by changes_of changes take_back_each owes_nothing any_flow flows rerouted order_each
 mate-shows = refl
 
-far-shows : shown (come_from first_four).three ≡ shows [] (message_one ∷ []) (message_two ∷ []) [] (AnOrder ∷ AnAnswer ∷ []) []
+far-shows : shown (come_from first_four).three ≡ shows [] (delivered message_one ∷ []) (delivered message_two ∷ []) [] (AnOrder ∷ AnAnswer ∷ []) []
 unfolding apply tell_owed first_sets links_below status_of set_timer clear_timer start_unless_running clear_set due_name after_due due_count names_of choice_among link_by changes_of changes take_back_each owes_nothing any_flow flows rerouted order_each
 far-shows = refl
 
@@ -106,10 +106,10 @@ none-waits = refl
 near-is : shown (come.node 1) ≡ shows (message_one ∷ message_two ∷ []) [] [] [] [] (AnOrder ∷ AnAnswer ∷ [])
 near-is = ap (λ (w : NetworkState). shown (w.node 1)) come-is ∙ near-shows
 
-mate-is : shown (come.node 2) ≡ shows (message_two ∷ []) [] [] (message_two ∷ []) [] (AnOrder ∷ AnAnswer ∷ [])
+mate-is : shown (come.node 2) ≡ shows (message_two ∷ []) [] [] (queued 0 message_two ∷ []) [] (AnOrder ∷ AnAnswer ∷ [])
 mate-is = ap (λ (w : NetworkState). shown (w.node 2)) come-is ∙ mate-shows
 
-far-is : shown (come.node 3) ≡ shows [] (message_one ∷ []) (message_two ∷ []) [] (AnOrder ∷ AnAnswer ∷ []) []
+far-is : shown (come.node 3) ≡ shows [] (delivered message_one ∷ []) (delivered message_two ∷ []) [] (AnOrder ∷ AnAnswer ∷ []) []
 far-is = ap (λ (w : NetworkState). shown (w.node 3)) come-is ∙ far-shows
 
 pub comes-by : ComesByTheMate
@@ -118,7 +118,7 @@ comes-by = record {
   unbroken =
       of-four (λ point. (come.node point).node.parts.times_broken ≡ 0) (ap (λ (s : Shown). s.broken) near-is) (ap (λ (s : Shown). s.broken) mate-is) (ap (λ (s : Shown). s.broken) far-is)
       (ap (λ (w : NetworkState). (w.node 4).node.parts.times_broken) come-is ∙ last-shows);
-  comes = ap (λ (w : NetworkState). users ((w.node 3).came 0)) sent-is ∙ its-coming;
+  comes = ap (λ (w : NetworkState). users_in ((w.node 3).came 0)) sent-is ∙ its-coming;
   flies = ap (λ (w : NetworkState). length ((w.node 3).user_data 0)) failed-is ∙ its-flying;
   down_here = ap (λ (w : NetworkState). down (w.node 1).node.parts 0) failed-is ∙ is-down_here;
   down_there = ap (λ (w : NetworkState). down (w.node 3).node.parts 0) failed-is ∙ is-down_there;

@@ -1,5 +1,5 @@
 -- User Data comes to a node: by moves.
-use Rattle.node_moves.proofs.Basics.{◌≡◌, ◌≢◌, ℕ, Bool, true, false, not, ◌+◌, ◌≤◌, ◌<◌, List, [], ◌∷◌, ◌++◌, length, drop, Option, Some, None, Ok, count_by, is_some, min, refl, ap, sym, subst, ◌∙◌, arith, get_or-set_same, get_or-set_other, length-set}
+use Rattle.node_moves.proofs.Basics.{◌≡◌, ◌≢◌, ℕ, Bool, true, false, not, ◌+◌, ◌≤◌, ◌<◌, List, [], ◌∷◌, ◌++◌, length, map, drop, Option, Some, None, Ok, count_by, is_some, min, refl, ap, sym, subst, ◌∙◌, arith, get_or-set_same, get_or-set_other, length-set}
 use Rattle.node_moves.proofs.Machine.{Frame, EmptyFrame, MessageFrame, LinkEnd, Live, Line, Network, Shape, Place, line_at, node_at, user}
 use Rattle.node_moves.proofs.Definitions.{Message, Configuration, IsWell, Node, WholeQueues, Parts, whole, link_at, queue_at, in_service, down, changeover_of, Queue, first_queue, Link, down_link, is_down, is_in_service, Alignment}
 use Rattle.node_moves.proofs.Reading.{IsShape, says_of}
@@ -10,7 +10,7 @@ use Rattle.node_moves.proofs.Failures.{node-there}
 use Rattle.node_moves.proofs.World.{IsFlown, AreData, AreStatuses, ShownAt, place_at}
 use Rattle.node_moves.proofs.Relining.{Leads, leads-one, line-set}
 use Rattle.node_moves.proofs.Flights.{changed-here, updated-here, updated-other, OnlyHere, only-changed, reline-near}
-use Rattle.node_moves.specs.Networks.{NetworkNode, NetworkState, IsNode, changed, updated}
+use Rattle.node_moves.specs.Networks.{Fate, NetworkNode, NetworkState, IsNode, changed, messages_of, updated}
 use Rattle.node_moves.specs.Laws.{AreTheirs}
 use Rattle.exchange_rules.proofs.Lists.{alike-at, each-set}
 use Rattle.exchange_rules.proofs.Serving.{data-serves, fails-up}
@@ -27,6 +27,7 @@ use Rattle.network_moves.proofs.Counts.{count-cons, count-append}
 use Rattle.network_moves.specs.Carrying.{with_frames_left, with_accepted}
 use Rattle.network_moves.specs.Moves as moves
 use Rattle.network_moves.specs.Networks as net
+use Rattle.signalling_types.specs.declared.outcome.Outcome.TheVariants.{Ignored}
 use Rattle.std.specs.Option.{option_to_list}
 
 -- User Data as a frame of the machine
@@ -47,9 +48,20 @@ ignored-down period (Proving false) e = absurd cc
 ignored-down period AlignedReady e = absurd cc
 ignored-down period InService e = absurd cc
 
--- what is in flight is less by the first, and these messages came more
+-- what is in flight is less by the first, and these messages came more. (What becomes of them isn't seen here.)
+abbrev pub unseen : List Message → List Fate
+unseen ms = map (λ m. record { message = m; outcome = Ignored }) ms
+
 abbrev pub popped : (link : ℕ) → List Message → NetworkNode → NetworkNode
-popped link new x = record x { user_data = updated x.user_data link (drop 1 (x.user_data link)); came = updated x.came link (x.came link ++ new) }
+popped link new x = record x { user_data = updated x.user_data link (drop 1 (x.user_data link)); came = updated x.came link (x.came link ++ unseen new) }
+
+pub messages-append : (fs gs : List Fate) → messages_of (fs ++ gs) ≡ messages_of fs ++ messages_of gs
+messages-append [] gs = refl
+messages-append (f ∷ fs) gs = ap (λ (ms : List Message). f.message ∷ ms) (messages-append fs gs)
+
+pub messages-unseen : (ms : List Message) → messages_of (unseen ms) ≡ ms
+messages-unseen [] = refl
+messages-unseen (m ∷ ms) = ap (λ (ks : List Message). m ∷ ks) (messages-unseen ms)
 
 module _ (settings : (point : ℕ) → Configuration) (t : AreTheirs settings) (shape : Shape) (o : IsShape shape) (w : NetworkState) (x link : ℕ) (fx : IsNode settings x) (inside : link < length (settings x).links) where
   abbrev c : Configuration
@@ -69,7 +81,7 @@ module _ (settings : (point : ℕ) → Configuration) (t : AreTheirs settings) (
     user_data = updated-other (w.node x).user_data link (drop 1 ((w.node x).user_data link)) l d;
     statuses = refl;
     follows = refl;
-    came = updated-other (w.node x).came link ((w.node x).came link ++ new) l d;
+    came = ap messages_of (updated-other (w.node x).came link ((w.node x).came link ++ unseen new) l d);
   })
 
   -- the line shows it, where the first frame is gone and these messages came
@@ -86,8 +98,10 @@ module _ (settings : (point : ℕ) → Configuration) (t : AreTheirs settings) (
           arith,
           came test,
           h.came test,
-          ap (count_by test) (updated-here (w.node x).came link ((w.node x).came link ++ new)),
-          count-append test ((w.node x).came link) new,
+          ap (λ (gs : List Fate). count_by test (messages_of gs)) (updated-here (w.node x).came link ((w.node x).came link ++ unseen new)),
+          ap (count_by test) (messages-append ((w.node x).came link) (unseen new)),
+          ap (λ (ms : List Message). count_by test (messages_of ((w.node x).came link) ++ ms)) (messages-unseen new),
+          count-append test (messages_of ((w.node x).came link)) new,
         );
       })
     where

@@ -9,9 +9,10 @@ use Rattle.node_moves.proofs.Heard.{own-apart}
 use Rattle.node_moves.proofs.World.{IsFlown, Shown, IsUnused, rests, place_at}
 use Rattle.node_moves.proofs.Relining.{across-line}
 use Rattle.node_moves.proofs.BothEnds.{IsOther, is-other}
+use Rattle.node_moves.proofs.FateCounts.{counted-messages}
 use Rattle.node_moves.proofs.Running.{all_points, are-all, reached}
-use Rattle.node_moves.specs.Networks.{NetworkState, LinkEnd, IsNode, other_end, after_steps, first_network}
-use Rattle.node_moves.specs.Laws.{AreTheirs, is_user, came_by, received_by, waiting_on, came_from, waits_at, accepted_at, EndsOnce, each_message_ends_once}
+use Rattle.node_moves.specs.Networks.{Fate, NetworkState, LinkEnd, IsNode, other_end, after_steps, first_network, messages_of}
+use Rattle.node_moves.specs.Laws.{AreTheirs, is_user, came_by, received_by, waiting_on, came_from, waits_at, accepted_at, fates_that, any_fate, EndsOnce, each_message_ends_once}
 use Rattle.node_moves.specs.Laws as law
 use Rattle.exchange_rules.proofs.MadeManagement.{code-fits, adjacent-fits}
 use Rattle.network_moves.proofs.Counts.{count-cons, sum-alike, sum-but, sum-none, sum-added, if-true, if-false}
@@ -137,6 +138,9 @@ users-same test (m ∷ ms) =
     let is : one_if (user says_of test m) ≡ one_if (is_user m && test m) = ap (λ (b : Bool). one_if (b && test m)) (user-by m (is_long m) (is_management m) refl refl) in
     omega (arith, is, count-cons (λ y. is_user y && test y) m ms, count-cons (user says_of test) m ms, users-same test ms)
 
+pub fates-same : (test : Message → Bool) (fs : List Fate) → fates_that any_fate test fs ≡ users_that test (messages_of fs)
+fates-same test fs = counted-messages (λ m. is_user m && test m) fs ∙ users-same test (messages_of fs)
+
 fewer : (t u : Message → Bool) (ms : List Message) → ((m : Message) → one_if (t m) ≤ one_if (u m)) → count_by t ms ≤ count_by u ms
 fewer t u [] h = omega arith
 fewer t u (m ∷ ms) h = omega (arith, count-cons t m ms, count-cons u m ms, h m, fewer t u ms h)
@@ -177,13 +181,13 @@ module _ (settings : (point : ℕ) → Configuration) (t : AreTheirs settings) (
       record { other = other; line = ap (line_at p) other.place ∙ across-line p (place_at settings t x link) }
 
   came-by : (test : Message → Bool) (link : ℕ) → link < length (settings x).links
-      → count_by test (line_on link).near.came ≡ count_by test (came_by settings w (other_end settings x link))
+      → count_by test (line_on link).near.came ≡ count_by test (messages_of (came_by settings w (other_end settings x link)))
   came-by test link inside =
       let found : (there : LinkEnd) × (other_end settings x link ≡ Some there) = the-other (other_end settings x link) (t.joined x link fx inside) in
       let f : IsFar link found.0 = far-end link found.0 inside found.1 in
       let there : LinkEnd = found.0 in
       let flown : IsFlown (w.node there.point) there.link (line_at p (place_at settings t there.point there.link)) = s.flown there.point there.link f.other.within f.other.inside in
-      ap (λ (z : Line). count_by test z.far.came) (sym f.line) ∙ flown.came test ∙ ap (λ (q : Option LinkEnd). count_by test (came_by settings w q)) (sym found.1)
+      ap (λ (z : Line). count_by test z.far.came) (sym f.line) ∙ flown.came test ∙ ap (λ (q : Option LinkEnd). count_by test (messages_of (came_by settings w q))) (sym found.1)
 
   waits-by : (link : ℕ) → link < length (settings x).links → waiting_on settings w x link ≡ waiting (line_on link)
   waits-by link inside =
@@ -211,8 +215,8 @@ module _ (settings : (point : ℕ) → Configuration) (t : AreTheirs settings) (
 
     came : sum_to (λ link. count_by users (line_on link).near.came) lines ≡ came_from settings w test x
     came =
-        sum-alike (λ link. law.users_that test (came_by settings w (other_end settings x link))) (λ link. count_by users (line_on link).near.came) lines
-        (λ link inside. came-by users link inside ∙ sym (users-same test (came_by settings w (other_end settings x link))))
+        sum-alike (λ link. fates_that any_fate test (came_by settings w (other_end settings x link))) (λ link. count_by users (line_on link).near.came) lines
+        (λ link inside. came-by users link inside ∙ sym (fates-same test (came_by settings w (other_end settings x link))))
 
     waits : sum_to (λ link. count_by users (waiting (line_on link))) lines ≡ sum_to (λ link. law.users_that test (waiting_on settings w x link)) lines
     waits =

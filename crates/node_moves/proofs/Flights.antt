@@ -1,5 +1,5 @@
 -- What is in flight to one node changes, and that node.
-use Rattle.node_moves.proofs.Basics.{◌≡◌, ◌≢◌, ℕ, Bool, ◌<◌, List, length, count_by, refl, ap, sym, subst, ◌∙◌, if◌then◌else◌, ⊎_elim, cases_eq, ne_eqb, eq-eqb}
+use Rattle.node_moves.proofs.Basics.{◌≡◌, ◌≢◌, ℕ, Bool, true, false, ◌<◌, List, length, count_by, nat_eq, refl, ap, sym, subst, ◌∙◌, if◌then◌else◌, ⊎_elim, cases_eq, ne_eqb, eq-eqb}
 use Rattle.node_moves.proofs.Machine.{Side, Near, Far, opposite, Line, Network, Shape, turned, Place, line_at, node_at}
 use Rattle.node_moves.proofs.Definitions.{Configuration, Node, WholeQueues}
 use Rattle.node_moves.proofs.Reading.{IsShape, across}
@@ -8,19 +8,19 @@ use Rattle.node_moves.proofs.Handling.{same-ends}
 use Rattle.node_moves.proofs.Failures.{node-there}
 use Rattle.node_moves.proofs.World.{IsFlown, AreData, AreStatuses, ShownAt, place_at, rests}
 use Rattle.node_moves.proofs.Relining.{reline, with_line}
-use Rattle.node_moves.specs.Networks.{NetworkNode, NetworkState, IsNode, changed, updated}
+use Rattle.node_moves.specs.Networks.{Fate, NetworkNode, NetworkState, IsNode, changed, messages_of, updated}
 use Rattle.node_moves.specs.Laws.{AreTheirs}
 use Rattle.network_moves.specs.Carrying.{with_statuses_left}
 use Rattle.network_moves.specs.Networks as net
 
 -- ---- nodes and their flights
 
--- what is in flight to a node on a link, and so on, is as of another node
+-- what is in flight to a node on a link, and so on, is as of another node; and the same messages came
 pub record IsSameFlight (e f : NetworkNode) (l : ℕ) : Type 0 where
   pub user_data : f.user_data l ≡ e.user_data l
   pub statuses : f.statuses l ≡ e.statuses l
   pub follows : f.follows l ≡ e.follows l
-  pub came : f.came l ≡ e.came l
+  pub came : messages_of (f.came l) ≡ messages_of (e.came l)
 
 pub same-flight : (e f : NetworkNode) (l : ℕ) (z : Line) → IsSameFlight e f l → IsFlown e l z → IsFlown f l z
 same-flight e f l z s h = record {
@@ -41,6 +41,14 @@ updated-here f link x = ap (λ (b : Bool). if b then x else f link) (eq-eqb link
 
 pub updated-other : {A : Type 0} (f : ℕ → A) (link : ℕ) (x : A) (l : ℕ) → l ≢ link → updated f link x l ≡ f l
 updated-other f link x l d = ap (λ (b : Bool). if b then x else f l) (ne_eqb l link d)
+
+-- with the same messages there, the same came
+pub came-alike : (f : ℕ → List Fate) (link : ℕ) (fs gs : List Fate) (l : ℕ) → messages_of fs ≡ messages_of gs → messages_of (updated f link fs l) ≡ messages_of (updated f link gs l)
+came-alike f link fs gs l e = by (nat_eq l link)
+  where
+    by : (b : Bool) → messages_of (if b then fs else f l) ≡ messages_of (if b then gs else f l)
+    by true = e
+    by false = refl
 
 -- the far side of a line stays
 pub record KeepsFar (y z : Line) : Type 0 where
@@ -128,5 +136,5 @@ module _ (settings : (point : ℕ) → Configuration) (t : AreTheirs settings) (
         user_data = subst (λ (xs : List (List ℕ)). AreData xs y.to_near) (sym data_same) before.user_data;
         statuses = told;
         follows = follows_same ∙ before.follows;
-        came = λ test. before.came test ∙ ap (count_by test) (sym came_same);
+        came = λ test. before.came test ∙ ap (λ (fs : List Fate). count_by test (messages_of fs)) (sym came_same);
       })

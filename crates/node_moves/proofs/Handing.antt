@@ -1,5 +1,5 @@
 -- Frames and link statuses are handed in, and link statuses are lost or come twice: steps of a network, by moves.
-use Rattle.node_moves.proofs.Basics.{◌≡◌, ◌≢◌, ℕ, zero, suc, Bool, true, false, not, ◌<◌, List, [], ◌∷◌, length, drop, Some, None, Result, Ok, Err, nat_eq, nat_lt, refl, ap, sym, subst, ◌∙◌, arith, nat_tests, if◌then◌else◌, ⊎_elim, cases_eq, ne_eqb}
+use Rattle.node_moves.proofs.Basics.{◌≡◌, ◌≢◌, ℕ, zero, suc, Bool, true, false, not, ◌<◌, List, [], ◌∷◌, ◌++◌, length, drop, Option, Some, None, Result, Ok, Err, nat_eq, nat_lt, refl, ap, sym, subst, ◌∙◌, arith, nat_tests, if◌then◌else◌, ⊎_elim, cases_eq, ne_eqb}
 use Rattle.node_moves.proofs.Machine.{Frame, Line, Network, Shape, Place, line_at, node_at, last_of}
 use Rattle.node_moves.proofs.Definitions.{Message, Configuration, IsWell, Node, Done, WholeQueues, whole, answer, refuse, is_link, down}
 use Rattle.node_moves.proofs.Reading.{IsShape}
@@ -12,11 +12,11 @@ use Rattle.node_moves.proofs.Aligning.{HeardAt, link_status-if}
 use Rattle.node_moves.proofs.Events.{late_by-goes}
 use Rattle.node_moves.proofs.World.{IsFlown, books_of, AreData, data_of, IsStatus, AreStatuses, ShownAt, Shown, rests, place_at, at-work}
 use Rattle.node_moves.proofs.Relining.{Leads, leads-one, leads-both, leads-at, leads-goes, leads-arrives, with_line, line-set, here-line}
-use Rattle.node_moves.proofs.Flights.{IsSameFlight, changed-here, changed-other, updated-here, updated-other, OnlyHere, only-changed, statuses-changed, reline-near}
+use Rattle.node_moves.proofs.Flights.{IsSameFlight, came-alike, changed-here, changed-other, updated-here, updated-other, OnlyHere, only-changed, statuses-changed, reline-near}
 use Rattle.node_moves.proofs.Steps.{StepGoes, finish, broken-before, event-settles, outcome-same, statuses-step}
-use Rattle.node_moves.proofs.Coming.{popped}
+use Rattle.node_moves.proofs.Coming.{popped, unseen, messages-append, messages-unseen}
 use Rattle.node_moves.proofs.Data.{there, Comes_in, kind-comes}
-use Rattle.node_moves.specs.Networks.{NetworkNode, NetworkState, IsNode, changed, updated, hear_data, hear_status, with_statuses, state_of}
+use Rattle.node_moves.specs.Networks.{Fate, NetworkNode, NetworkState, IsNode, changed, updated, fates, hear_data, hear_status, with_statuses, state_of, messages_of}
 use Rattle.node_moves.specs.Laws.{AreTheirs}
 use Rattle.exchange_rules.specs.Conserving.{brought_by}
 use Rattle.exchange_rules.specs.Conserving as of_rules
@@ -113,6 +113,20 @@ module _ (settings : (point : ℕ) → Configuration) (t : AreTheirs settings) (
 
   -- ---- User Data
 
+  -- the messages are those that came
+  messages-fates : (text : List ℕ) (new : Option Message) → messages_of (fates c (FrameCame link text) new (w.node x)) ≡ option_to_list new
+  messages-fates text None = refl
+  messages-fates text (Some m) = refl
+
+  same-came : (text : List ℕ) (l : ℕ) → messages_of ((hear_data c (Some text) link (w.node x)).came l) ≡ messages_of ((popped link (option_to_list (new_message link text (state_of c (w.node x)))) (w.node x)).came l)
+  same-came text l =
+      let new : Option Message = new_message link text (state_of c (w.node x)) in
+      let before : List Fate = (w.node x).came link in
+      came-alike (w.node x).came link (before ++ fates c (FrameCame link text) new (w.node x)) (before ++ unseen (option_to_list new)) l
+      (messages-append before (fates c (FrameCame link text) new (w.node x))
+      ∙ ap (λ (ms : List Message). messages_of before ++ ms) (messages-fates text new ∙ sym (messages-unseen (option_to_list new)))
+      ∙ sym (messages-append before (unseen (option_to_list new))))
+
   pub data-step : (text : List ℕ) (rest : List (List ℕ)) → (w.node x).user_data link ≡ text ∷ rest → StepGoes settings t shape o w (changed x (hear_data c (Some text) link) w)
   data-step text rest flying =
       let f : NetworkNode → NetworkNode = hear_data c (Some text) link in
@@ -136,7 +150,7 @@ module _ (settings : (point : ℕ) → Configuration) (t : AreTheirs settings) (
             ∙ ap (rests settings t) (sym is))
             (λ y d. changed-other x f w y d ∙ sym (changed-other x (popped link new) w y d))
             (λ l. subst (λ (e : NetworkNode). IsSameFlight e (v.node x) l) (sym (changed-here x (popped link new) w))
-            (subst (λ (e : NetworkNode). IsSameFlight (popped link new (w.node x)) e l) (sym is) (record { user_data = refl; statuses = refl; follows = refl; came = refl })));
+            (subst (λ (e : NetworkNode). IsSameFlight (popped link new (w.node x)) e l) (sym is) (record { user_data = refl; statuses = refl; follows = refl; came = same-came text l })));
       }
     where
       comes : (text : List ℕ) (rest : List (List ℕ)) (flying : (w.node x).user_data link ≡ text ∷ rest) (p : Network) → Shown settings t w p → Comes_in settings t shape o w x link fx inside text rest flying

@@ -38,6 +38,13 @@ decided-on : (long short ours own : Bool) (its label : Label) → decided long s
 decided-on true short ours own its label e = absurd cc
 decided-on false short ours own its label e = refl
 
+decided-away : (long short ours own : Bool) (its label : Label) → decided long short ours own its ≡ whither.Transfer label → own ≡ false
+decided-away true short ours own its label e = absurd cc
+decided-away false true ours own its label e = absurd cc
+decided-away false false false own its label e = absurd cc
+decided-away false false true true its label e = absurd cc
+decided-away false false true false its label e = refl
+
 -- one for this point
 pub here-short : (c : Configuration) (m : Message) (label : Label) → whither_goes c m ≡ whither.Here label → is_long m ≡ false
 here-short c m label e =
@@ -52,6 +59,10 @@ here-own c m label e =
 pub on-short : (c : Configuration) (m : Message) (label : Label) → whither_goes c m ≡ whither.Transfer label → is_long m ≡ false
 on-short c m label e =
     decided-on (nat_lt SIF_OCTETS (length m.sif)) (nat_lt (length m.sif) 4) (nat_eq (network_indicator m) c.network) (nat_eq (dpc_of m) c.own) (label_at m.sif) label e
+
+pub on-away : (c : Configuration) (m : Message) (label : Label) → whither_goes c m ≡ whither.Transfer label → nat_eq (dpc_of m) c.own ≡ false
+on-away c m label e =
+    decided-away (nat_lt SIF_OCTETS (length m.sif)) (nat_lt (length m.sif) 4) (nat_eq (network_indicator m) c.network) (nat_eq (dpc_of m) c.own) (label_at m.sif) label e
 
 -- ---- the link that a message is about
 

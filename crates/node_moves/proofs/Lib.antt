@@ -31,11 +31,14 @@ pub mod Opening
 pub mod Outgoing
 pub mod Sending
 pub mod Running
+pub mod FateCounts
 pub mod Ending
 pub mod Mated
 pub mod LaidOut
 pub mod Unheld
 pub mod Offering
 pub mod Delivered
+pub mod OneFate
+pub mod Booking
 pub mod MatedRun
 pub mod ByTheMate

@@ -46,19 +46,19 @@ come_from t = run (sends onward) (passing message_two (moved_from t))
 
 -- ---- both messages are submitted
 
-one-on : GoesOn message_one
+pub one-on : GoesOn message_one
 unfolding apply
-one-on = record { submits = λ n. refl; enters = λ o n. refl; comes = λ o n. refl; offers = λ n. refl }
+one-on = record { handles = λ n. refl; submits = λ n. refl; enters = λ o n. refl; comes = λ o n. refl; offers = λ n. refl }
 
-two-on : GoesOn message_two
+pub two-on : GoesOn message_two
 unfolding apply
-two-on = record { submits = λ n. refl; enters = λ o n. refl; comes = λ o n. refl; offers = λ n. refl }
+two-on = record { handles = λ n. refl; submits = λ n. refl; enters = λ o n. refl; comes = λ o n. refl; offers = λ n. refl }
 
-served-free : Free 0 0 (served_from first_four).one.node.parts.holds
+pub served-free : Free 0 0 (served_from first_four).one.node.parts.holds
 unfolding apply tell_owed first_sets links_below status_of set_timer clear_timer start_unless_running clear_set due_name after_due due_count names_of choice_among link_by changes_of changes take_back_each owes_nothing any_flow flows rerouted order_each
 served-free = free-none 0 0 3 3 3
 
-served-is : served ≡ network_of (served_from first_four)
+pub served-is : served ≡ network_of (served_from first_four)
 served-is = runs-on (first_network mated) first_four (sym (network-seen (first_network mated))) (opening ++ settling)
 
 pub sent-is : sent ≡ network_of (sent_from first_four)

@@ -1,12 +1,12 @@
 -- What becomes of a message of a run at one node, where nothing holds its flow: as it is submitted, as it comes for
 -- another point, and as a changeover that held it completes.
-use Rattle.node_moves.proofs.Basics.{◌≡◌, ℕ, Bool, true, false, List, [], ◌∷◌, ◌++◌, Option, Some, None, drop, refl, ap, sym, ◌∙◌, slice_get, slice_index_or, is_some}
+use Rattle.node_moves.proofs.Basics.{◌≡◌, ℕ, Bool, true, false, List, [], ◌∷◌, ◌++◌, Option, Some, None, drop, map, refl, ap, sym, ◌∙◌, slice_get, slice_index_or, is_some}
 use Rattle.node_moves.proofs.Definitions.{Message, Configuration, Node, Done, WholeQueues, whole, link_of, waits, flow_of}
 use Rattle.node_moves.proofs.LaidOut.{Four, network_of, placing, run, run-is}
 use Rattle.node_moves.specs.MatedPair.{mated, transfer_settings}
-use Rattle.node_moves.specs.Networks.{NetworkNode, NetworkState, Step, Submits, Delivers, after_steps, did_here, hear_data, named_by, next_in, updated}
+use Rattle.node_moves.specs.Networks.{NetworkNode, NetworkState, Step, Submits, Delivers, after_steps, did_here, hear_data, made_of, named_by, next_in, updated}
 unfoldable use Rattle.exchange_rules.specs.Exchange.{apply}
-use Rattle.exchange_rules.specs.Conserving.{brought_by, brought_to, taken_in}
+use Rattle.exchange_rules.specs.Conserving.{brought_by, brought_to, gone_by_release, taken_in}
 use Rattle.exchange_rules.specs.Exchange.{go_by, go_each, handle_event, ordered_late, settled}
 use Rattle.exchange_rules.specs.Frames.{receive}
 use Rattle.exchange_rules.specs.Laws.{accept_text}
@@ -31,6 +31,7 @@ offered m c from waiting n = offer whole c (no_room_for whole c m n) waiting (li
 
 -- it goes on at both, whatever these are doing
 pub record GoesOn (m : Message) : Type 0 where
+  pub handles : (n : Node WholeQueues) → handle_event whole near (Submitted m) n ≡ offered m near None (waits near n.parts.holds m) n
   pub submits : (n : Node WholeQueues) → apply whole near (Submitted m) n ≡ settled whole near (offered m near None (waits near n.parts.holds m) n)
   pub enters : (o : Outcome) (n : Node WholeQueues) → brought_to (whither_goes near m) o near m n ≡ taken_in o m
   pub comes : (o : Outcome) (n : Node WholeQueues) → brought_to (whither_goes mate m) o mate m n ≡ taken_in o m
@@ -39,35 +40,48 @@ pub record GoesOn (m : Message) : Type 0 where
 -- ---- at point 1 it is submitted
 
 -- this is left of the exchange, and this is accepted
-abbrev entered_as : Done WholeQueues → (brought lost : List Message) → NetworkNode → NetworkNode
-entered_as d brought lost x = record x { node = d.left; accepted = x.accepted ++ brought; named = x.named ++ lost }
+abbrev entered_as : Message → Done WholeQueues → (brought lost : List Message) → NetworkNode → NetworkNode
+entered_as m d brought lost x = record x {
+  node = d.left;
+  submitted = x.submitted ++ record { message = m; outcome = d.outcome } ∷ [];
+  accepted = x.accepted ++ brought;
+  made = x.made ++ made_of near (Some m) brought;
+  named = x.named ++ lost;
+}
 
-abbrev queued_as : Message → Done WholeQueues → NetworkNode → NetworkNode
-queued_as m d x = entered_as d (taken_in d.outcome m) (named_by near (Submitted m) x) x
+-- by what its release finds
+abbrev lost_after : Done WholeQueues → List Message
+lost_after d = (gone_by_release near d.left).lost
+
+abbrev queued_as : Message → Done WholeQueues → (lost : List Message) → NetworkNode → NetworkNode
+queued_as m d lost x = entered_as m d (taken_in d.outcome m) lost x
 
 abbrev pub queued : Message → NetworkNode → NetworkNode
-queued m x = queued_as m (settled whole near (offered m near None false x.node)) x
+queued m x = queued_as m (settled whole near (offered m near None false x.node)) (lost_after (offered m near None false x.node)) x
 
 module _ (m : Message) (on : GoesOn m) where
   pub is-queued : (x : NetworkNode) → waits near x.node.parts.holds m ≡ false → did_here (Submits m) near x ≡ queued m x
   is-queued x f =
       let d : Done WholeQueues = apply whole near (Submitted m) x.node in
-      ap (λ (ms : List Message). entered_as d ms (named_by near (Submitted m) x) x) (on.enters d.outcome x.node)
-      ∙ ap (λ (k : Done WholeQueues). queued_as m k x) (on.submits x.node ∙ ap (λ (b : Bool). settled whole near (offered m near None b x.node)) f)
+      ap (λ (ms : List Message). entered_as m d ms (named_by near (Submitted m) x) x) (on.enters d.outcome x.node)
+      ∙ ap (λ (k : Done WholeQueues). queued_as m d (lost_after k) x) (on.handles x.node ∙ ap (λ (b : Bool). offered m near None b x.node) f)
+      ∙ ap (λ (k : Done WholeQueues). queued_as m k (lost_after (offered m near None false x.node)) x)
+      (on.submits x.node ∙ ap (λ (b : Bool). settled whole near (offered m near None b x.node)) f)
 
 -- ---- a frame comes to a node
 
-abbrev booked_with : (link : ℕ) → Option Message → (brought lost : List Message) → Done WholeQueues → NetworkNode → NetworkNode
-booked_with link new brought lost d x = record x {
+abbrev booked_with : (link : ℕ) → Option Message → Configuration → (brought lost : List Message) → Done WholeQueues → NetworkNode → NetworkNode
+booked_with link new c brought lost d x = record x {
   node = d.left;
   accepted = x.accepted ++ brought;
+  made = x.made ++ made_of c new brought;
   named = x.named ++ lost;
   user_data = updated x.user_data link (drop 1 (x.user_data link));
-  came = updated x.came link (x.came link ++ option_to_list new);
+  came = updated x.came link (x.came link ++ map (λ m. record { message = m; outcome = d.outcome }) (option_to_list new));
 }
 
 abbrev booked_as : (link : ℕ) → Option Message → Configuration → (accepted : Node WholeQueues) → (lost : List Message) → Done WholeQueues → NetworkNode → NetworkNode
-booked_as link new c accepted lost d x = booked_with link new (brought_by new d.outcome c accepted) lost d x
+booked_as link new c accepted lost d x = booked_with link new c (brought_by new d.outcome c accepted) lost d x
 
 abbrev pub accepted_of : (link : ℕ) (text : List ℕ) → Configuration → Node WholeQueues → Node WholeQueues
 accepted_of link text c n = accept_text link (read_frame text) (record { settings = c; node = n })
@@ -105,7 +119,7 @@ pub record ComesOn (m : Message) (text : List ℕ) (accepted : Node WholeQueues)
 -- whatever the node is like, the message is booked alike
 booked-alike : (m : Message) → GoesOn m → (one other : Node WholeQueues) (lost : List Message) (d : Done WholeQueues) (x : NetworkNode)
     → booked_as 2 (Some m) mate one lost d x ≡ booked_as 2 (Some m) mate other lost d x
-booked-alike m on one other lost d x = ap (λ (ms : List Message). booked_with 2 (Some m) ms lost d x) (on.comes d.outcome one ∙ sym (on.comes d.outcome other))
+booked-alike m on one other lost d x = ap (λ (ms : List Message). booked_with 2 (Some m) mate ms lost d x) (on.comes d.outcome one ∙ sym (on.comes d.outcome other))
 
 pub is-passed : (m : Message) → GoesOn m → (text : List ℕ) (accepted : Node WholeQueues) (x : NetworkNode) → ComesOn m text accepted x → did_here (Delivers 2) mate x ≡ passed_on m accepted (lost_by text x) x
 is-passed m on text accepted x h =

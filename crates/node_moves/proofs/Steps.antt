@@ -12,7 +12,7 @@ use Rattle.node_moves.proofs.Events.{settles, ticked-goes, down-goes, activate-g
 use Rattle.node_moves.proofs.World.{IsFlown, AreStatuses, Shown, books_of, rests, at-work, at-rest, place_at}
 use Rattle.node_moves.proofs.Relining.{Leads, leads-none, leads-one, leads-goes, with_line}
 use Rattle.node_moves.proofs.Flights.{IsSameFlight, same-flight, changed-here, changed-other, updated-here, updated-other, only-changed, statuses-changed}
-use Rattle.node_moves.specs.Networks.{NetworkNode, NetworkState, IsNode, changed, happens, takes_in, with_statuses, state_of}
+use Rattle.node_moves.specs.Networks.{NetworkNode, NetworkState, IsNode, changed, happens, hand_over, with_statuses, state_of}
 use Rattle.node_moves.specs.Laws.{AreTheirs, IsUnbroken}
 use Rattle.exchange_rules.specs.Conserving.{brought_in, brought_to, gone, gone_by, gone_by_release}
 unfoldable use Rattle.exchange_rules.specs.Exchange.{apply}
@@ -135,11 +135,11 @@ module _ (settings : (point : ℕ) → Configuration) (t : AreTheirs settings) (
   removes-step w x key digits fx = happening w x (TitleRemoved key digits) fx (named-besides shape o (settings x) (t.well x fx) (w.node x).node _ [] (removed-goes shape o (settings x) (t.well x fx) key digits (w.node x).node))
 
   -- a user part hands a message over
-  pub submits-step : (w : NetworkState) (x : ℕ) (m : Message) → IsNode settings x → StepGoes w (changed x (takes_in (settings x) (Submitted m)) w)
+  pub submits-step : (w : NetworkState) (x : ℕ) (m : Message) → IsNode settings x → StepGoes w (changed x (hand_over (settings x) m) w)
   submits-step w x m fx =
       let c : Configuration = settings x in
       let e : NetworkNode = w.node x in
-      step-by-goes w x (takes_in c (Submitted m)) fx (λ l. record { user_data = refl; statuses = refl; follows = refl; came = refl })
+      step-by-goes w x (hand_over c m) fx (λ l. record { user_data = refl; statuses = refl; follows = refl; came = refl })
       (event-settles shape o c (t.well x fx) (Submitted m) _ e.node (accepting (books_of e) (brought_in (Submitted m) (state_of c e)))
       (subst (λ (r : Outcome). Goes shape c (mid e.node [] [] (books_of e)) (mid (handle_event whole c (Submitted m) e.node).left [] [] (accepting (books_of e) (brought_to (whither_goes c m) r c m e.node)))) (sym (outcome-same c (Submitted m) e.node))
       (submitted shape o c (t.well x fx) (whither_goes c m) e.node m [] [] (books_of e) refl)))

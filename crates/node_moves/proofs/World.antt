@@ -8,7 +8,7 @@ use Rattle.node_moves.proofs.Sets.{StaysAround, IsFlownAlike, flown-seen}
 use Rattle.node_moves.proofs.Shown.{Books, Mid, Shows, IsShown, IsBooked, place, links-apart, at-own}
 use Rattle.node_moves.proofs.Going.{Arrives}
 use Rattle.node_moves.proofs.Handling.{mid}
-use Rattle.node_moves.specs.Networks.{NetworkNode, NetworkState, IsNode}
+use Rattle.node_moves.specs.Networks.{NetworkNode, NetworkState, IsNode, messages_of}
 use Rattle.node_moves.specs.Laws.{AreTheirs}
 use Rattle.exchange_rules.proofs.MadeManagement.{code-fits, adjacent-fits}
 use Rattle.m2pa_codec.specs.Frames.{FrameValue, read_frame}
@@ -55,7 +55,7 @@ pub record IsFlown (x : NetworkNode) (link : ℕ) (z : Line) : Type 0 where
   pub user_data : AreData (x.user_data link) z.to_near
   pub statuses : AreStatuses (x.statuses link) z.told_near
   pub follows : x.follows link ≡ z.near_may_follow
-  pub came : (test : Message → Bool) → count_by test z.far.came ≡ count_by test (x.came link)
+  pub came : (test : Message → Bool) → count_by test z.far.came ≡ count_by test (messages_of (x.came link))
 
 pub flown-alike : (x : NetworkNode) (link : ℕ) (z y : Line) → IsFlownAlike z y → IsFlown x link z → IsFlown x link y
 flown-alike x link z y e h = record {

@@ -7,7 +7,7 @@ use Rattle.settings.specs.Well.{IsWell}
 use Rattle.settings_rows.specs.Configuration.{Configuration}
 use Rattle.exchange_rules.specs.Queues.{queue_at}
 use Rattle.network_moves.specs.Networks.{sum_to}
-use Rattle.node_moves.specs.Networks.{NetworkState, LinkEnd, Step, IsNode, other_end, after_steps, first_network}
+use Rattle.node_moves.specs.Networks.{Fate, NetworkState, LinkEnd, Step, IsNode, other_end, after_steps, first_network}
 
 -- user messages, of the lengths that nodes take in: of service indicators 2 to 15, and no longer than a signalling
 -- information field
@@ -18,6 +18,13 @@ is_user m = not (nat_lt SIF_OCTETS (length m.sif)) && not (is_management m)
 abbrev pub users_that : (Message → Bool) → List Message → ℕ
 users_that test ms = count_by (λ m. is_user m && test m) ms
 
+-- of those in a list of fates, how many pass a test, where the fate is of a kind
+abbrev pub fates_that : (kind : Fate → Bool) → (Message → Bool) → List Fate → ℕ
+fates_that kind test fs = count_by (λ f. is_user f.message && (kind f && test f.message)) fs
+
+abbrev pub any_fate : Fate → Bool
+any_fate f = true
+
 -- the most that a node counts
 abbrev pub most : ℕ
 most = 2 ^ 64 - 1
@@ -26,7 +33,7 @@ most = 2 ^ 64 - 1
 
 module _ (settings : (point : ℕ) → Configuration) (w : NetworkState) where
   -- what came by a link to the other end of it, and how many messages that accepted since the link opened
-  abbrev pub came_by : Option LinkEnd → List Message
+  abbrev pub came_by : Option LinkEnd → List Fate
   came_by (Some there) = (w.node there.point).came there.link
   came_by None = []
 
@@ -46,7 +53,9 @@ module _ (settings : (point : ℕ) → Configuration) (w : NetworkState) where
     -- to a neighbour, by any of the node's links
     abbrev pub came_from : ℕ
     came_from =
-        sum_to (λ link. users_that test (came_by (other_end settings point link))) (length (settings point).links)
+        sum_to
+        (λ link. fates_that any_fate test (came_by (other_end settings point link)))
+        (length (settings point).links)
 
     -- in Held, or on a link's queue and not received at its other end
     abbrev pub waits_at : ℕ

@@ -1,4 +1,5 @@
 pub mod Networks
 pub mod Laws
+pub mod Fates
 pub mod MatedPair
 pub mod MatedRun

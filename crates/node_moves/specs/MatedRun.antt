@@ -3,6 +3,7 @@
 -- second message. Each comes once.
 use Rattle.std.specs.Prelude.{◌≡◌, ℕ, true, false, not, List, [], ◌∷◌, ◌++◌, filter, length, Result, Ok, if◌then◌else◌}
 use Rattle.signalling_types.specs.Message.{Message, is_management}
+use Rattle.signalling_types.specs.declared.outcome.Outcome.TheVariants.{Local, Queued}
 use Rattle.mtp3_codec.specs.Management.{read_management}
 use Rattle.mtp3_codec.specs.declared.fault.MgmtFault.{MgmtFault}
 use Rattle.mtp3_codec.specs.declared.management.Management.{Management}
@@ -12,9 +13,9 @@ use Rattle.exchange_rules.specs.ChangingOver.{changeover_of}
 use Rattle.exchange_rules.specs.State.{down, lost_any}
 use Rattle.node_moves.specs.Laws.{AreTheirs, IsUnbroken, waits_at}
 use Rattle.node_moves.specs.MatedPair.{mated}
-use Rattle.node_moves.specs.Networks.{NetworkNode, NetworkState, LinkEnd, Doing, Submits, Takes, Delivers}
+use Rattle.node_moves.specs.Networks.{Fate, NetworkNode, NetworkState, LinkEnd, Doing, Submits, Takes, Delivers}
 use Rattle.node_moves.specs.Networks.{DeliversStatus, Loses, Ticks, OpensFirst, OpensSecond, Step, after_steps}
-use Rattle.node_moves.specs.Networks.{first_network}
+use Rattle.node_moves.specs.Networks.{first_network, messages_of}
 
 -- two messages of the ISDN user part from point 1 to point 3, with selection 0
 abbrev pub message_one : Message
@@ -121,9 +122,19 @@ come = after_steps mated (done_at cross.there Delivers ∷ sends onward) moved
 
 -- ---- and what they show
 
--- the user messages of a list
+-- the user messages of a list, and those that came, with their fates
 abbrev pub users : List Message → List Message
 users ms = filter (λ m. not (is_management m)) ms
+
+abbrev pub users_in : List Fate → List Fate
+users_in fs = filter (λ f. not (is_management f.message)) fs
+
+-- one is delivered to its user part, or goes on by a link
+abbrev pub delivered : Message → Fate
+delivered m = record { message = m; outcome = Local }
+
+abbrev pub queued : (link : ℕ) → Message → Fate
+queued link m = record { message = m; outcome = Queued link }
 
 pub data Word : Type 0 where
   AnOrder : Word
@@ -148,19 +159,19 @@ pub record ComesByTheMate : Type 0 where
   -- what the node law asks
   pub theirs : AreTheirs mated
   pub unbroken : IsUnbroken mated come
-  -- the first message comes by the direct link, once
-  pub comes : users ((sent.node 3).came 0) ≡ message_one ∷ []
+  -- the first message comes by the direct link, once, and is delivered to its user part
+  pub comes : users_in ((sent.node 3).came 0) ≡ delivered message_one ∷ []
   -- the second is in flight there, and the link is down at both ends
   pub flies : length ((failed.node 3).user_data 0) ≡ 1
   pub down_here : down (failed.node 1).node.parts 0 ≡ true
   pub down_there : down (failed.node 3).node.parts 0 ≡ true
   -- to either end an order comes by the mate, and an answer
-  pub words_here : words ((come.node 1).came 2) ≡ AnOrder ∷ AnAnswer ∷ []
-  pub words_there : words ((come.node 3).came 1) ≡ AnOrder ∷ AnAnswer ∷ []
+  pub words_here : words (messages_of ((come.node 1).came 2)) ≡ AnOrder ∷ AnAnswer ∷ []
+  pub words_there : words (messages_of ((come.node 3).came 1)) ≡ AnOrder ∷ AnAnswer ∷ []
   -- the second message comes to the mate, and from there, once; and neither comes again
-  pub passes : users ((come.node 2).came 2) ≡ message_two ∷ []
-  pub comes_on : users ((come.node 3).came 1) ≡ message_two ∷ []
-  pub comes_once : users ((come.node 3).came 0) ≡ message_one ∷ []
+  pub passes : users_in ((come.node 2).came 2) ≡ queued 0 message_two ∷ []
+  pub comes_on : users_in ((come.node 3).came 1) ≡ delivered message_two ∷ []
+  pub comes_once : users_in ((come.node 3).came 0) ≡ delivered message_one ∷ []
   -- both were accepted, nothing waits any more, and nothing was lost
   pub accepted : users (come.node 1).accepted ≡ message_one ∷ message_two ∷ []
   pub none_waits : waits_at mated come (λ m. true) 1 ≡ 0

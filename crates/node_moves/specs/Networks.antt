@@ -1,9 +1,10 @@
 -- A network of nodes of any shape, with whatever routes: what is done at one of them, and the frames in flight between
 -- them (RFC 4165 §4.1.2).
 use Rattle.std.specs.Prelude.{◌≡◌, ◌&&◌, ℕ, Bool, true, false, nat_eq, nat_lt, List, [], ◌∷◌, ◌++◌, drop, length}
-use Rattle.std.specs.Prelude.{take, Option, Some, None, slice_get, option_to_list, if◌then◌else◌}
+use Rattle.std.specs.Prelude.{map, take, Option, Some, None, slice_get, option_to_list, if◌then◌else◌}
 use Rattle.std.specs.Option.{option_map}
-use Rattle.signalling_types.specs.Message.{Message}
+use Rattle.signalling_types.specs.Message.{Message, dpc_of}
+use Rattle.signalling_types.specs.declared.outcome.Outcome.{Outcome}
 use Rattle.settings_rows.specs.Configuration.{Configuration, TitleEntry}
 use Rattle.sccp_codec.specs.declared.title.TitleKey.{TitleKey}
 use Rattle.m2pa_codec.specs.Frames.{FrameValue, EmptyFrame, MessageFrame, StatusFrame, spelled}
@@ -13,6 +14,7 @@ use Rattle.exchange_rules.specs.declared.wants.Wants.{Wants}
 use Rattle.exchange_rules.specs.declared.wants.Wants.TheVariants.{Open}
 use Rattle.exchange_rules.specs.ChangingOver.{changeover_of}
 unfoldable use Rattle.exchange_rules.specs.Exchange.{apply}
+use Rattle.exchange_rules.specs.Exchange.{outcome_of}
 use Rattle.exchange_rules.specs.First.{Abstract, first_state}
 use Rattle.exchange_rules.specs.Messages.{link_with_code}
 use Rattle.exchange_rules.specs.Opening.{wanted}
@@ -23,17 +25,29 @@ use Rattle.exchange_rules.specs.Sending.{frame_taken, after_take}
 use Rattle.exchange_rules.specs.State.{Happening, CameUp, WentDown, FrameCame, Ticked, Submitted, Activated}
 use Rattle.exchange_rules.specs.State.{Deactivated, Released, TitleAdded, TitleRemoved, Node, down}
 
--- a node: its exchange; what is in flight to it on each link, on two streams, the first that went out first; on which
--- links it may follow the other end, which opened first; all messages that it accepted, whoever sent them; all that it
--- named as lost; and all that came to it by each link
+-- a message that a user part handed over, or that came by a link, and what became of it: the outcome of that event
+pub record Fate : Type 0 where
+  pub message : Message
+  pub outcome : Outcome
+
+-- the messages of a list of them
+abbrev pub messages_of : List Fate → List Message
+messages_of fs = map (λ f. f.message) fs
+
+-- a node: its exchange; what is in flight to it on each link, on two streams, the first that went out first; and on
+-- which links it may follow the other end, which opened first. Its books: all messages that its user parts handed over,
+-- and all that came to it by each link, each with its fate; all that it accepted, whoever sent them; of these, what its
+-- SCCP made of messages for this point; and all that it named as lost
 pub record NetworkNode : Type 0 where
   pub node : Node WholeQueues
   pub statuses : (link : ℕ) → List (List ℕ)
   pub user_data : (link : ℕ) → List (List ℕ)
   pub follows : (link : ℕ) → Bool
+  pub submitted : List Fate
+  pub came : (link : ℕ) → List Fate
   pub accepted : List Message
+  pub made : List Message
   pub named : List Message
-  pub came : (link : ℕ) → List Message
 
 -- the node at each point code
 pub record NetworkState : Type 0 where
@@ -101,17 +115,42 @@ after_event c what x = (apply whole c what x.node).left
 abbrev pub happens : Configuration → Happening → NetworkNode → NetworkNode
 happens c what x = record x { node = after_event c what x; named = x.named ++ named_by c what x }
 
--- and it may accept messages
-abbrev pub takes_in : Configuration → Happening → NetworkNode → NetworkNode
-takes_in c what x = record (happens c what x) { accepted = x.accepted ++ brought_in what (state_of c x) }
+-- a message is for this point, by its destination
+abbrev pub is_here : Configuration → Message → Bool
+is_here c m = nat_eq (dpc_of m) c.own
+
+-- of what an event brings in, what SCCP here makes of its message: that message as it goes on by its title, or one that
+-- returns it or answers it. A message for another point is brought in as it is
+abbrev pub made_of : Configuration → Option Message → (brought : List Message) → List Message
+made_of c None brought = []
+made_of c (Some m) brought = if is_here c m then brought else []
+
+-- it may accept messages by an event, which is about this one, if about any
+abbrev pub takes_in : Configuration → Happening → Option Message → NetworkNode → NetworkNode
+takes_in c what new x = record (happens c what x) {
+  accepted = x.accepted ++ brought_in what (state_of c x);
+  made = x.made ++ made_of c new (brought_in what (state_of c x));
+}
+
+-- what becomes of that one
+abbrev pub fates : Configuration → Happening → Option Message → NetworkNode → List Fate
+fates c what new x =
+    map (λ m. record { message = m; outcome = outcome_of whole what (state_of c x) }) (option_to_list new)
+
+-- a user part hands a message over
+abbrev pub hand_over : Configuration → Message → NetworkNode → NetworkNode
+hand_over c m x =
+    record (takes_in c (Submitted m) (Some m) x) { submitted = x.submitted ++ fates c (Submitted m) (Some m) x }
 
 -- User Data comes that was in flight on a link, and with it the message that it newly carries
 abbrev pub hear_data : Configuration → Option (List ℕ) → (link : ℕ) → NetworkNode → NetworkNode
 hear_data c None link x = x
-hear_data c (Some text) link x = record (takes_in c (FrameCame link text) x) {
-  user_data = updated x.user_data link (drop 1 (x.user_data link));
-  came = updated x.came link (x.came link ++ option_to_list (new_message link text (state_of c x)));
-}
+hear_data c (Some text) link x =
+    let new : Option Message = new_message link text (state_of c x) in
+    record (takes_in c (FrameCame link text) new x) {
+      user_data = updated x.user_data link (drop 1 (x.user_data link));
+      came = updated x.came link (x.came link ++ fates c (FrameCame link text) new x);
+    }
 
 -- a link status comes, which carries no message
 abbrev pub hear_status : Configuration → Option (List ℕ) → (link : ℕ) → NetworkNode → NetworkNode
@@ -156,7 +195,7 @@ reach (MessageFrame bsn fsn sio sif) link x =
 -- ---- what is done to the node alone
 
 abbrev pub did_here : Doing → Configuration → NetworkNode → NetworkNode
-did_here (Submits m) c x = takes_in c (Submitted m) x
+did_here (Submits m) c x = hand_over c m x
 did_here (Takes link) c x = x
 did_here (Delivers link) c x = hear_data c (next_in c link (x.user_data link)) link x
 did_here (DeliversStatus link) c x = hear_status c (next_in c link (x.statuses link)) link x
@@ -180,9 +219,11 @@ first_node c = record {
   statuses = λ link. [];
   user_data = λ link. [];
   follows = λ link. false;
-  accepted = [];
-  named = [];
+  submitted = [];
   came = λ link. [];
+  accepted = [];
+  made = [];
+  named = [];
 }
 
 -- ---- the links between the nodes, by the settings of each

@@ -1,6 +1,7 @@
 //! What holds in each network that steps reach from the first (`specs/Networks.antt`), of any shape and with any
 //! routes.
 
+ghost use Rattle.node_moves.specs.Fates.{each_message_has_its_fate};
 ghost use Rattle.node_moves.specs.Laws.{each_message_ends_once};
 ghost use Rattle.node_moves.specs.MatedRun.{ComesByTheMate};
 
@@ -12,8 +13,17 @@ pub fn each_message_of_a_node_ends_once()
     ensures { each_message_ends_once }
 {}
 
-/// The law isn't of nothing. Of a mated pair and two points that it transfers for, whose orders to change over go by
-/// any route: the only link between one of the pair and one of the points fails, with a message on it that came and
+/// What comes to a node is what it accepts, but for what ends there: so the node laws of neighbours are joined.
+/// Whatever was lost or broken, and of each kind of user messages: each that came to a node by a link, and each that
+/// its user parts handed over, went on, being for another point (it was queued or held); or was refused, by the cause
+/// that its outcome names; or was delivered, being for this point; or was taken by SCCP here. What the node accepted is
+/// those that went on, and what its SCCP made: of each message of SCCP for this point one at most, and no other.
+pub fn each_message_has_its_fate()
+    ensures { each_message_has_its_fate }
+{}
+
+/// The node law isn't of nothing. Of a mated pair and two points that it transfers for, whose orders to change over go
+/// by any route: the only link between one of the pair and one of the points fails, with a message on it that came and
 /// wasn't confirmed, and one that didn't come. The orders and the answers go by the mate, and so does the second
 /// message. Each comes once, nothing is broken or lost, and the link may open again. The settings and the run are what
 /// the law asks.
