@@ -40,5 +40,7 @@ pub mod Offering
 pub mod Delivered
 pub mod OneFate
 pub mod Booking
+pub mod Possible
 pub mod MatedRun
 pub mod ByTheMate
+pub mod LossRun

@@ -3,7 +3,9 @@
 
 ghost use Rattle.node_moves.specs.Fates.{each_message_has_its_fate};
 ghost use Rattle.node_moves.specs.Laws.{each_message_ends_once};
+ghost use Rattle.node_moves.specs.LossRun.{NamesWhatIsLost};
 ghost use Rattle.node_moves.specs.MatedRun.{ComesByTheMate};
+ghost use Rattle.node_moves.specs.Possible.{links_may_fail, statuses_may_be_harmed};
 
 /// The node law. While no node is broken: of each kind of user messages, those that came from a node to its neighbours
 /// and those that wait there, in Held or on a link, are together no more than it accepted. So each message came to one
@@ -29,4 +31,19 @@ pub fn each_message_has_its_fate()
 /// the law asks.
 pub fn messages_come_by_the_mate()
     ensures { ComesByTheMate }
+{}
+
+/// Nor is what it says of losses. Of the same nodes: the first message comes to its user part, once, and what confirms
+/// it comes back. The second is on its way as the link fails, and T2 runs out at its node before the answer is here; so
+/// that node names it as lost, once, and counts it. It came nowhere, so one is gone, and no more is named. The link is
+/// barred until the answer comes late, by the mate; no node is broken.
+pub fn a_message_is_named_as_lost()
+    ensures { NamesWhatIsLost }
+{}
+
+/// The laws ask this little of links. On a link of a node the next link status in flight may be lost, or come twice;
+/// the association may be lost at any moment, as one node sees it; and a tick may pass at one node alone.
+pub fn the_worst_may_happen()
+    ensures statuses { statuses_may_be_harmed }
+    ensures links { links_may_fail }
 {}
