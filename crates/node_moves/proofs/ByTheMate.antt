@@ -4,6 +4,8 @@ use Rattle.node_moves.proofs.Definitions.{Message, down, changeover_of}
 use Rattle.node_moves.proofs.LaidOut.{network_of}
 use Rattle.node_moves.proofs.Mated.{mated-theirs, of-four}
 use Rattle.node_moves.proofs.MatedRun.{come-is, come_from, failed-is, failed_from, first_four, sent-is, sent_from}
+use Rattle.node_moves.specs.EndToEnd.{to_user_parts}
+use Rattle.node_moves.specs.Fates.{is_delivered, met_at}
 use Rattle.node_moves.specs.Laws.{waits_at}
 use Rattle.node_moves.specs.MatedPair.{mated}
 use Rattle.node_moves.specs.MatedRun.{AnAnswer, AnOrder, ComesByTheMate, Word, come, delivered, message_one, message_two, queued, users, users_in, words}
@@ -95,9 +97,21 @@ far-shows : shown (come_from first_four).three ≡ shows [] (delivered message_o
 unfolding apply tell_owed first_sets links_below status_of set_timer clear_timer start_unless_running clear_set due_name after_due due_count names_of choice_among link_by changes_of changes take_back_each owes_nothing any_flow flows rerouted order_each
 far-shows = refl
 
-last-shows : (come_from first_four).four.node.parts.times_broken ≡ 0
+record Last : Type 0 where
+  broken : ℕ
+  lost : Bool
+  named : ℕ
+
+abbrev last_shown : NetworkNode → Last
+last_shown x = record { broken = x.node.parts.times_broken; lost = lost_any x.node.parts; named = x.node.parts.messages_lost }
+
+last-shows : last_shown (come_from first_four).four ≡ record { broken = 0; lost = false; named = 0 }
 unfolding apply tell_owed first_sets links_below status_of set_timer clear_timer start_unless_running clear_set due_name after_due due_count names_of choice_among link_by changes_of changes take_back_each owes_nothing any_flow flows rerouted order_each
 last-shows = refl
+
+both-delivered : met_at mated (network_of (come_from first_four)) (is_delivered (mated 3)) (to_user_parts 3 (λ m. true)) 3 ≡ 2
+unfolding apply tell_owed first_sets links_below status_of set_timer clear_timer start_unless_running clear_set due_name after_due due_count names_of choice_among link_by changes_of changes take_back_each owes_nothing any_flow flows rerouted order_each
+both-delivered = refl
 
 none-waits : waits_at mated (network_of (come_from first_four)) (λ m. true) 1 ≡ 0
 unfolding apply tell_owed first_sets links_below status_of set_timer clear_timer start_unless_running clear_set due_name after_due due_count names_of choice_among link_by changes_of changes take_back_each owes_nothing any_flow flows rerouted order_each
@@ -112,12 +126,15 @@ mate-is = ap (λ (w : NetworkState). shown (w.node 2)) come-is ∙ mate-shows
 far-is : shown (come.node 3) ≡ shows [] (delivered message_one ∷ []) (delivered message_two ∷ []) [] (AnOrder ∷ AnAnswer ∷ []) []
 far-is = ap (λ (w : NetworkState). shown (w.node 3)) come-is ∙ far-shows
 
+last-is : last_shown (come.node 4) ≡ record { broken = 0; lost = false; named = 0 }
+last-is = ap (λ (w : NetworkState). last_shown (w.node 4)) come-is ∙ last-shows
+
 pub comes-by : ComesByTheMate
 comes-by = record {
   theirs = mated-theirs;
   unbroken =
       of-four (λ point. (come.node point).node.parts.times_broken ≡ 0) (ap (λ (s : Shown). s.broken) near-is) (ap (λ (s : Shown). s.broken) mate-is) (ap (λ (s : Shown). s.broken) far-is)
-      (ap (λ (w : NetworkState). (w.node 4).node.parts.times_broken) come-is ∙ last-shows);
+      (ap (λ (l : Last). l.broken) last-is);
   comes = ap (λ (w : NetworkState). users_in ((w.node 3).came 0)) sent-is ∙ its-coming;
   flies = ap (λ (w : NetworkState). length ((w.node 3).user_data 0)) failed-is ∙ its-flying;
   down_here = ap (λ (w : NetworkState). down (w.node 1).node.parts 0) failed-is ∙ is-down_here;
@@ -128,10 +145,12 @@ comes-by = record {
   comes_on = ap (λ (s : Shown). s.second_users) far-is;
   comes_once = ap (λ (s : Shown). s.first_users) far-is;
   accepted = ap (λ (s : Shown). s.accepted) near-is;
+  both_delivered = ap (λ (w : NetworkState). met_at mated w (is_delivered (mated 3)) (to_user_parts 3 (λ m. true)) 3) come-is ∙ both-delivered;
   none_waits = ap (λ (w : NetworkState). waits_at mated w (λ m. true) 1) come-is ∙ none-waits;
   near_lossless = record { lossless = ap (λ (s : Shown). s.lost) near-is; none_named = ap (λ (s : Shown). s.named) near-is };
   mate_lossless = record { lossless = ap (λ (s : Shown). s.lost) mate-is; none_named = ap (λ (s : Shown). s.named) mate-is };
   far_lossless = record { lossless = ap (λ (s : Shown). s.lost) far-is; none_named = ap (λ (s : Shown). s.named) far-is };
+  last_lossless = record { lossless = ap (λ (l : Last). l.lost) last-is; none_named = ap (λ (l : Last). l.named) last-is };
   opens_here = ap (λ (s : Shown). s.restarts) near-is;
   opens_there = ap (λ (s : Shown). s.restarts) far-is;
 }

@@ -47,13 +47,13 @@ module _ (at : ℕ → ℕ) where
 
 -- ---- the ends of links at a node
 
-same-or : (a b : Side) → (a ≡ b) ⊎ (a ≡ opposite b)
+pub same-or : (a b : Side) → (a ≡ b) ⊎ (a ≡ opposite b)
 same-or Near Near = inl refl
 same-or Near Far = inr refl
 same-or Far Near = inr refl
 same-or Far Far = inl refl
 
-twice : (side : Side) → opposite (opposite side) ≡ side
+pub twice : (side : Side) → opposite (opposite side) ≡ side
 twice Near = refl
 twice Far = refl
 
@@ -213,7 +213,7 @@ module _ (settings : (point : ℕ) → Configuration) (t : AreTheirs settings) (
     abbrev lines : ℕ
     lines = length (settings x).links
 
-    came : sum_to (λ link. count_by users (line_on link).near.came) lines ≡ came_from settings w test x
+    pub came : sum_to (λ link. count_by users (line_on link).near.came) lines ≡ came_from settings w test x
     came =
         sum-alike (λ link. fates_that any_fate test (came_by settings w (other_end settings x link))) (λ link. count_by users (line_on link).near.came) lines
         (λ link inside. came-by users link inside ∙ sym (fates-same test (came_by settings w (other_end settings x link))))

@@ -38,9 +38,12 @@ pub mod LaidOut
 pub mod Unheld
 pub mod Offering
 pub mod Delivered
+pub mod Everywhere
 pub mod OneFate
 pub mod Booking
 pub mod Possible
+pub mod EndToEnd
+pub mod Lossless
 pub mod MatedRun
 pub mod ByTheMate
 pub mod LossRun

@@ -6,6 +6,8 @@ use Rattle.node_moves.proofs.Mated.{mated-theirs, of-four}
 use Rattle.node_moves.proofs.MatedRun.{first_four, one-on, served-free, served-is, served_from, two-on}
 use Rattle.node_moves.proofs.Offering.{runs-on, submits-on, submitting}
 use Rattle.node_moves.proofs.Unheld.{Free, free-none, none-held}
+use Rattle.node_moves.specs.EndToEnd.{to_user_parts}
+use Rattle.node_moves.specs.Fates.{is_delivered, met_at}
 use Rattle.node_moves.specs.Laws.{came_from, gone_at, waits_at}
 use Rattle.node_moves.specs.LossRun.{NamesWhatIsLost, answered, around, confirmed, expired}
 use Rattle.node_moves.specs.MatedPair.{mated}
@@ -127,13 +129,19 @@ last-shows = refl
 
 record Counts : Type 0 where
   came : ℕ
+  delivered : ℕ
   waits : ℕ
   gone : ℕ
 
 abbrev counts : NetworkState → Counts
-counts w = record { came = came_from mated w (λ m. true) 1; waits = waits_at mated w (λ m. true) 1; gone = gone_at mated w (λ m. true) 1 }
+counts w = record {
+  came = came_from mated w (λ m. true) 1;
+  delivered = met_at mated w (is_delivered (mated 3)) (to_user_parts 3 (λ m. true)) 3;
+  waits = waits_at mated w (λ m. true) 1;
+  gone = gone_at mated w (λ m. true) 1;
+}
 
-its-counts : counts (network_of (answered_from first_four)) ≡ record { came = 1; waits = 0; gone = 1 }
+its-counts : counts (network_of (answered_from first_four)) ≡ record { came = 1; delivered = 1; waits = 0; gone = 1 }
 unfolding apply tell_owed first_sets links_below status_of set_timer clear_timer start_unless_running clear_set due_name after_due due_count names_of choice_among link_by changes_of changes take_back_each owes_nothing any_flow flows rerouted order_each
 its-counts = refl
 
@@ -149,7 +157,7 @@ mate-is = ap (λ (w : NetworkState). shown (w.node 2)) answered-is ∙ mate-show
 third-is : shown (answered.node 3) ≡ far_shows (delivered message_one ∷ [])
 third-is = ap (λ (w : NetworkState). shown (w.node 3)) answered-is ∙ third-shows
 
-counts-are : counts answered ≡ record { came = 1; waits = 0; gone = 1 }
+counts-are : counts answered ≡ record { came = 1; delivered = 1; waits = 0; gone = 1 }
 counts-are = ap counts answered-is ∙ its-counts
 
 pub names-lost : NamesWhatIsLost
@@ -163,6 +171,7 @@ names-lost = record {
   none_beside = ap (λ (s : Shown). s.second_users) third-is;
   none_passes = ap (λ (s : Shown). s.third_users) mate-is;
   one_came = ap (λ (k : Counts). k.came) counts-are;
+  one_delivered = ap (λ (k : Counts). k.delivered) counts-are;
   none_waits = ap (λ (k : Counts). k.waits) counts-are;
   one_gone = ap (λ (k : Counts). k.gone) counts-are;
   named = ap (λ (s : Shown). s.named) near-is;

@@ -6,7 +6,7 @@ use Rattle.node_moves.proofs.Delivered.{delivers}
 use Rattle.node_moves.proofs.FateCounts.{count-fate, count-fates}
 use Rattle.node_moves.proofs.Heard.{here-own, here-short, on-away}
 use Rattle.node_moves.proofs.Reading.{is_long}
-use Rattle.node_moves.specs.Fates.{HaveFates, goes_on, is_delivered, is_for_sccp, is_handled, is_local, is_refusal, is_refused, is_relayed, is_sccp, is_taken_on}
+use Rattle.node_moves.specs.Fates.{HaveFates, goes_on, is_delivered, is_for_sccp, is_handled, is_local, is_refusal, is_refused, sccp_takes, is_sccp, is_taken_on}
 use Rattle.node_moves.specs.Laws.{any_fate, fates_that, is_user, users_that}
 use Rattle.node_moves.specs.Networks.{Fate, is_here, made_of}
 unfoldable use Rattle.exchange_rules.specs.Exchange.{apply}
@@ -77,7 +77,7 @@ module _ (c : Configuration) where
         one (goes_on c),
         one is_refused,
         one (is_delivered c),
-        one (is_relayed c),
+        one (sccp_takes c),
         one-kind (is_user f.message) (is_here c f.message) (is_sccp f.message) (test f.message) f.outcome fit,
       )
 
@@ -88,7 +88,7 @@ module _ (c : Configuration) where
   both-fates fs gs h k test =
       let both : (kind : Fate → Bool) → fates_that kind test (fs ++ gs) ≡ fates_that kind test fs + fates_that kind test gs =
       λ kind. count-fates (λ g. is_user g.message && (kind g && test g.message)) fs gs in
-      omega (arith, both any_fate, both (goes_on c), both is_refused, both (is_delivered c), both (is_relayed c), h test, k test)
+      omega (arith, both any_fate, both (goes_on c), both is_refused, both (is_delivered c), both (sccp_takes c), h test, k test)
 
 -- ---- what the rules make of a message
 

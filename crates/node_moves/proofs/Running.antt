@@ -33,7 +33,7 @@ use Rattle.std.proofs.lemmas.List.{get_or-replicate}
 
 -- ---- the network's shape: a node at each point code, and a line for each two of them and a code
 
-abbrev point_by : Side → ℕ → ℕ
+abbrev pub point_by : Side → ℕ → ℕ
 point_by Near link = link / 2 ^ 18
 point_by Far link = link / 2 ^ 4 % 2 ^ 14
 

@@ -48,8 +48,8 @@ module _ (c : Configuration) where
 
   -- SCCP here takes one for this point, and it isn't delivered: it goes on by its title, or says something of a
   -- subsystem and is heard
-  abbrev pub is_relayed : Fate → Bool
-  is_relayed f = is_here c f.message && (is_sccp f.message && (is_taken_on f.outcome || is_handled f.outcome))
+  abbrev pub sccp_takes : Fate → Bool
+  sccp_takes f = is_here c f.message && (is_sccp f.message && (is_taken_on f.outcome || is_handled f.outcome))
 
   -- of a list, by any test: each user message goes on, is refused, is delivered or is taken by SCCP, and one of these
   -- alone
@@ -60,7 +60,7 @@ module _ (c : Configuration) where
       ≡ fates_that goes_on test fs
       + fates_that is_refused test fs
       + fates_that is_delivered test fs
-      + fates_that is_relayed test fs
+      + fates_that sccp_takes test fs
 
   -- a message of SCCP for this point
   abbrev pub is_for_sccp : Fate → Bool

@@ -1,6 +1,8 @@
 pub mod Networks
 pub mod Laws
 pub mod Fates
+pub mod EndToEnd
+pub mod Lossless
 pub mod Possible
 pub mod MatedPair
 pub mod MatedRun

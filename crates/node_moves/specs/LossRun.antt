@@ -5,6 +5,8 @@ use Rattle.std.specs.Prelude.{◌≡◌, true, false, List, [], ◌∷◌, ◌++
 use Rattle.changeover.specs.Changeover.{may_restart}
 use Rattle.exchange_rules.specs.ChangingOver.{changeover_of}
 use Rattle.exchange_rules.specs.State.{lost_any}
+use Rattle.node_moves.specs.EndToEnd.{to_user_parts}
+use Rattle.node_moves.specs.Fates.{is_delivered, met_at}
 use Rattle.node_moves.specs.Laws.{AreTheirs, IsUnbroken, came_from, gone_at, waits_at}
 use Rattle.node_moves.specs.MatedPair.{mated}
 use Rattle.node_moves.specs.MatedRun.{cross, delivered, direct, done_at, fails, message_one, message_two, onward, sends}
@@ -46,6 +48,7 @@ pub record NamesWhatIsLost : Type 0 where
   pub none_beside : users_in ((answered.node 3).came 1) ≡ []
   pub none_passes : users_in ((answered.node 2).came 2) ≡ []
   pub one_came : came_from mated answered (λ m. true) 1 ≡ 1
+  pub one_delivered : met_at mated answered (is_delivered (mated 3)) (to_user_parts 3 (λ m. true)) 3 ≡ 1
   pub none_waits : waits_at mated answered (λ m. true) 1 ≡ 0
   -- so one is gone, which point 1 named as lost, once, and counts; and it says that it may have lost a message
   pub one_gone : gone_at mated answered (λ m. true) 1 ≡ 1

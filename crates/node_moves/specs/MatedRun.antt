@@ -11,6 +11,8 @@ use Rattle.mtp3_codec.specs.declared.management.Management.TheVariants as says
 use Rattle.changeover.specs.Changeover.{may_restart}
 use Rattle.exchange_rules.specs.ChangingOver.{changeover_of}
 use Rattle.exchange_rules.specs.State.{down, lost_any}
+use Rattle.node_moves.specs.EndToEnd.{to_user_parts}
+use Rattle.node_moves.specs.Fates.{is_delivered, met_at}
 use Rattle.node_moves.specs.Laws.{AreTheirs, IsUnbroken, waits_at}
 use Rattle.node_moves.specs.MatedPair.{mated}
 use Rattle.node_moves.specs.Networks.{Fate, NetworkNode, NetworkState, LinkEnd, Doing, Submits, Takes, Delivers}
@@ -172,12 +174,14 @@ pub record ComesByTheMate : Type 0 where
   pub passes : users_in ((come.node 2).came 2) ≡ queued 0 message_two ∷ []
   pub comes_on : users_in ((come.node 3).came 1) ≡ delivered message_two ∷ []
   pub comes_once : users_in ((come.node 3).came 0) ≡ delivered message_one ∷ []
-  -- both were accepted, nothing waits any more, and nothing was lost
+  -- both were accepted and delivered, nothing waits any more, and no node lost anything
   pub accepted : users (come.node 1).accepted ≡ message_one ∷ message_two ∷ []
+  pub both_delivered : met_at mated come (is_delivered (mated 3)) (to_user_parts 3 (λ m. true)) 3 ≡ 2
   pub none_waits : waits_at mated come (λ m. true) 1 ≡ 0
   pub near_lossless : LostNothing (come.node 1)
   pub mate_lossless : LostNothing (come.node 2)
   pub far_lossless : LostNothing (come.node 3)
+  pub last_lossless : LostNothing (come.node 4)
   -- and the link may open again
   pub opens_here : may_restart (changeover_of (come.node 1).node.parts 0) ≡ true
   pub opens_there : may_restart (changeover_of (come.node 3).node.parts 0) ≡ true
