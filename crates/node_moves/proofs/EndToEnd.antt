@@ -12,7 +12,7 @@ use Rattle.node_moves.proofs.Booking.{all-in-order, takes-each}
 use Rattle.node_moves.proofs.Running.{all_points, are-all, point_by, reached}
 use Rattle.node_moves.proofs.Ending.{came, ends, fates-same, same-or, sum-ends, the-other, twice}
 use Rattle.node_moves.specs.EndToEnd.{ComeFromEndToEnd, messages_come_from_end_to_end, to_point, to_user_parts, total}
-use Rattle.node_moves.specs.Fates.{TakesEachIn, came_to, goes_on, is_delivered, is_handled, is_local, is_refused, sccp_takes, is_sccp, is_taken_on, made_at, met_at, submitted_at}
+use Rattle.node_moves.specs.Fates.{TakesEachIn, came_to, goes_on, has_part, is_delivered, is_handled, is_local, is_refused, sccp_takes, is_sccp, is_taken_on, made_at, met_at, submitted_at}
 use Rattle.node_moves.specs.Laws.{AreTheirs, EndsOnce, any_fate, came_from, fates_that, gone_at, is_user, users_that, waits_at}
 use Rattle.node_moves.specs.Networks.{Fate, NetworkState, LinkEnd, IsNode, is_here, is_node, other_end, points, after_steps, first_network}
 use Rattle.network_moves.proofs.Concluded.{came-across}
@@ -243,7 +243,7 @@ module _ (settings : (point : ℕ) → Configuration) (t : AreTheirs settings) (
 
     delivered-there : (test : Message → Bool) → ((m : Message) → nat_eq (dpc_of m) point ≡ false → test m ≡ false)
         → total settings w (λ x. met_at settings w (is_delivered (settings x)) test x) ≡ met_at settings w (is_delivered (settings point)) test point
-    delivered-there test = there-alone is_delivered (λ c f e. and-first (is_here c f.message) (is_local f.outcome) e) test
+    delivered-there test = there-alone is_delivered (λ c f e. and-first (is_here c f.message) (is_local f.outcome && has_part c f.message) e) test
 
     module _ (test : Message → Bool) where
       to-point : (m : Message) → nat_eq (dpc_of m) point ≡ false → to_point point test m ≡ false

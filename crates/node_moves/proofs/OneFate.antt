@@ -6,7 +6,7 @@ use Rattle.node_moves.proofs.Delivered.{delivers}
 use Rattle.node_moves.proofs.FateCounts.{count-fate, count-fates}
 use Rattle.node_moves.proofs.Heard.{here-own, here-short, on-away}
 use Rattle.node_moves.proofs.Reading.{is_long}
-use Rattle.node_moves.specs.Fates.{HaveFates, goes_on, is_delivered, is_for_sccp, is_handled, is_local, is_refusal, is_refused, sccp_takes, is_sccp, is_taken_on}
+use Rattle.node_moves.specs.Fates.{HaveFates, goes_on, has_part, is_delivered, is_for_sccp, is_handled, is_local, is_refusal, is_refused, sccp_takes, is_sccp, is_taken_on}
 use Rattle.node_moves.specs.Laws.{any_fate, fates_that, is_user, users_that}
 use Rattle.node_moves.specs.Networks.{Fate, is_here, made_of}
 unfoldable use Rattle.exchange_rules.specs.Exchange.{apply}
@@ -32,40 +32,42 @@ use Rattle.signalling_types.specs.declared.outcome.Outcome.TheVariants.{Handled,
 
 -- ---- four kinds of fates
 
--- what may become of a user message, by whether it is for this point, and of SCCP
-abbrev pub is_fit : (here of_sccp : Bool) → Outcome → Bool
-is_fit here of_sccp (Queued link) = not here || of_sccp
-is_fit here of_sccp Held = not here || of_sccp
-is_fit here of_sccp Local = here
-is_fit here of_sccp Handled = here && of_sccp
-is_fit here of_sccp Ignored = false
-is_fit here of_sccp (Refused cause) = true
+-- what may become of a user message, by whether it is for this point, whether it is of SCCP, and whether its user part is
+-- here
+abbrev pub is_fit : (here of_sccp part : Bool) → Outcome → Bool
+is_fit here of_sccp part (Queued link) = not here || of_sccp
+is_fit here of_sccp part Held = not here || of_sccp
+is_fit here of_sccp part Local = here && part
+is_fit here of_sccp part Handled = here && of_sccp
+is_fit here of_sccp part Ignored = false
+is_fit here of_sccp part (Refused cause) = true
 
-one-kind : (u h s t : Bool) (o : Outcome) → (u ≡ true → is_fit h s o ≡ true)
+one-kind : (u h s p t : Bool) (o : Outcome) → (u ≡ true → is_fit h s p o ≡ true)
     → one_if (u && (true && t))
-    ≡ one_if (u && ((not h && is_taken_on o) && t)) + one_if (u && (is_refusal o && t)) + one_if (u && ((h && is_local o) && t))
+    ≡ one_if (u && ((not h && is_taken_on o) && t)) + one_if (u && (is_refusal o && t)) + one_if (u && ((h && (is_local o && p)) && t))
     + one_if (u && ((h && (s && (is_taken_on o || is_handled o))) && t))
-one-kind false h s t o e = refl
-one-kind true false s t (Queued link) e = omega arith
-one-kind true true true t (Queued link) e = omega arith
-one-kind true true false t (Queued link) e = (let no : false ≡ true = e refl in absurd cc)
-one-kind true false s t Held e = omega arith
-one-kind true true true t Held e = omega arith
-one-kind true true false t Held e = (let no : false ≡ true = e refl in absurd cc)
-one-kind true true true t Local e = omega arith
-one-kind true true false t Local e = omega arith
-one-kind true false s t Local e = (let no : false ≡ true = e refl in absurd cc)
-one-kind true true true t Handled e = omega arith
-one-kind true true false t Handled e = (let no : false ≡ true = e refl in absurd cc)
-one-kind true false s t Handled e = (let no : false ≡ true = e refl in absurd cc)
-one-kind true h s t Ignored e = (let no : false ≡ true = e refl in absurd cc)
-one-kind true true true t (Refused cause) e = omega arith
-one-kind true true false t (Refused cause) e = omega arith
-one-kind true false s t (Refused cause) e = omega arith
+one-kind false h s p t o e = refl
+one-kind true false s p t (Queued link) e = omega arith
+one-kind true true true p t (Queued link) e = omega arith
+one-kind true true false p t (Queued link) e = (let no : false ≡ true = e refl in absurd cc)
+one-kind true false s p t Held e = omega arith
+one-kind true true true p t Held e = omega arith
+one-kind true true false p t Held e = (let no : false ≡ true = e refl in absurd cc)
+one-kind true true true true t Local e = omega arith
+one-kind true true false true t Local e = omega arith
+one-kind true true s false t Local e = (let no : false ≡ true = e refl in absurd cc)
+one-kind true false s p t Local e = (let no : false ≡ true = e refl in absurd cc)
+one-kind true true true p t Handled e = omega arith
+one-kind true true false p t Handled e = (let no : false ≡ true = e refl in absurd cc)
+one-kind true false s p t Handled e = (let no : false ≡ true = e refl in absurd cc)
+one-kind true h s p t Ignored e = (let no : false ≡ true = e refl in absurd cc)
+one-kind true true true p t (Refused cause) e = omega arith
+one-kind true true false p t (Refused cause) e = omega arith
+one-kind true false s p t (Refused cause) e = omega arith
 
 module _ (c : Configuration) where
   abbrev pub IsFit : Fate → Type 0
-  IsFit f = is_user f.message ≡ true → is_fit (is_here c f.message) (is_sccp f.message) f.outcome ≡ true
+  IsFit f = is_user f.message ≡ true → is_fit (is_here c f.message) (is_sccp f.message) (has_part c f.message) f.outcome ≡ true
 
   pub one-fate : (f : Fate) → IsFit f → HaveFates c (f ∷ [])
   one-fate f fit test =
@@ -78,7 +80,7 @@ module _ (c : Configuration) where
         one is_refused,
         one (is_delivered c),
         one (sccp_takes c),
-        one-kind (is_user f.message) (is_here c f.message) (is_sccp f.message) (test f.message) f.outcome fit,
+        one-kind (is_user f.message) (is_here c f.message) (is_sccp f.message) (has_part c f.message) (test f.message) f.outcome fit,
       )
 
   pub no-fates : HaveFates c []
@@ -94,54 +96,57 @@ module _ (c : Configuration) where
 
 module _ (c : Configuration) (n : Node WholeQueues) where
   -- queued, held or refused
-  offer-fit : (h s : Bool) → (not h || s) ≡ true → (room : Option Cause) (waiting : Bool) (link from : Option ℕ) (m : Message) → is_fit h s (offer whole c room waiting link from m n).outcome ≡ true
-  offer-fit h s e (Some cause) waiting link from m = refl
-  offer-fit h s e None true link from m = e
-  offer-fit h s e None false None from m = refl
-  offer-fit h s e None false (Some link) from m = e
+  offer-fit : (h s p : Bool) → (not h || s) ≡ true → (room : Option Cause) (waiting : Bool) (link from : Option ℕ) (m : Message) → is_fit h s p (offer whole c room waiting link from m n).outcome ≡ true
+  offer-fit h s p e (Some cause) waiting link from m = refl
+  offer-fit h s p e None true link from m = e
+  offer-fit h s p e None false None from m = refl
+  offer-fit h s p e None false (Some link) from m = e
 
-  either-fit : (h s b : Bool) (d e : Done WholeQueues) → is_fit h s d.outcome ≡ true → is_fit h s e.outcome ≡ true → is_fit h s (if b then d else e).outcome ≡ true
-  either-fit h s true d e f g = f
-  either-fit h s false d e f g = g
+  either-fit : (h s p b : Bool) (d e : Done WholeQueues) → is_fit h s p d.outcome ≡ true → is_fit h s p e.outcome ≡ true → is_fit h s p (if b then d else e).outcome ≡ true
+  either-fit h s p true d e f g = f
+  either-fit h s p false d e f g = g
 
-  transfer-fit : (h s : Bool) → (not h || s) ≡ true → (from : Option ℕ) (m : Message) → is_fit h s (transfer whole c from m n).outcome ≡ true
-  transfer-fit h s e from m =
-      either-fit h s (is_destination c (dpc_of m)) (offer whole c (no_room_for whole c m n) (waits c n.parts.holds m) (link_of c n.parts (flow_of m)) from m n) (refuse causes.UnknownDestination n)
-      (offer-fit h s e (no_room_for whole c m n) (waits c n.parts.holds m) (link_of c n.parts (flow_of m)) from m) refl
+  transfer-fit : (h s p : Bool) → (not h || s) ≡ true → (from : Option ℕ) (m : Message) → is_fit h s p (transfer whole c from m n).outcome ≡ true
+  transfer-fit h s p e from m =
+      either-fit h s p (is_destination c (dpc_of m)) (offer whole c (no_room_for whole c m n) (waits c n.parts.holds m) (link_of c n.parts (flow_of m)) from m n) (refuse causes.UnknownDestination n)
+      (offer-fit h s p e (no_room_for whole c m n) (waits c n.parts.holds m) (link_of c n.parts (flow_of m)) from m) refl
 
-  relay-fit : (v : relays.RelayedValue) (m : Message) → is_fit true true (relay_by whole c v m n).outcome ≡ true
+  relay-fit : (v : relays.RelayedValue) (m : Message) → is_fit true true true (relay_by whole c v m n).outcome ≡ true
   relay-fit relays.Delivered m = refl
-  relay-fit (relays.Onward sif) m = transfer-fit true true refl None (in_place_of m sif)
+  relay-fit (relays.Onward sif) m = transfer-fit true true true refl None (in_place_of m sif)
   relay-fit (relays.Heard news) m = refl
   relay-fit (relays.Refused cause) m = refl
 
-  local-fit : (from : Option ℕ) (m : Message) → is_fit true (is_sccp m) (local whole c from m n).outcome ≡ true
-  local-fit from m = by (nat_eq (service_indicator m) sccp)
+  local-fit : (from : Option ℕ) (m : Message) → is_fit true (is_sccp m) (has_part c m) (local whole c from m n).outcome ≡ true
+  local-fit from m = by (nat_eq (service_indicator m) sccp) (rules.is_user c (service_indicator m))
     where
       absent : Done WholeQueues
       absent = refuse causes.NoUserPart (answer_no_user_part whole c from (destination_place c (opc_of m)) m n)
 
-      by : (b : Bool) → is_fit true b (if b then on_unitdata whole c m n else if rules.is_user c (service_indicator m) then answer Local n else absent).outcome ≡ true
-      by true = relay-fit (relays.relay (own_of c n.parts) n.parts.titles m.sif) m
-      by false = either-fit true false (rules.is_user c (service_indicator m)) (answer Local n) absent refl refl
+      by : (b listed : Bool) → is_fit true b (b || listed) (if b then on_unitdata whole c m n else if listed then answer Local n else absent).outcome ≡ true
+      by true listed = relay-fit (relays.relay (own_of c n.parts) n.parts.titles m.sif) m
+      by false true = refl
+      by false false = refl
 
   -- by where it goes
-  deliver-fit : (link : ℕ) (m : Message) → is_management m ≡ false → (d : Discrimination) → whither_goes c m ≡ d → is_fit (is_here c m) (is_sccp m) (deliver_to whole c d link m n).outcome ≡ true
+  deliver-fit : (link : ℕ) (m : Message) → is_management m ≡ false → (d : Discrimination) → whither_goes c m ≡ d → is_fit (is_here c m) (is_sccp m) (has_part c m) (deliver_to whole c d link m n).outcome ≡ true
   deliver-fit link m user (whither.Refused cause) e = refl
   deliver-fit link m user (whither.Here label) e =
-      subst (λ (h : Bool). is_fit h (is_sccp m) (deliver_to whole c (whither.Here label) link m n).outcome ≡ true) (sym (eq-eqb (dpc_of m) c.own (here-own c m label e)))
-      (ap (λ (b : Bool). is_fit true (is_sccp m) (if b then manage whole c link m n else local whole c (Some link) m n).outcome) user ∙ local-fit (Some link) m)
+      subst (λ (h : Bool). is_fit h (is_sccp m) (has_part c m) (deliver_to whole c (whither.Here label) link m n).outcome ≡ true) (sym (eq-eqb (dpc_of m) c.own (here-own c m label e)))
+      (ap (λ (b : Bool). is_fit true (is_sccp m) (has_part c m) (if b then manage whole c link m n else local whole c (Some link) m n).outcome) user ∙ local-fit (Some link) m)
   deliver-fit link m user (whither.Transfer label) e =
-      subst (λ (h : Bool). is_fit h (is_sccp m) (deliver_to whole c (whither.Transfer label) link m n).outcome ≡ true) (sym (on-away c m label e)) (transfer-fit false (is_sccp m) refl (Some link) m)
+      subst (λ (h : Bool). is_fit h (is_sccp m) (has_part c m) (deliver_to whole c (whither.Transfer label) link m n).outcome ≡ true) (sym (on-away c m label e))
+      (transfer-fit false (is_sccp m) (has_part c m) refl (Some link) m)
 
-  submit-fit : (m : Message) → is_management m ≡ false → (d : Discrimination) → whither_goes c m ≡ d → is_fit (is_here c m) (is_sccp m) (submit_to whole c d m n).outcome ≡ true
+  submit-fit : (m : Message) → is_management m ≡ false → (d : Discrimination) → whither_goes c m ≡ d → is_fit (is_here c m) (is_sccp m) (has_part c m) (submit_to whole c d m n).outcome ≡ true
   submit-fit m user (whither.Refused cause) e = refl
   submit-fit m user (whither.Here label) e =
-      subst (λ (h : Bool). is_fit h (is_sccp m) (submit_to whole c (whither.Here label) m n).outcome ≡ true) (sym (eq-eqb (dpc_of m) c.own (here-own c m label e)))
-      (ap (λ (b : Bool). is_fit true (is_sccp m) (if b then refuse causes.NotInProfile n else local whole c None m n).outcome) user ∙ local-fit None m)
+      subst (λ (h : Bool). is_fit h (is_sccp m) (has_part c m) (submit_to whole c (whither.Here label) m n).outcome ≡ true) (sym (eq-eqb (dpc_of m) c.own (here-own c m label e)))
+      (ap (λ (b : Bool). is_fit true (is_sccp m) (has_part c m) (if b then refuse causes.NotInProfile n else local whole c None m n).outcome) user ∙ local-fit None m)
   submit-fit m user (whither.Transfer label) e =
-      subst (λ (h : Bool). is_fit h (is_sccp m) (submit_to whole c (whither.Transfer label) m n).outcome ≡ true) (sym (on-away c m label e))
-      (ap (λ (b : Bool). is_fit false (is_sccp m) (if b then refuse causes.NotInProfile n else transfer whole c None m n).outcome) user ∙ transfer-fit false (is_sccp m) refl None m)
+      subst (λ (h : Bool). is_fit h (is_sccp m) (has_part c m) (submit_to whole c (whither.Transfer label) m n).outcome ≡ true) (sym (on-away c m label e))
+      (ap (λ (b : Bool). is_fit false (is_sccp m) (has_part c m) (if b then refuse causes.NotInProfile n else transfer whole c None m n).outcome) user
+      ∙ transfer-fit false (is_sccp m) (has_part c m) refl None m)
 
 -- ---- what it brings in
 

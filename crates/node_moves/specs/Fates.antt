@@ -5,7 +5,7 @@ use Rattle.signalling_types.specs.Message.{Message, service_indicator}
 use Rattle.signalling_types.specs.declared.outcome.Outcome.{Outcome}
 use Rattle.signalling_types.specs.declared.outcome.Outcome.TheVariants.{Handled, Held, Local, Queued, Refused}
 use Rattle.settings_rows.specs.Configuration.{Configuration}
-use Rattle.exchange_rules.specs.Messages.{sccp}
+use Rattle.exchange_rules.specs.Messages.{is_user, sccp}
 use Rattle.network_moves.specs.Networks.{sum_to}
 use Rattle.node_moves.specs.Laws.{users_that, fates_that, any_fate, accepted_at}
 use Rattle.node_moves.specs.Networks.{Fate, NetworkState, Step, is_here, after_steps, first_network}
@@ -33,6 +33,10 @@ is_handled outcome = false
 abbrev pub is_sccp : Message → Bool
 is_sccp m = nat_eq (service_indicator m) sccp
 
+-- the user part of a message is here: one that the settings name, or SCCP
+abbrev pub has_part : Configuration → Message → Bool
+has_part c m = is_sccp m || is_user c (service_indicator m)
+
 -- it is refused, by the cause that its outcome names
 abbrev pub is_refused : Fate → Bool
 is_refused f = is_refusal f.outcome
@@ -44,7 +48,7 @@ module _ (c : Configuration) where
 
   -- one for this point is delivered: to its user part, or one of SCCP to a subsystem
   abbrev pub is_delivered : Fate → Bool
-  is_delivered f = is_here c f.message && is_local f.outcome
+  is_delivered f = is_here c f.message && (is_local f.outcome && has_part c f.message)
 
   -- SCCP here takes one for this point, and it isn't delivered: it goes on by its title, or says something of a
   -- subsystem and is heard

@@ -23,9 +23,9 @@ pub fn each_message_of_a_node_ends_once()
 /// What comes to a node is what it accepts, but for what ends there: so the node laws of neighbours are joined. This
 /// asks nothing of settings, and holds whatever was lost or broken. Of each kind of user messages, each that came to a
 /// node by a link, and each that its user parts handed over, went on, being for another point (it was queued or held);
-/// or was refused, by the cause that its outcome names; or was delivered, being for this point; or was taken by SCCP
-/// here. What the node accepted is those that went on, and what its SCCP made: of each message of SCCP for this point
-/// one at most, and no other.
+/// or was refused, by the cause that its outcome names; or was delivered, being for this point, to a user part that the
+/// settings name, or by SCCP; or was taken by SCCP here and not delivered. What the node accepted is those that went
+/// on, and what its SCCP made: of each message of SCCP for this point one at most, and no other.
 pub fn each_message_has_its_fate()
     ensures { each_message_has_its_fate }
 {}
