@@ -1,11 +1,13 @@
--- Addresses with a port: what a text spells, and what is told of them.
-use Rattle.std.specs.Prelude.{◌≡◌, ℕ, List, [], ◌∷◌, take, Bool, true, false, Option, Some, None, bytes_eq}
+-- Addresses, with a port and without: what a text spells, and what is told of them.
+use Rattle.std.specs.Prelude.{◌≡◌, ℕ, List, [], ◌∷◌, take, replicate, slice_index, Bool, true, false, ◌&&◌, ◌||◌, not}
+use Rattle.std.specs.Prelude.{Option, Some, None, bytes_eq, nat_le}
 use Rattle.std.specs.declared.net.socket_addr.SocketAddr.{SocketAddr}
 use Rattle.std.specs.declared.net.socket_addr.SocketAddr.TheVariants.{V4, V6}
 use Rattle.std.specs.Net.Addr.{ipv4_octets, ipv6_segments}
 use Rattle.std.specs.Net.Socket.{v4_ip, v6_ip, socket_ip}
 use Rattle.std.specs.Net.Grammar.{IsSocketText, IsIpText}
 use Rattle.std.specs.declared.net.ip_addr.IpAddr.{IpAddr}
+use Rattle.std.specs.declared.net.ip_addr.IpAddr.TheVariants as Ip
 use Rattle.std.specs.contracts.impls.SocketAddrPartialEq.TheImpl as same
 use Rattle.std.specs.contracts.impls.IpAddrPartialEq.TheImpl as same_host
 
@@ -46,3 +48,36 @@ is_same_version (V4 a) (V4 b) = true
 is_same_version (V4 a) (V6 b) = false
 is_same_version (V6 a) (V4 b) = false
 is_same_version (V6 a) (V6 b) = true
+
+-- ---- what an end may list
+
+-- 0.0.0.0 or ::
+abbrev pub is_unspecified : IpAddr → Bool
+is_unspecified (Ip.V4 a) = bytes_eq (ipv4_octets a) (replicate 4 0)
+is_unspecified (Ip.V6 a) = bytes_eq (ipv6_segments a) (replicate 8 0)
+
+-- in 224.0.0.0/4 or ff00::/8
+abbrev pub is_multicast : IpAddr → Bool
+is_multicast (Ip.V4 a) = nat_le 224 (slice_index (ipv4_octets a) 0) && nat_le (slice_index (ipv4_octets a) 0) 239
+is_multicast (Ip.V6 a) = nat_le 0xff00 (slice_index (ipv6_segments a) 0)
+
+-- 255.255.255.255
+abbrev pub is_broadcast : IpAddr → Bool
+is_broadcast (Ip.V4 a) = bytes_eq (ipv4_octets a) (replicate 4 255)
+is_broadcast (Ip.V6 a) = false
+
+-- in 169.254.0.0/16 or fe80::/10
+abbrev pub is_link_local : IpAddr → Bool
+is_link_local (Ip.V4 a) = bytes_eq (take 2 (ipv4_octets a)) (169 ∷ 254 ∷ [])
+is_link_local (Ip.V6 a) =
+    nat_le 0xfe80 (slice_index (ipv6_segments a) 0) && nat_le (slice_index (ipv6_segments a) 0) 0xfebf
+
+-- in ::ffff:0:0/96
+abbrev pub is_mapped : IpAddr → Bool
+is_mapped (Ip.V4 a) = false
+is_mapped (Ip.V6 a) = bytes_eq (take 6 (ipv6_segments a)) (0 ∷ 0 ∷ 0 ∷ 0 ∷ 0 ∷ 0xffff ∷ [])
+
+-- an end may list an address of one host, whatever link that is reached by; one of IPv4 it lists as such (RFC 9260
+-- §3.3.2.1.2)
+abbrev pub may_be_listed : IpAddr → Bool
+may_be_listed a = not (is_unspecified a || is_multicast a || is_broadcast a || is_link_local a || is_mapped a)

@@ -11,7 +11,7 @@ use Rattle.settings_file.specs.declared.serve.key.ServeKey.{ServeKey}
 use Rattle.settings_file.specs.declared.serve.key.ServeKey.TheVariants as key
 use Rattle.settings_file.specs.declared.serve.fault.ServeFault.{ServeFault}
 use Rattle.settings_file.specs.declared.serve.fault.ServeFault.TheVariants.{Kind, Missing, Range, Duplicate}
-use Rattle.settings_file.specs.Addresses.{Spelling, is_host, is_same_host, is_same_version}
+use Rattle.settings_file.specs.Addresses.{Spelling, is_host, is_same_host, is_same_version, may_be_listed}
 use Rattle.settings_file.specs.ServeKeys.{found_at}
 use Rattle.settings_file.specs.Shapes.{and_then, text_in, array_in, listed}
 use Rattle.settings_file.specs.Keyed.{address_in}
@@ -31,13 +31,19 @@ has_address a (Some b) = is_host b a
 abbrev pub spelled_host : Spelling → ServeKey → List ℕ → Result IpAddr ServeFault
 spelled_host s key text = ok_or (s.host text) (Range key)
 
+-- one that an end may list
+abbrev pub listable : ServeKey → IpAddr → Result IpAddr ServeFault
+listable key a = if may_be_listed a then Ok a else Err (Range key)
+
 -- one that is in no place yet
 abbrev pub new_address : ServeKey → List (Option IpAddr) → IpAddr → Result IpAddr ServeFault
 new_address key places a = if list_any (has_address a) places then Err (Duplicate key) else Ok a
 
 unfoldable pub next_address : Spelling → ServeKey → List (Option IpAddr) → Data → Result IpAddr ServeFault
 next_address s key places d =
-    and_then (text_in (Kind key) d) (λ text. and_then (spelled_host s key text) (new_address key places))
+    and_then (text_in (Kind key) d) (λ text.
+    and_then (spelled_host s key text) (λ spelled.
+    and_then (listable key spelled) (new_address key places)))
 
 -- they fill the places from number i on
 abbrev pub addresses_from : Spelling → ServeKey → List (Option IpAddr) → (i : ℕ) → List Data

@@ -3,12 +3,13 @@
 ghost use Rattle.std.specs.Prelude.{◌≡◌};
 ghost use Rattle.toml.specs.View.{view};
 ghost use Rattle.settings_file.specs.Addresses.{Spelling, is_loopback, is_address_of, is_same_host, is_same_version};
+ghost use Rattle.settings_file.specs.Addresses.{is_unspecified, is_multicast, is_broadcast, is_link_local, is_mapped, may_be_listed};
 ghost use Rattle.settings_file.specs.Keyed.{address_in, with_port, guarded};
 
 use crate::serve::fault::ServeFault;
 use crate::serve::key::ServeKey;
 use crate::shapes::text_in;
-use std::net::SocketAddr;
+use std::net::{IpAddr, SocketAddr};
 use toml::Value;
 
 /// The address that a text spells, with a port from 1 on.
@@ -77,4 +78,58 @@ pub(crate) fn is_same_version(address: SocketAddr, other: SocketAddr) -> bool
         (SocketAddr::V4(_), SocketAddr::V4(_)) | (SocketAddr::V6(_), SocketAddr::V6(_)) => true,
         (SocketAddr::V4(_), SocketAddr::V6(_)) | (SocketAddr::V6(_), SocketAddr::V4(_)) => false,
     }
+}
+
+/// Whether this is 0.0.0.0 or ::.
+fn is_unspecified(address: IpAddr) -> bool
+    ensures { result ≡ is_unspecified address }
+{
+    address.is_unspecified()
+}
+
+fn is_multicast(address: IpAddr) -> bool
+    ensures { result ≡ is_multicast address }
+{
+    address.is_multicast()
+}
+
+/// Whether this is 255.255.255.255.
+fn is_broadcast(address: IpAddr) -> bool
+    ensures { result ≡ is_broadcast address }
+{
+    match address {
+        IpAddr::V4(ip) => ip.is_broadcast(),
+        IpAddr::V6(_) => false,
+    }
+}
+
+/// Whether an address means a host on one link only.
+fn is_link_local(address: IpAddr) -> bool
+    ensures { result ≡ is_link_local address }
+{
+    match address {
+        IpAddr::V4(ip) => ip.is_link_local(),
+        IpAddr::V6(ip) => ip.is_unicast_link_local(),
+    }
+}
+
+/// Whether an address of IPv6 is one of IPv4.
+fn is_mapped(address: IpAddr) -> bool
+    ensures { result ≡ is_mapped address }
+{
+    match address {
+        IpAddr::V4(_) => false,
+        IpAddr::V6(ip) => ip.to_ipv4_mapped().is_some(),
+    }
+}
+
+/// Whether an end may list an address as its own.
+pub(crate) fn may_be_listed(address: IpAddr) -> bool
+    ensures { result ≡ may_be_listed address }
+{
+    !(is_unspecified(address)
+        || is_multicast(address)
+        || is_broadcast(address)
+        || is_link_local(address)
+        || is_mapped(address))
 }

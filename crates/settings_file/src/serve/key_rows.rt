@@ -24,7 +24,8 @@ const PAGE: &str = "an address and a port from 1 on, as \"127.0.0.1:8080\"";
 
 const UDP: &str = "an address and a port from 1 on, as \"127.0.0.1:9899\"";
 
-const ADDRESSES: &str = "at most eight addresses without a port, as \"192.0.2.1\"";
+const ADDRESSES: &str = "at most eight addresses without a port, as \"192.0.2.1\", \
+    none unspecified, multicast, broadcast, link-local or IPv4-mapped";
 
 const TIMEOUT: &str = "10 to 60000";
 

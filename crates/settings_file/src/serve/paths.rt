@@ -7,10 +7,10 @@ ghost use Rattle.toml.specs.Data.{as_array};
 ghost use Rattle.std.specs.Option.{option_map};
 ghost use Rattle.settings_file.specs.Shapes.{listed};
 ghost use Rattle.settings_file.specs.Addresses.{Spelling};
-ghost use Rattle.settings_file.specs.Paths.{has_address, new_address, spelled_host, next_address, addresses_from, no_addresses, addresses_in, addresses_at};
+ghost use Rattle.settings_file.specs.Paths.{has_address, new_address, spelled_host, listable, next_address, addresses_from, no_addresses, addresses_in, addresses_at};
 ghost use Rattle.settings_file.specs.Paths.{entries_in, entries_of, first_or, has_host, reached, new_host, next_other, others_from, no_others, others_in};
 
-use crate::serve::address::{address_in, is_same_host, is_same_version};
+use crate::serve::address::{address_in, is_same_host, is_same_version, may_be_listed};
 use crate::serve::fault::ServeFault;
 use crate::serve::key::ServeKey;
 use crate::serve::keys::found_at;
@@ -60,7 +60,17 @@ fn spelled_host(text: &str, key: ServeKey) -> Result<IpAddr, ServeFault>
     }
 }
 
-/// The IP address that a value says, which is in none of these places.
+/// Refuses an address that an end may not list.
+fn listable(key: ServeKey, address: IpAddr) -> Result<IpAddr, ServeFault>
+    ensures { result ≡ listable key address }
+{
+    if !may_be_listed(address) {
+        return Err(ServeFault::Range(key));
+    }
+    Ok(address)
+}
+
+/// The IP address that a value says, which an end may list and is in none of these places.
 #[tactic(auto, unfolding(crate::specs::Paths::next_address))]
 fn next_address(
     key: ServeKey,
@@ -70,7 +80,8 @@ fn next_address(
     ensures { (s : Spelling) → result ≡ next_address s key places.now (view value.now) }
 {
     let text = text_in(value, ServeFault::Kind(key))?;
-    let address = spelled_host(text, key)?;
+    let spelled = spelled_host(text, key)?;
+    let address = listable(key, spelled)?;
     new_address(key, places, address)
 }
 
