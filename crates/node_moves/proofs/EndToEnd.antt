@@ -11,7 +11,7 @@ use Rattle.node_moves.proofs.FateCounts.{count-fate}
 use Rattle.node_moves.proofs.Booking.{all-in-order, takes-each}
 use Rattle.node_moves.proofs.Running.{all_points, are-all, point_by, reached}
 use Rattle.node_moves.proofs.Ending.{came, ends, fates-same, same-or, sum-ends, the-other, twice}
-use Rattle.node_moves.specs.EndToEnd.{ComeFromEndToEnd, messages_come_from_end_to_end, to_point, to_user_parts, total}
+use Rattle.node_moves.specs.EndToEnd.{ComeFromEndToEnd, IsAccounted, each_message_is_accounted_for, messages_come_from_end_to_end, for_user_parts, to_point, to_user_parts, total}
 use Rattle.node_moves.specs.Fates.{TakesEachIn, came_to, goes_on, has_part, is_delivered, is_handled, is_local, is_refused, sccp_takes, is_sccp, is_taken_on, made_at, met_at, submitted_at}
 use Rattle.node_moves.specs.Laws.{AreTheirs, EndsOnce, any_fate, came_from, fates_that, gone_at, is_user, users_that, waits_at}
 use Rattle.node_moves.specs.Networks.{Fate, NetworkState, LinkEnd, IsNode, is_here, is_node, other_end, points, after_steps, first_network}
@@ -228,6 +228,28 @@ module _ (settings : (point : ℕ) → Configuration) (t : AreTheirs settings) (
     with-none : (there : ℕ) → delivered ≡ there → relayed ≡ 0 → made ≡ 0 → handed ≡ there + refused + waits + gone
     with-none there d l m = without-sums handed made there refused waits gone (with-both there 0 d l) m
 
+  -- SCCP neither makes nor takes those for other user parts
+  none-made : (test : Message → Bool) → total settings w (made_at settings w (for_user_parts test)) ≡ 0
+  none-made test = sum-nowhere (is_node settings) (made_at settings w (for_user_parts test)) (λ x fy. (takes x).made test) points
+
+  relayed-sccp : (h s k u : Bool) → ((h && (s && k)) && (not s && u)) ≡ false
+  relayed-sccp true true k u = and-last k false refl
+  relayed-sccp true false k u = refl
+  relayed-sccp false s k u = refl
+
+  none-relayed : (test : Message → Bool) → total settings w (λ x. met_at settings w (sccp_takes (settings x)) (for_user_parts test) x) ≡ 0
+  none-relayed test =
+      sum-nowhere (is_node settings) (λ x. met_at settings w (sccp_takes (settings x)) (for_user_parts test) x)
+      (λ x fy. none-met (sccp_takes (settings x)) (for_user_parts test) x
+      (λ f. relayed-sccp (is_here (settings x) f.message) (is_sccp f.message) (is_taken_on f.outcome || is_handled f.outcome) (test f.message))) points
+
+  -- of the whole network
+  accounted : IsAccounted settings w
+  accounted = record {
+    once = λ test. with-none (for_user_parts test) (delivered (for_user_parts test)) refl (none-relayed test) (none-made test);
+    with_sccp = λ test. with-both test (delivered test) (relayed test) refl refl;
+  }
+
   module _ (point : ℕ) (fx : IsNode settings point) (inside : point < points) where
     -- what is here is for no other point
     elsewhere : (x : ℕ) → IsNode settings x → x ≢ point → (m : Message) → is_here (settings x) m ≡ true → nat_eq (dpc_of m) point ≡ false
@@ -259,21 +281,6 @@ module _ (settings : (point : ℕ) → Configuration) (t : AreTheirs settings) (
           (delivered-there (to_point point test) to-point)
           (there-alone sccp_takes (λ c f e. and-first (is_here c f.message) (is_sccp f.message && (is_taken_on f.outcome || is_handled f.outcome)) e) (to_point point test) to-point)
 
-      -- SCCP neither makes nor takes those for other user parts
-      none-made : total settings w (made_at settings w (to_user_parts point test)) ≡ 0
-      none-made = sum-nowhere (is_node settings) (made_at settings w (to_user_parts point test)) (λ x fy. (takes x).made (to_point point test)) points
-
-      relayed-sccp : (h s k u : Bool) → ((h && (s && k)) && (not s && u)) ≡ false
-      relayed-sccp true true k u = and-last k false refl
-      relayed-sccp true false k u = refl
-      relayed-sccp false s k u = refl
-
-      none-relayed : total settings w (λ x. met_at settings w (sccp_takes (settings x)) (to_user_parts point test) x) ≡ 0
-      none-relayed =
-          sum-nowhere (is_node settings) (λ x. met_at settings w (sccp_takes (settings x)) (to_user_parts point test) x)
-          (λ x fy. none-met (sccp_takes (settings x)) (to_user_parts point test) x
-          (λ f. relayed-sccp (is_here (settings x) f.message) (is_sccp f.message) (is_taken_on f.outcome || is_handled f.outcome) (to_point point test f.message))) points
-
       once : total settings w (submitted_at settings w any_fate (to_user_parts point test))
           ≡ met_at settings w (is_delivered (settings point)) (to_user_parts point test) point + total settings w (met_at settings w is_refused (to_user_parts point test))
           + total settings w (waits_at settings w (to_user_parts point test))
@@ -281,7 +288,7 @@ module _ (settings : (point : ℕ) → Configuration) (t : AreTheirs settings) (
       once =
           with-none (to_user_parts point test) (met_at settings w (is_delivered (settings point)) (to_user_parts point test) point)
           (delivered-there (to_user_parts point test) (λ m e. and-last (not (is_sccp m)) (to_point point test m) (to-point m e)))
-          none-relayed none-made
+          (none-relayed (to_point point test)) (none-made (to_point point test))
 
     end-to-end : ComeFromEndToEnd settings w point
     end-to-end = record {
@@ -312,3 +319,10 @@ come-end-to-end settings steps point t fx none =
     let inside : point < points = (let l : nat_lt point points ≡ true = and-first (nat_lt point points) _ fx in grind (arith, nat_tests, l)) in
     end-to-end settings t w (λ x fy. ends settings t all_points are-all w r.0 r.1 r.2 x fy) (λ x. takes-each settings w x (all-in-order settings steps x))
     (λ test. across settings t all_points are-all w r.0 r.1 r.2 test are-joined all-nodes) point fx inside
+
+pub all-accounted : each_message_is_accounted_for
+all-accounted settings steps t none =
+    let w : NetworkState = after_steps settings steps (first_network settings) in
+    let r : (p : Network) × IsAt all_points p × Shown settings t w p = reached settings t all_points are-all steps none in
+    accounted settings t w (λ x fy. ends settings t all_points are-all w r.0 r.1 r.2 x fy) (λ x. takes-each settings w x (all-in-order settings steps x))
+    (λ test. across settings t all_points are-all w r.0 r.1 r.2 test are-joined all-nodes)

@@ -11,8 +11,8 @@ use Rattle.node_moves.specs.Fates.{is_delivered, met_at}
 use Rattle.node_moves.specs.Laws.{came_from, gone_at, waits_at}
 use Rattle.node_moves.specs.LossRun.{NamesWhatIsLost, answered, around, confirmed, expired}
 use Rattle.node_moves.specs.MatedPair.{mated}
-use Rattle.node_moves.specs.MatedRun.{delivered, direct, done_at, fails, message_one, message_two, sends, turned, users, users_in}
-use Rattle.node_moves.specs.Networks.{Fate, NetworkNode, NetworkState, Takes, Ticks}
+use Rattle.node_moves.specs.MatedRun.{AnAnswer, AnOrder, Word, delivered, direct, done_at, fails, message_one, message_two, sends, turned, users, users_in, words}
+use Rattle.node_moves.specs.Networks.{Fate, NetworkNode, NetworkState, Takes, Ticks, messages_of}
 use Rattle.changeover.specs.Changeover.{may_restart}
 use Rattle.exchange_rules.specs.State.{lost_any}
 unfoldable use Rattle.exchange_rules.specs.Exchange.{apply}
@@ -65,6 +65,7 @@ record Shown : Type 0 where
   first_users : List Fate
   second_users : List Fate
   third_users : List Fate
+  third_words : List Word
 
 abbrev shown : NetworkNode → Shown
 shown x = record {
@@ -77,11 +78,12 @@ shown x = record {
   first_users = users_in (x.came 0);
   second_users = users_in (x.came 1);
   third_users = users_in (x.came 2);
+  third_words = words (messages_of (x.came 2));
 }
 
--- point 1, whether its link may open again or not
-abbrev near_shows : (restarts : Bool) → Shown
-near_shows restarts = record {
+-- point 1: whether its link may open again or not, and which words came by the mate
+abbrev near_shows : (restarts : Bool) → (third_words : List Word) → Shown
+near_shows restarts third_words = record {
   broken = 0;
   lost = true;
   counted = 1;
@@ -91,11 +93,12 @@ near_shows restarts = record {
   first_users = [];
   second_users = [];
   third_users = [];
+  third_words = third_words;
 }
 
--- another point, to which these messages came by its first link
-abbrev far_shows : List Fate → Shown
-far_shows first_users = record {
+-- another point, to which these messages came by its first link, and these words by its third
+abbrev far_shows : List Fate → (third_words : List Word) → Shown
+far_shows first_users third_words = record {
   broken = 0;
   lost = false;
   counted = 0;
@@ -105,21 +108,22 @@ far_shows first_users = record {
   first_users = first_users;
   second_users = [];
   third_users = [];
+  third_words = third_words;
 }
 
-expired-shows : shown (expired_from first_four).one ≡ near_shows false
+expired-shows : shown (expired_from first_four).one ≡ near_shows false []
 unfolding apply tell_owed first_sets links_below status_of set_timer clear_timer start_unless_running clear_set due_name after_due due_count names_of choice_among link_by changes_of changes take_back_each owes_nothing any_flow flows rerouted order_each
 expired-shows = refl
 
-near-shows : shown (answered_from first_four).one ≡ near_shows true
+near-shows : shown (answered_from first_four).one ≡ near_shows true (AnOrder ∷ AnAnswer ∷ [])
 unfolding apply tell_owed first_sets links_below status_of set_timer clear_timer start_unless_running clear_set due_name after_due due_count names_of choice_among link_by changes_of changes take_back_each owes_nothing any_flow flows rerouted order_each
 near-shows = refl
 
-mate-shows : shown (answered_from first_four).two ≡ far_shows []
+mate-shows : shown (answered_from first_four).two ≡ far_shows [] (AnOrder ∷ AnAnswer ∷ [])
 unfolding apply tell_owed first_sets links_below status_of set_timer clear_timer start_unless_running clear_set due_name after_due due_count names_of choice_among link_by changes_of changes take_back_each owes_nothing any_flow flows rerouted order_each
 mate-shows = refl
 
-third-shows : shown (answered_from first_four).three ≡ far_shows (delivered message_one ∷ [])
+third-shows : shown (answered_from first_four).three ≡ far_shows (delivered message_one ∷ []) []
 unfolding apply tell_owed first_sets links_below status_of set_timer clear_timer start_unless_running clear_set due_name after_due due_count names_of choice_among link_by changes_of changes take_back_each owes_nothing any_flow flows rerouted order_each
 third-shows = refl
 
@@ -145,16 +149,16 @@ its-counts : counts (network_of (answered_from first_four)) ≡ record { came = 
 unfolding apply tell_owed first_sets links_below status_of set_timer clear_timer start_unless_running clear_set due_name after_due due_count names_of choice_among link_by changes_of changes take_back_each owes_nothing any_flow flows rerouted order_each
 its-counts = refl
 
-before-is : shown (expired.node 1) ≡ near_shows false
+before-is : shown (expired.node 1) ≡ near_shows false []
 before-is = ap (λ (w : NetworkState). shown (w.node 1)) expired-is ∙ expired-shows
 
-near-is : shown (answered.node 1) ≡ near_shows true
+near-is : shown (answered.node 1) ≡ near_shows true (AnOrder ∷ AnAnswer ∷ [])
 near-is = ap (λ (w : NetworkState). shown (w.node 1)) answered-is ∙ near-shows
 
-mate-is : shown (answered.node 2) ≡ far_shows []
+mate-is : shown (answered.node 2) ≡ far_shows [] (AnOrder ∷ AnAnswer ∷ [])
 mate-is = ap (λ (w : NetworkState). shown (w.node 2)) answered-is ∙ mate-shows
 
-third-is : shown (answered.node 3) ≡ far_shows (delivered message_one ∷ [])
+third-is : shown (answered.node 3) ≡ far_shows (delivered message_one ∷ []) []
 third-is = ap (λ (w : NetworkState). shown (w.node 3)) answered-is ∙ third-shows
 
 counts-are : counts answered ≡ record { came = 1; delivered = 1; waits = 0; gone = 1 }
@@ -180,4 +184,6 @@ names-lost = record {
   named_before = ap (λ (s : Shown). s.named) before-is;
   barred = ap (λ (s : Shown). s.restarts) before-is;
   opens = ap (λ (s : Shown). s.restarts) near-is;
+  words_before = ap (λ (s : Shown). s.third_words) before-is;
+  words_here = ap (λ (s : Shown). s.third_words) near-is;
 }

@@ -46,12 +46,12 @@ module _ (c : Configuration) where
   abbrev pub goes_on : Fate → Bool
   goes_on f = not (is_here c f.message) && is_taken_on f.outcome
 
-  -- one for this point is delivered: to its user part, or one of SCCP to a subsystem
+  -- one for this point is delivered: to its user part, which the settings name, or by SCCP
   abbrev pub is_delivered : Fate → Bool
   is_delivered f = is_here c f.message && (is_local f.outcome && has_part c f.message)
 
-  -- SCCP here takes one for this point, and it isn't delivered: it goes on by its title, or says something of a
-  -- subsystem and is heard
+  -- SCCP here takes one for this point, and it isn't delivered: it is queued or held, as one is that goes on by its
+  -- title, or a subsystem test that is answered by SSA; or handled, as one is that says something of a subsystem
   abbrev pub sccp_takes : Fate → Bool
   sccp_takes f = is_here c f.message && (is_sccp f.message && (is_taken_on f.outcome || is_handled f.outcome))
 
@@ -96,7 +96,7 @@ module _ (settings : (point : ℕ) → Configuration) (w : NetworkState) where
     -- it accepted, by any test, those that go on, and what its SCCP made
     pub accepted : (test : Message → Bool) →
         accepted_at settings w test point ≡ met_at (goes_on (settings point)) test point + made_at test point
-    -- SCCP makes messages of SCCP, of each for this point one at most
+    -- SCCP makes messages of SCCP, in all no more than came here or were handed over that are for SCCP here
     pub made : (test : Message → Bool) → made_at (λ m. not (is_sccp m) && test m) point ≡ 0
     pub made_once : made_at (λ m. true) point ≤ met_at (is_for_sccp (settings point)) (λ m. true) point
 

@@ -10,7 +10,7 @@ use Rattle.network_moves.specs.Networks.{sum_to}
 use Rattle.node_moves.specs.Networks.{Fate, NetworkState, LinkEnd, Step, IsNode, other_end, after_steps, first_network}
 
 -- user messages, of the lengths that nodes take in: of service indicators 2 to 15, and no longer than a signalling
--- information field
+-- information field. No longer one is counted
 abbrev pub is_user : Message → Bool
 is_user m = not (nat_lt SIF_OCTETS (length m.sif)) && not (is_management m)
 
@@ -68,10 +68,10 @@ module _ (settings : (point : ℕ) → Configuration) (w : NetworkState) where
     abbrev pub gone_at : ℕ
     gone_at = accepted_at - (came_from + waits_at)
 
-  -- of every kind of user messages, those that came and those that wait are together no more than the node accepted:
-  -- so much `once` says, since `gone_at` is what is left of these, or 0. So each message came to one neighbour at most,
-  -- once at most, and doesn't wait if it came. And no more are gone, of any kind, than the node named in notices of
-  -- loss; nor in all than it counts as named (`messages_lost`), up to the most that it counts
+  -- by any test, those that came and those that wait are together no more than the node accepted: so much `once` says,
+  -- since `gone_at` is what is left of these, or 0. So a message that it accepted once came to one neighbour at most,
+  -- once at most, and doesn't wait if it came. And no more are gone, by any test, than the node named as lost; nor than
+  -- it counts as named (`messages_lost`), up to the most that it counts
   pub record EndsOnce (point : ℕ) : Type 0 where
     pub once : (test : Message → Bool) →
         accepted_at test point ≡ came_from test point + waits_at test point + gone_at test point

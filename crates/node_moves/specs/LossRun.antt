@@ -10,8 +10,8 @@ use Rattle.node_moves.specs.Fates.{is_delivered, met_at}
 use Rattle.node_moves.specs.Laws.{AreTheirs, IsUnbroken, came_from, gone_at, waits_at}
 use Rattle.node_moves.specs.MatedPair.{mated}
 use Rattle.node_moves.specs.MatedRun.{cross, delivered, direct, done_at, fails, message_one, message_two, onward, sends}
-use Rattle.node_moves.specs.MatedRun.{served, submits, turned, users, users_in}
-use Rattle.node_moves.specs.Networks.{NetworkState, Step, Takes, Ticks, after_steps}
+use Rattle.node_moves.specs.MatedRun.{AnAnswer, AnOrder, served, submits, turned, users, users_in, words}
+use Rattle.node_moves.specs.Networks.{NetworkState, Step, Takes, Ticks, after_steps, messages_of}
 
 -- ---- states, each by steps from the one before
 
@@ -59,3 +59,6 @@ pub record NamesWhatIsLost : Type 0 where
   pub named_before : (expired.node 1).named ≡ message_two ∷ []
   pub barred : may_restart (changeover_of (expired.node 1).node.parts 0) ≡ false
   pub opens : may_restart (changeover_of (answered.node 1).node.parts 0) ≡ true
+  -- an order came by the mate, and an answer, after T2 ran out
+  pub words_before : words (messages_of ((expired.node 1).came 2)) ≡ []
+  pub words_here : words (messages_of ((answered.node 1).came 2)) ≡ AnOrder ∷ AnAnswer ∷ []

@@ -18,12 +18,14 @@ module _ (settings : (point : ℕ) → Configuration) (w : NetworkState) where
   abbrev pub HaveLostNothing : Type 0
   HaveLostNothing = (point : ℕ) → IsNode settings point → lost_any (w.node point).node.parts ≡ false
 
-  -- the node law: of every kind of user messages, those that a node accepted came to a neighbour, once, or wait there
+  -- the node law: by any test, the number of user messages that a node accepted is the sum of those that came from it
+  -- to a neighbour and those that wait at it
   pub record EndsWhole (point : ℕ) : Type 0 where
     pub once : (test : Message → Bool) →
         accepted_at settings w test point ≡ came_from settings w test point + waits_at settings w test point
 
-  -- and from end to end: those handed over for a point were delivered there, were refused, or wait
+  -- and from end to end: the number handed over for a point is the sum of those that were delivered there, that some
+  -- node refused, and that wait
   pub record ComeWhole (point : ℕ) : Type 0 where
     pub once : (test : Message → Bool) →
         total settings w (submitted_at settings w any_fate (to_user_parts point test))
@@ -38,14 +40,14 @@ module _ (settings : (point : ℕ) → Configuration) (w : NetworkState) where
         + total settings w (met_at settings w is_refused (to_point point test))
         + total settings w (waits_at settings w (to_point point test))
 
--- the flag of each node tells of all that it counts, after every list of steps
+-- the flag of each node tells of all that it counts, after every list of steps, whatever the settings
 abbrev pub flags_tell_of_each_loss : Type 0
 flags_tell_of_each_loss =
     (settings : (point : ℕ) → Configuration) (steps : List Step) (point : ℕ) →
     lost_any ((after_steps settings steps (first_network settings)).node point).node.parts ≡ false →
     CountsNothing ((after_steps settings steps (first_network settings)).node point).node.parts
 
--- so while none is raised
+-- so while none is raised no message is gone. (A refusal raises none)
 abbrev pub nodes_lose_nothing : Type 0
 nodes_lose_nothing =
     (settings : (point : ℕ) → Configuration) (steps : List Step) (point : ℕ) → AreTheirs settings →

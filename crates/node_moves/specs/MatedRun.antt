@@ -174,7 +174,7 @@ pub record ComesByTheMate : Type 0 where
   pub passes : users_in ((come.node 2).came 2) ≡ queued 0 message_two ∷ []
   pub comes_on : users_in ((come.node 3).came 1) ≡ delivered message_two ∷ []
   pub comes_once : users_in ((come.node 3).came 0) ≡ delivered message_one ∷ []
-  -- both were accepted and delivered, nothing waits any more, and no node lost anything
+  -- both were accepted and delivered, no user message waits at point 1, and no node lost anything
   pub accepted : users (come.node 1).accepted ≡ message_one ∷ message_two ∷ []
   pub both_delivered : met_at mated come (is_delivered (mated 3)) (to_user_parts 3 (λ m. true)) 3 ≡ 2
   pub none_waits : waits_at mated come (λ m. true) 1 ≡ 0

@@ -15,7 +15,8 @@ module _ (settings : (point : ℕ) → Configuration) (w : NetworkState) (point 
         ((after_step settings (record { point = point; what = DoublesStatus link }) w).node point).statuses link
         ≡ first ∷ first ∷ others
 
-  -- an association may be lost at any moment, as one node sees it, and a tick may pass at one alone
+  -- at a node the association of a link may be lost at any moment, and a tick may pass; its exchange does what the
+  -- rules say then
   pub record MayHappen (link : ℕ) : Type 0 where
     pub lost :
         ((after_step settings (record { point = point; what = Loses link }) w).node point).node
