@@ -1,5 +1,6 @@
 -- What becomes of each user message at a node to which it comes, or at which it is submitted. So the node laws of
--- neighbours are joined: what came from one is what the others accepted, but for what ended there.
+-- neighbours are joined: a node accepts what comes by its links and what its user parts hand over, but for what ends
+-- there.
 use Rattle.std.specs.Prelude.{◌≡◌, ◌≤◌, ◌+◌, ◌&&◌, ◌||◌, ℕ, Bool, true, false, not, nat_eq, List, length}
 use Rattle.signalling_types.specs.Message.{Message, service_indicator}
 use Rattle.signalling_types.specs.declared.outcome.Outcome.{Outcome}

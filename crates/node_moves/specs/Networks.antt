@@ -104,7 +104,7 @@ state_of c x = record { settings = c; node = x.node }
 abbrev pub next_in : Configuration → (link : ℕ) → List (List ℕ) → Option (List ℕ)
 next_in c link texts = if nat_lt link (length c.links) then slice_get texts 0 else None
 
--- what an event names in notices of loss
+-- the messages that an event names as lost, whole. (A notice of one has its cause, destination and selection)
 abbrev pub named_by : Configuration → Happening → NetworkNode → List Message
 named_by c what x = (gone what (state_of c x)).lost
 
