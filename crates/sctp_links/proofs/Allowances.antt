@@ -1,9 +1,7 @@
 -- How many INITs are answered.
-use Rattle.std.proofs.Common.{◌≡◌, ◌≤◌, ◌⊎◌, inl, inr, ℕ, suc, ◌+◌, ◌-◌, ◌*◌, Bool, true, false, nat_lt, if◌then◌else◌, List, [], ◌∷◌, length, min, refl, arith}
+use Rattle.std.proofs.Common.{inl, inr, [], ◌∷◌, refl, arith}
 use Rattle.std.proofs.lemmas.Bool.Decides.{leb_tells}
-use Rattle.sctp_links.specs.declared.allowance.Allowance.{Allowance}
-use Rattle.sctp_links.specs.declared.allowance.TheConstants.{INITS_A_MILLISECOND, MOST_INITS}
-use Rattle.sctp_links.specs.Allowances.{left_at, may_answer, after_init, answered, AreInOrder, lasting, answers_are_bounded, few_are_answered}
+use Rattle.sctp_links.specs.Allowances.{left_at, after_init, answers_are_bounded, few_are_answered}
 
 pub bounded : answers_are_bounded
 bounded a [] h = omega arith

@@ -3,7 +3,7 @@ use Rattle.std.proofs.Common.{◌≡◌, ◌∙◌, ℕ, List, [], ◌∷◌, �
 use Rattle.sctp_bundling.specs.Watching.{Sent}
 use Rattle.sctp_gate.specs.Watching.{Sight, Rose, CameIn, Dropped, Fell, Failed, WentOut}
 use Rattle.served_link.specs.Counting.{NodeCounters, DatagramWent, counted_datagram}
-use Rattle.sctp_links.specs.Counting.{counted_by, counted_failure, counted_sent, counted_sight, counted_sights}
+use Rattle.sctp_links.specs.Counting.{counted_by, counted_setback, counted_sent, counted_sight, counted_sights}
 use Rattle.sctp_links.specs.Setbacks.{failed_by}
 use Rattle.served_link.specs.declared.setback.Setback.{Setback}
 
@@ -17,11 +17,11 @@ sent-more : (sent : List Sent) (one : Sent) (c : NodeCounters) →
 sent-more [] one c = refl
 sent-more (first ∷ sent) one c = sent-more sent one (counted_datagram DatagramWent c)
 
-joined-failure : (link : ℕ) (setback : Option Setback) (c d : NodeCounters) →
-    counted_failure link setback (record { links = c.links; datagrams = d.datagrams })
-    ≡ record { links = (counted_failure link setback c).links; datagrams = d.datagrams }
-joined-failure link None c d = refl
-joined-failure link (Some setback) c d = refl
+joined-setback : (link : ℕ) (setback : Option Setback) (c d : NodeCounters) →
+    counted_setback link setback (record { links = c.links; datagrams = d.datagrams })
+    ≡ record { links = (counted_setback link setback c).links; datagrams = d.datagrams }
+joined-setback link None c d = refl
+joined-setback link (Some setback) c d = refl
 
 -- a sight changes nothing of datagrams, and nothing by them
 joined : (link : ℕ) (sight : Sight) (c d : NodeCounters) →
@@ -31,7 +31,7 @@ joined link Rose c d = refl
 joined link (CameIn frame outcome) c d = refl
 joined link (Dropped message) c d = refl
 joined link (Fell why) c d = refl
-joined link (Failed why) c d = joined-failure link (failed_by why) c d
+joined link (Failed why) c d = joined-setback link (failed_by why) c d
 joined link (WentOut frame) c d = refl
 
 -- one datagram more

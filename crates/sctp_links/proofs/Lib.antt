@@ -3,3 +3,4 @@ pub mod AmongLinks
 pub mod Counted
 pub mod GivenAddresses
 pub mod Heard
+pub mod Refused

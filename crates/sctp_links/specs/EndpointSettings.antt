@@ -2,7 +2,6 @@
 use Rattle.std.specs.Prelude.{ℕ, List, [], ◌∷◌, map, Option, Some, None}
 use Rattle.std.specs.declared.net.ip_addr.IpAddr.{IpAddr}
 use Rattle.std.specs.declared.net.socket_addr.SocketAddr.{SocketAddr}
-use Rattle.sctp_sending.specs.declared.bounds.Bounds.{Bounds}
 use Rattle.sctp_rules.specs.Settings as rules
 use Rattle.sctp_bundling.specs.Settings as endpoints
 use Rattle.settings_file.specs.declared.serve.sctp.Remote.{Remote}

@@ -1,9 +1,13 @@
 -- The links of a node over SCTP: what the datagrams of each have, and the link itself, in the same places.
-use Rattle.std.specs.Prelude.{List}
-use Rattle.sctp_gate.specs.Gates.{Gate}
+use Rattle.std.specs.Prelude.{ℕ, List, [], ◌∷◌, ◌++◌}
+use Rattle.sctp_gate.specs.Gates.{Gate, new_gate}
 use Rattle.settings_file.specs.declared.serve.sctp.Remote.{Remote}
+use Rattle.settings_file.specs.declared.serve.sctp.SctpTimes.{SctpTimes}
 use Rattle.sctp_links.specs.declared.allowance.Allowance.{Allowance}
+use Rattle.sctp_links.specs.declared.keys.Keys.{Keys}
 use Rattle.sctp_links.specs.declared.peers.Peer.{Peer}
+use Rattle.sctp_links.specs.Allowances.{full}
+use Rattle.sctp_links.specs.EndpointSettings.{peer_of, settings_of}
 
 pub record Link : Type 0 where
   pub gate : Gate
@@ -15,3 +19,18 @@ pub record Link : Type 0 where
 pub record Links : Type 0 where
   pub peers : List Peer
   pub links : List Link
+
+abbrev pub no_links : Links
+no_links = record { peers = []; links = [] }
+
+-- a link that is new: no association, and none of its INITs came yet
+abbrev pub new_link : Remote → Gate → Link
+new_link remote gate = record { gate = gate; remote = remote; allowance = full }
+
+-- one link more, behind the others
+abbrev pub with_link : (link : ℕ) → Remote → SctpTimes → Keys → Links → Links
+with_link link remote times keys l = record {
+  peers = l.peers ++ peer_of remote ∷ [];
+  links = l.links
+      ++ new_link remote (new_gate link remote.tries (settings_of remote times) keys.tags keys.cookies) ∷ [];
+}

@@ -1,18 +1,19 @@
-//! A link over SCTP: its gate, and a call of it. `call`, `perform`, `call_beside`, `call_through` and `make_call` are
-//! one call, parted for the prover: each has fewer things among its values than the one that calls it.
+//! A link over SCTP: its gate, and a call of it. `call`, `pass`, `perform`, `call_beside`, `call_through` and
+//! `make_call` are one call, parted for the prover: each has fewer things among its values than the one that calls it.
 
 ghost use Rattle.std.specs.Prelude.{◌≡◌, map};
 ghost use Rattle.exchange.specs.KeptQueues.{kept};
 ghost use Rattle.sctp_bundling.specs.Watching.{sent_as};
 ghost use Rattle.served_link.specs.Counting.{NodeCounters};
 ghost use Rattle.sctp_gate.specs.Making.{Makes};
-ghost use Rattle.sctp_links.specs.Allowances.{full};
 ghost use Rattle.sctp_links.specs.Calls.{called};
-ghost use Rattle.sctp_links.specs.Counting.{counted_by};
+ghost use Rattle.sctp_links.specs.Counting.{counted_by, counted_did};
+ghost use Rattle.sctp_links.specs.Links.{new_link};
 ghost use Rattle.sctp_links.specs.Times.{millis_of};
 ghost use Rattle.sctp_gate.specs.Gates.{due};
 
 use crate::allowance::Allowance;
+use crate::hosts::address_of;
 use crate::observer::{Datagrams, GateObserver, Origin};
 use crate::refusals::Refusals;
 use crate::times::millis;
@@ -25,7 +26,6 @@ use served_node::{Log, Node, Observers};
 use settings::FailureReason;
 use settings_file::serve::Remote;
 use std::marker::{Brand, Model, PhantomData};
-use std::net::SocketAddr;
 use std::time::Duration;
 
 /// A call of a gate.
@@ -43,6 +43,16 @@ pub(crate) enum GateCall<'a> {
     Close,
 }
 
+impl GateCall<'_> {
+    /// Where the datagram of the call came from; this address, if it has none.
+    fn source_or(self, address: Address) -> Address {
+        match self {
+            GateCall::Hear(_, source) => source,
+            GateCall::Tick | GateCall::Settle | GateCall::Fill | GateCall::Close => address,
+        }
+    }
+}
+
 /// A link over SCTP.
 #[derive(Drop)]
 pub(crate) struct SctpLink {
@@ -50,11 +60,14 @@ pub(crate) struct SctpLink {
     /// Its peer, as the settings say.
     pub(crate) remote: Remote,
     pub(crate) allowance: Allowance,
+    /// Where its peer is, as lines of the log name it. While an association is up: where the datagram came from that
+    /// opened it, and then where the last one went. Otherwise as the settings say.
+    far_address: Address,
     /// What was refused since the last line of the log.
     pub(crate) refusals: Refusals,
 }
 
-// What is left for the next line of the log isn't part of it.
+// What is kept for lines of the log isn't part of it.
 impl Model for SctpLink {
     ghost use Rattle.sctp_links.specs.Links.{Link};
 
@@ -66,12 +79,13 @@ impl Model for SctpLink {
 impl SctpLink {
     /// The link to a peer, by this gate.
     pub(crate) fn new(remote: &Remote, gate: Gate) -> SctpLink
-        ensures { result ≡ record { gate = gate; remote = remote.now; allowance = full } }
+        ensures { result ≡ new_link remote.now gate }
     {
         SctpLink {
             gate,
             remote: *remote,
             allowance: Allowance::new(),
+            far_address: address_of(remote.address),
             refusals: Refusals::new(remote.address),
         }
     }
@@ -83,7 +97,8 @@ impl SctpLink {
         self.gate.deadline()
     }
 
-    /// Makes a call of the gate. What it sees is told, and then what is new in the node.
+    /// Makes a call of the gate that hands in no datagram. What passes is told and counted, and then what is new in the
+    /// node.
     pub(crate) fn call<D: Datagrams, W: Sink, U: Watch>(
         &mut self,
         what: GateCall<'_>,
@@ -98,12 +113,44 @@ impl SctpLink {
         ensures exchange { node.new.exchange
             ≡ (called kept what.entry (millis_of log.old.now) self.old.gate node.old.exchange).exchange }
     {
+        self.pass(what, node, datagrams, log, user);
+        node.look(FailureReason::Association, log);
+    }
+
+    /// Makes a call of the gate. What passes is told and counted, but not what is new in the node: that is for its
+    /// `look`, which then knows of an association that came up.
+    pub(crate) fn pass<D: Datagrams, W: Sink, U: Watch>(
+        &mut self,
+        what: GateCall<'_>,
+        node: &mut Node,
+        datagrams: &mut D,
+        log: &mut Log<'_, W>,
+        user: &mut U,
+    )
+        ensures gate { self.new ≡ record self.old {
+          gate = (called kept what.entry (millis_of log.old.now) self.old.gate node.old.exchange).gate;
+        } }
+        ensures exchange { node.new.exchange
+            ≡ (called kept what.entry (millis_of log.old.now) self.old.gate node.old.exchange).exchange }
+        ensures counters { node.new.observers.counters ≡ counted_did self.old.gate.link
+            (called kept what.entry (millis_of log.old.now) self.old.gate node.old.exchange)
+            node.old.observers.counters }
+    {
         let was_up = self.gate.standing().is_up;
+        self.forget_association();
         self.perform(what, log.now, node, datagrams, log.sink, user);
         if !was_up && self.gate.standing().is_up {
             node.note_up();
         }
-        node.look(reason_of(what), log);
+    }
+
+    /// If no association is up, the peer is where the settings say.
+    fn forget_association(&mut self)
+        ensures { self.new ≡ self.old }
+    {
+        if !self.gate.standing().is_up {
+            self.far_address = address_of(self.remote.address);
+        }
     }
 
     /// Makes a call of the gate at a time. What passes is counted.
@@ -121,13 +168,12 @@ impl SctpLink {
         } }
         ensures exchange { node.new.exchange
             ≡ (called kept what.entry (millis_of time) self.old.gate node.old.exchange).exchange }
-        ensures counters { node.new.observers.counters ≡ counted_by self.old.gate.link
-            (map sent_as (called kept what.entry (millis_of time) self.old.gate node.old.exchange).sent)
-            (called kept what.entry (millis_of time) self.old.gate node.old.exchange).seen node.old.observers.counters }
+        ensures counters { node.new.observers.counters ≡ counted_did self.old.gate.link
+            (called kept what.entry (millis_of time) self.old.gate node.old.exchange) node.old.observers.counters }
     {
         call_beside(
             &mut self.gate,
-            self.remote.address,
+            &mut self.far_address,
             what,
             time,
             &mut node.exchange,
@@ -142,7 +188,7 @@ impl SctpLink {
 /// Makes a call of a gate, with its exchange. What passes is told, and counted.
 fn call_beside<D: Datagrams, W: Sink, U: Watch>(
     gate: &mut Gate,
-    address: SocketAddr,
+    far_address: &mut Address,
     what: GateCall<'_>,
     time: Duration,
     exchange: &mut Exchange,
@@ -160,7 +206,8 @@ fn call_beside<D: Datagrams, W: Sink, U: Watch>(
     let link = gate.link();
     let mut observer: GateObserver<'_, '_, '_, '_, D, W, U, Brand> = GateObserver {
         link,
-        address,
+        source: what.source_or(*far_address),
+        far_address: *far_address,
         observers,
         datagrams,
         sink,
@@ -169,6 +216,7 @@ fn call_beside<D: Datagrams, W: Sink, U: Watch>(
         origin: PhantomData,
     };
     call_through::<D, W, U, Brand>(gate, what, millis(time), exchange, &mut observer);
+    *far_address = observer.far_address;
 }
 
 /// Makes a call of a gate through an observer.
@@ -216,15 +264,5 @@ fn make_call<W: sctp_gate::Watch>(
         GateCall::Settle => gate.settle(exchange, now, watch),
         GateCall::Fill => gate.fill(exchange, now, watch),
         GateCall::Close => gate.close(exchange, now, watch),
-    }
-}
-
-/// Why a link failed in a call whose notice was dropped for later ones.
-fn reason_of(what: GateCall<'_>) -> FailureReason {
-    match what {
-        GateCall::Hear(..) => FailureReason::Changeover,
-        GateCall::Tick | GateCall::Settle | GateCall::Fill | GateCall::Close => {
-            FailureReason::Association
-        }
     }
 }

@@ -1,16 +1,17 @@
-//! A datagram of a link: it is screened, then its gate hears it, and what is refused is counted and told.
+//! A datagram of a link: it is screened, what is refused is counted and told, and its gate hears it.
 
 ghost use Rattle.std.specs.Prelude.{◌≡◌, true};
 ghost use Rattle.exchange.specs.KeptQueues.{kept};
 ghost use Rattle.served_link.specs.Counting.{WasSetBack, counted_at};
+ghost use Rattle.sctp_links.specs.Counting.{counted_hearing, counted_setback, refused_at};
 ghost use Rattle.sctp_links.specs.Screening.{after_screening, did_at, heard_link, is_left_out, is_port_of, screened};
 ghost use Rattle.sctp_links.specs.Times.{millis_of};
 
 use crate::calling::{GateCall, SctpLink};
 use crate::hosts::address_of;
 use crate::observer::Datagrams;
-use crate::screening::{Screened, has_others, is_init, is_init_ack, is_told};
-use crate::setbacks::setback_by;
+use crate::screening::{Screened, has_others, is_init, is_told, may_be_refused};
+use crate::setbacks::setback_for;
 use crate::times::millis;
 use script::Sink;
 use sctp_endpoint::Address;
@@ -34,15 +35,16 @@ impl SctpLink {
             ≡ heard_link kept (millis_of log.old.now) octets.now source self.old node.old.exchange }
         ensures exchange { node.new.exchange
             ≡ (did_at kept (millis_of log.old.now) octets.now source self.old node.old.exchange).exchange }
+        ensures counters { node.new.observers.counters ≡ counted_hearing kept (millis_of log.old.now) octets.now source
+            self.old node.old.exchange node.old.observers.counters }
         ensures left_out { is_left_out (screened (millis_of log.old.now) octets.now source self.old) ≡ true
             → datagrams.new ≡ datagrams.old }
     {
         match self.screen(octets, source, millis(log.now)) {
             Screened::Heard => {
-                let refusal = self.refusal(octets);
+                self.note(self.refusal(octets), source, node, log);
                 let call = GateCall::Hear(octets, address_of(source));
-                self.call(call, node, datagrams, log, user);
-                self.note(refusal, source, node, log);
+                self.pass(call, node, datagrams, log, user);
             }
             Screened::OtherPort => self.refuse(Setback::OtherPort, source, node, log),
             Screened::TooMany => self.refuse(Setback::TooMany, source, node, log),
@@ -80,9 +82,11 @@ impl SctpLink {
     }
 
     /// Why the endpoint refuses an INIT or an INIT ACK, as things stand before it hears it.
-    fn refusal(&self, octets: &[u8]) -> Option<Setback> {
-        if is_init(octets) || is_init_ack(octets) {
-            Some(setback_by(self.gate.refusal(octets)?))
+    fn refusal(&self, octets: &[u8]) -> Option<Setback>
+        ensures { result ≡ refused_at octets.now self.now.gate }
+    {
+        if may_be_refused(octets) {
+            setback_for(self.gate.refusal(octets))
         } else {
             None
         }
@@ -98,6 +102,9 @@ impl SctpLink {
     )
         ensures link { self.new ≡ self.old }
         ensures exchange { node.new.exchange ≡ node.old.exchange }
+        ensures counters { node.new.observers.counters
+            ≡ counted_setback self.old.gate.link setback node.old.observers.counters }
+        ensures time { log.new.now ≡ log.old.now }
     {
         if let Some(setback) = setback {
             self.refuse(setback, source, node, log);
@@ -116,6 +123,7 @@ impl SctpLink {
         ensures exchange { node.new.exchange ≡ node.old.exchange }
         ensures counters { node.new.observers.counters
             ≡ counted_at self.old.gate.link (WasSetBack setback) node.old.observers.counters }
+        ensures time { log.new.now ≡ log.old.now }
     {
         node.observers.was_set_back(self.gate.link(), setback);
         self.refusals.add(source, setback);

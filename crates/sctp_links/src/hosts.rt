@@ -31,11 +31,18 @@ fn host_of(ip: IpAddr) -> [u8; 16]
 pub fn socket_address_of(address: &Address, is_ipv6: bool) -> SocketAddr
     ensures { socket_port result ≡ address.now.port }
 {
-    let ip = Ipv6Addr::from_octets(address.host);
-    let ip = if is_ipv6 {
-        IpAddr::V6(ip)
+    if is_ipv6 {
+        let ip = Ipv6Addr::from_octets(address.host);
+        SocketAddr::new(IpAddr::V6(ip), address.port)
     } else {
-        ip.to_canonical()
-    };
-    SocketAddr::new(ip, address.port)
+        plain_address_of(address)
+    }
+}
+
+/// An address of SCTP as one of the system: one of IPv4 as such.
+pub fn plain_address_of(address: &Address) -> SocketAddr
+    ensures { socket_port result ≡ address.now.port }
+{
+    let ip = Ipv6Addr::from_octets(address.host);
+    SocketAddr::new(ip.to_canonical(), address.port)
 }

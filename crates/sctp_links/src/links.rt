@@ -1,10 +1,12 @@
 //! All links over SCTP.
 
-ghost use Rattle.std.specs.Prelude.{◌≡◌, ◌≤◌, ℕ, None, Some, slice_get, slice_set, true};
+ghost use Rattle.std.specs.Prelude.{◌≡◌, ◌<◌, ◌≤◌, ℕ, IfSome, None, OnErr, OnOk, Some, length, true};
+ghost use Rattle.std.specs.Prelude.{slice_get, slice_set};
 ghost use Rattle.exchange.specs.KeptQueues.{kept};
-ghost use Rattle.served_link.specs.Counting.{StrangerCame, counted_datagram};
+ghost use Rattle.served_link.specs.Counting.{DatagramCame, StrangerCame, counted_datagram};
+ghost use Rattle.sctp_links.specs.Counting.{counted_hearing};
 ghost use Rattle.sctp_links.specs.Hosts.{address_of};
-ghost use Rattle.sctp_links.specs.Links.{Link};
+ghost use Rattle.sctp_links.specs.Links.{Link, no_links, with_link};
 ghost use Rattle.sctp_links.specs.Peers.{link_of};
 ghost use Rattle.sctp_links.specs.Screening.{did_at, heard_link, is_left_out, screened};
 ghost use Rattle.sctp_links.specs.Times.{millis_of};
@@ -35,23 +37,28 @@ pub struct SctpLinks {
 }
 
 impl Model for SctpLinks {
+    ghost use Rattle.std.specs.Prelude.{◌≡◌, length};
     ghost use Rattle.sctp_links.specs.Links.{Links};
 
     ghost Value = { Links };
 
     ghost view = { λ l. record { peers = l.peers.items; links = l.links.items } };
+
+    ghost invariant = { λ l. length l.peers.items ≡ length l.links.items };
 }
 
 impl SctpLinks {
     /// No link yet.
-    pub fn new(alloc: Global) -> SctpLinks {
+    pub fn new(alloc: Global) -> SctpLinks
+        ensures { result ≡ no_links }
+    {
         SctpLinks {
             peers: Vec::new(alloc),
             links: Vec::new(alloc),
         }
     }
 
-    /// Adds a link. The error means that memory ran out.
+    /// Adds a link. The error means that memory ran out; then nothing has changed.
     pub fn add(
         &mut self,
         alloc: Global,
@@ -63,15 +70,20 @@ impl SctpLinks {
         requires initial { times.now.rto_initial_ms ≤ times.now.rto_max_ms }
         requires least { times.now.rto_min_ms ≤ times.now.rto_max_ms }
         requires most { times.now.rto_max_ms ≤ 60000 }
+        ensures added { OnOk result (self.new ≡ with_link link remote.now times.now keys.now self.old) }
+        ensures unchanged { OnErr result (self.new ≡ self.old) }
     {
+        self.peers.reserve(1)?;
+        self.links.reserve(1)?;
         let settings = settings_of(remote, times);
         let gate = Gate::new(alloc, link, remote.tries, settings, keys.tags, keys.cookies)?;
-        self.peers.push(peer_of(remote))?;
-        self.links.push(SctpLink::new(remote, gate))?;
+        self.peers.push_reserved(peer_of(remote));
+        self.links.push_reserved(SctpLink::new(remote, gate));
         Ok(())
     }
 
     /// A datagram came. The gate of its link hears it; one that belongs to no link changes nothing, and is counted.
+    /// Call the node's `look` after it, to tell what is new in the node.
     pub fn hear<D: Datagrams, W: Sink, U: Watch>(
         &mut self,
         octets: &[u8],
@@ -85,9 +97,13 @@ impl SctpLinks {
         ensures stranger { link_of self.old.peers (address_of source).host octets.now ≡ None
             → (self.new ≡ self.old) × (node.new.exchange ≡ node.old.exchange) × (datagrams.new ≡ datagrams.old)
             × (node.new.observers.counters ≡ counted_datagram StrangerCame node.old.observers.counters) }
+        // Each place that it is for is that of a link.
+        ensures place { IfSome (link_of self.old.peers (address_of source).host octets.now)
+            (λ place. place < length self.old.links) }
         // Of the links its own alone changes, by what it is: what is left out changes no gate, and nothing goes out.
         ensures link { (place : ℕ) (l : Link) →
-            link_of self.old.peers (address_of source).host octets.now ≡ Some place → slice_get self.old.links place ≡ Some l
+            link_of self.old.peers (address_of source).host octets.now ≡ Some place
+            → slice_get self.old.links place ≡ Some l
             → (self.new ≡ record self.old {
               links = slice_set self.old.links place
                   (heard_link kept (millis_of log.old.now) octets.now source l node.old.exchange);
@@ -95,6 +111,12 @@ impl SctpLinks {
             × (node.new.exchange ≡ (did_at kept (millis_of log.old.now) octets.now source l node.old.exchange).exchange)
             × (is_left_out (screened (millis_of log.old.now) octets.now source l) ≡ true
             → datagrams.new ≡ datagrams.old) }
+        // It is counted, and so is what is refused or left out, and what passes the gate.
+        ensures counters { (place : ℕ) (l : Link) →
+            link_of self.old.peers (address_of source).host octets.now ≡ Some place
+            → slice_get self.old.links place ≡ Some l
+            → node.new.observers.counters ≡ counted_hearing kept (millis_of log.old.now) octets.now source l
+            node.old.exchange (counted_datagram DatagramCame node.old.observers.counters) }
     {
         let Some(place) = link_of(&self.peers, &address_of(source), octets) else {
             node.observers.stranger_came();

@@ -4,6 +4,7 @@ ghost use Rattle.std.specs.Prelude.{◌≡◌, ℕ};
 ghost use Rattle.served_link.specs.Counting.{NodeCounters};
 ghost use Rattle.sctp_links.specs.Counting.{counted_by};
 
+use crate::hosts::plain_address_of;
 use crate::losing::word_of;
 use crate::setbacks::failed_by;
 use script::Sink;
@@ -15,7 +16,6 @@ use served_node::{Log, Observers};
 use settings::{LinkId, Outcome};
 use std::fmt;
 use std::marker::{Brand, PhantomData};
-use std::net::SocketAddr;
 use std::time::Duration;
 use trace::ObservedFrame;
 
@@ -59,8 +59,10 @@ impl Origin for Brand {
 #[derive(Drop)]
 pub(crate) struct GateObserver<'o, 'd, 's, 'u, D, W, U, K> {
     pub(crate) link: LinkId,
-    /// Where its peer is, as the settings say.
-    pub(crate) address: SocketAddr,
+    /// Where the datagram came from that is heard.
+    pub(crate) source: Address,
+    /// Where its peer is, as lines of the log name it.
+    pub(crate) far_address: Address,
     pub(crate) observers: &'o mut Observers,
     pub(crate) datagrams: &'d mut D,
     /// Where the lines of the log go.
@@ -84,11 +86,16 @@ impl<D: Datagrams, W: Sink, U: Watch, K: Origin> sctp_gate::Watch
 
     fn send(&mut self, octets: &[u8], to: &Address) {
         self.observers.datagram_went(self.link, octets);
+        self.far_address = *to;
         self.datagrams.send(octets, to);
     }
 
     fn came_up(&mut self) {
-        let (name, address) = (self.observers.name(self.link), self.address);
+        self.far_address = self.source;
+        let (name, address) = (
+            self.observers.name(self.link),
+            plain_address_of(&self.far_address),
+        );
         tell(self.sink, self.now, &format_args!("open {name} {address}"));
     }
 
@@ -101,7 +108,11 @@ impl<D: Datagrams, W: Sink, U: Watch, K: Origin> sctp_gate::Watch
     fn dropped(&mut self, _message: &Message<'_>) {}
 
     fn went_down(&mut self, why: Loss) {
-        let (name, address, word) = (self.observers.name(self.link), self.address, word_of(why));
+        let (name, address, word) = (
+            self.observers.name(self.link),
+            plain_address_of(&self.far_address),
+            word_of(why),
+        );
         let text = format_args!("close {name} {address} {word}");
         tell(self.sink, self.now, &text);
     }
@@ -111,7 +122,10 @@ impl<D: Datagrams, W: Sink, U: Watch, K: Origin> sctp_gate::Watch
             return;
         };
         self.observers.was_set_back(self.link, setback);
-        let (name, address) = (self.observers.name(self.link), self.address);
+        let (name, address) = (
+            self.observers.name(self.link),
+            plain_address_of(&self.far_address),
+        );
         let text = format_args!("fail {name} {address} {}", setback.name());
         tell(self.sink, self.now, &text);
     }

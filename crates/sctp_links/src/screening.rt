@@ -1,6 +1,6 @@
 //! Which INITs are left out before an endpoint hears them. To the protocol each is one that the network lost.
 
-ghost use Rattle.std.specs.Prelude.{◌≡◌};
+ghost use Rattle.std.specs.Prelude.{◌≡◌, ◌||◌};
 ghost use Rattle.sctp_links.specs.Screening.{has_others, is_at, is_at_one, is_init, is_init_ack, is_told};
 
 use crate::hosts::address_of;
@@ -35,8 +35,15 @@ pub(crate) fn is_init(octets: &[u8]) -> bool
     matches!(octets.get(TYPE_PLACE), Some(&INIT))
 }
 
+/// Whether a packet begins with INIT or INIT ACK: no other is refused.
+pub(crate) fn may_be_refused(octets: &[u8]) -> bool
+    ensures { result ≡ (is_init octets.now || is_init_ack octets.now) }
+{
+    is_init(octets) || is_init_ack(octets)
+}
+
 /// Whether a packet begins with INIT ACK.
-pub(crate) fn is_init_ack(octets: &[u8]) -> bool
+fn is_init_ack(octets: &[u8]) -> bool
     ensures { result ≡ is_init_ack octets.now }
 {
     matches!(octets.get(TYPE_PLACE), Some(&INIT_ACK))

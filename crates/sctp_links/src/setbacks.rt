@@ -1,11 +1,22 @@
 //! What keeps an association from opening, as it is counted.
 
 ghost use Rattle.std.specs.Prelude.{◌≡◌};
+ghost use Rattle.std.specs.Option.{option_map};
 ghost use Rattle.sctp_links.specs.Setbacks.{failed_by, setback_by};
 
 use sctp_endpoint::Refusal;
 use sctp_rules::Loss;
 use served_link::Setback;
+
+/// Why an INIT or an INIT ACK is refused, if it is.
+pub fn setback_for(refusal: Option<Refusal>) -> Option<Setback>
+    ensures { result ≡ option_map setback_by refusal }
+{
+    match refusal {
+        Some(refusal) => Some(setback_by(refusal)),
+        None => None,
+    }
+}
 
 /// Why an INIT or an INIT ACK was refused.
 pub fn setback_by(refusal: Refusal) -> Setback

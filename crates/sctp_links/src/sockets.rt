@@ -12,7 +12,7 @@ use script::Sink;
 use sctp_endpoint::Address;
 use served_link::{Unwatched, Watch};
 use served_node::{DatagramSocket, Log, Node, OpenFault, Received};
-use settings::LinkId;
+use settings::{FailureReason, LinkId};
 use settings_file::serve::{Remote, SctpTimes};
 use std::alloc::Global;
 use std::marker::Model;
@@ -101,7 +101,8 @@ impl SctpSockets {
         self.socket.can_read()
     }
 
-    /// Receives datagrams, and hands them in.
+    /// Receives datagrams, and hands them in. After each of them what is new in the node is told; a failure whose
+    /// notice was dropped for later ones is counted as one by a changeover.
     pub fn read<W: Sink, U: Watch>(&mut self, node: &mut Node, log: &mut Log<'_, W>, user: &mut U) {
         for _ in 0..DATAGRAMS {
             match self.socket.receive(&mut self.buffer) {
@@ -109,6 +110,7 @@ impl SctpSockets {
                     let octets = &self.buffer[..count];
                     self.links
                         .hear(octets, source, node, &mut self.socket, log, user);
+                    node.look(FailureReason::Changeover, log);
                 }
                 Received::NoDatagram => return,
                 Received::Error => {}

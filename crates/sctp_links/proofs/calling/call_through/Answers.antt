@@ -1,5 +1,4 @@
-use Rattle.std.proofs.Common.{◌∙◌, [], refl, sym, ap}
-use Rattle.served_link.specs.Counting.{NodeCounters}
+use Rattle.std.proofs.Common.{◌∙◌, [], sym}
 use Rattle.sctp_links.proofs.calling.call_through.Goals as goal
 
 pub returns : goal.returns
