@@ -13,6 +13,7 @@ import shutil
 import signal
 import subprocess
 import sys
+import time
 import unittest
 from collections import Counter
 
@@ -25,10 +26,13 @@ from packets import DATA, chunk, packet  # noqa: E402
 from test_sctp_over_ip import FAR_PORT, NEAR_PORT, SENDER, UDP, OverIp, OverIpTest  # noqa: E402
 from traffic import FAR, NEAR  # noqa: E402
 
-# By itself tshark looks at no checksum of SCTP. What it then says of one (`sctp.checksum.status`).
-CHECKED = ("-o", "sctp.checksum:CRC 32c")
+# By itself tshark looks at no checksum of SCTP. What it then says of one (`sctp.checksum.status`). What the messages
+# carry isn't of the ISDN user part, as it would read it.
+CHECKED = ("-o", "sctp.checksum:CRC 32c", "--disable-protocol", "isup")
 GOOD, BAD = "1", "0"
 POOL, BURST = 20_000, 250
+# In seconds: by then dumpcap has read what passed. What it hasn't read as it ends is in no capture.
+READ = 1.0
 
 
 def statuses(capture: pathlib.Path) -> Counter[str]:
@@ -68,6 +72,7 @@ class Play(OverIpTest):
         pair.network.far.run(sys.executable, "-c", SENDER, four(FAR), four(NEAR), wrong.hex())
         pair.exchange(BURST)
         self.check_undisturbed(pair.near, pair.far)
+        time.sleep(READ)
         for name, (file, program) in captures.items():
             program.process.send_signal(signal.SIGINT)
             program.process.wait(30)
