@@ -12,7 +12,7 @@ KEPT_NOTICES = 64
 LOST = 100
 LINE_OCTETS = 8300
 QUESTIONS = 6000
-HELP_LINES = 24
+HELP_LINES = 25
 ROUTE = f"route {FAR} to-{FAR} allowed"
 
 # What a web page may have a browser write to any port, without the body.

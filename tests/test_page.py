@@ -188,6 +188,7 @@ class Page(PageTest):
         self.assertEqual(flags, self.near.ask("show flags"))
         losses = [f"loss messages_lost {state['messages_lost']}", f"loss times_broken {state['times_broken']}"]
         self.assertEqual(losses, self.near.ask("show losses"))
+        self.assertEqual([f"rerouting times_rerouted {state['times_rerouted']}"], self.near.ask("show reroutings"))
         counted = {link["name"]: dict(counted_of(link)) for link in state["links"]}
         self.assertEqual(counted, {name: dict(row) for name, row in self.near.counters().items()})
         self.assertEqual(state["notices"], [])

@@ -125,7 +125,7 @@ abbrev pub notice_line : {Q : Type 0} → PointFormat → State Q → ℕ → Op
 notice_line points s k =
     option_map (λ notice. notice_text points s.settings notice) (slice_get s.node.parts.notices.last k)
 
--- ---- flags and losses
+-- ---- flags, losses and reroutings
 
 -- a count behind the words that say of what
 abbrev pub count_text : (word : List ℕ) (count : ℕ) → List ℕ
@@ -143,6 +143,11 @@ abbrev pub loss_line : {Q : Type 0} → State Q → ℕ → Option (List ℕ)
 loss_line s zero = Some (count_text (codes "loss messages_lost ") s.node.parts.messages_lost)
 loss_line s (suc zero) = Some (count_text (codes "loss times_broken ") s.node.parts.times_broken)
 loss_line s (suc (suc k)) = None
+
+-- the line of count k of the flows that changed their link set
+abbrev pub rerouting_line : {Q : Type 0} → State Q → ℕ → Option (List ℕ)
+rerouting_line s zero = Some (count_text (codes "rerouting times_rerouted ") s.reroutings.times)
+rerouting_line s (suc k) = None
 
 -- ---- translation rows
 

@@ -30,7 +30,8 @@ pub enum Command {
     /// `changed PLAN NATURE REMOVE ADD` if titles change, or `title remove T P N DIGITS`: a translation row is added or
     /// removed.
     Title,
-    /// `show links`, `show routes`, `show titles`, `show subsystems`, `show notices`, `show flags` or `show losses`.
+    /// `show links`, `show routes`, `show titles`, `show subsystems`, `show notices`, `show flags`, `show losses` or
+    /// `show reroutings`.
     Show,
 }
 

@@ -6,6 +6,7 @@ pub mod SubsystemTests
 pub mod Rooms
 pub mod Draining
 pub mod Suspending
+pub mod Recounting
 pub mod Passing
 pub mod Pending
 pub mod Concluding

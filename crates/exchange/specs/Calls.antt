@@ -27,7 +27,11 @@ abbrev pub kept_queues_of : WholeQueues → KeptQueues
 kept_queues_of qs = record { lanes = qs.held ∷ map unconfirmed qs.links; counts = map counts_of qs.links }
 
 abbrev pub kept_of : Abstract → Kept
-kept_of a = record { settings = a.settings; node = keep kept_queues_of a.node }
+kept_of a = record {
+  settings = a.settings;
+  node = keep kept_queues_of a.node;
+  reroutings = a.reroutings;
+}
 
 pub record StandsFor (k : Kept) (a : Abstract) : Type 0 where
   pub sound : IsSound a

@@ -14,3 +14,5 @@ pub mod Draining
 pub mod Relaying
 pub mod Views
 pub mod Counting
+pub mod LastSets
+pub mod DueFlows

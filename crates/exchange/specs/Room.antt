@@ -9,6 +9,7 @@ use Rattle.exchange_rules.specs.State.{State}
 use Rattle.exchange_rules.specs.Places.{HasHoldsFor, HasCodes}
 use Rattle.exchange.specs.KeptQueues.{KeptQueues, held_lane}
 use Rattle.exchange.specs.Pending.{OwesNoneBut}
+use Rattle.exchange.specs.DueFlows.{CountedBut}
 use Rattle.exchange.specs.declared.exchange.Exchange.TheInside.{Inside}
 
 abbrev pub kept_in : Inside → State KeptQueues
@@ -33,12 +34,14 @@ kept_in e = record {
       times_late = e.times_late;
     };
   };
+  reroutings = record { last_sets = e.flow_sets; times = e.times_rerouted };
 }
 
 -- Held and each link have their list; each link has its numbers, its state and its changeover; links and sets are those
 -- of the settings. The pool and the notices have their room. For each set it is known what its point was told of each
 -- destination. Links, routes, codes, holds and counts have their places. Unless a release is due, each message of Held
--- waits. No adjacent point is owed anything except what may be pending
+-- waits. No adjacent point is owed anything except what may be pending. All flows that changed their set were counted
+-- but those that are due
 pub record HasRoom (e : Inside) : Type 0 where
   pub lanes : length e.lanes.lists ≡ length e.links.links + 1
   pub sequences : vec_len e.sequences ≡ length e.links.links
@@ -55,3 +58,6 @@ pub record HasRoom (e : Inside) : Type 0 where
   pub unequipped : length e.unequipped ≡ length e.settings.destinations
   pub waiting : (e.release_due || all_wait e.settings e.holds (lane_at e.lanes.lists held_lane)) ≡ true
   pub pending : OwesNoneBut (length e.settings.destinations) e.pending (facts_of e.links) e.told
+  pub flows :
+      CountedBut e.settings e.flows_due (facts_of e.links)
+      (record { last_sets = e.flow_sets; times = e.times_rerouted })

@@ -29,6 +29,7 @@ mod noting;
 mod opening;
 mod outages;
 mod points;
+mod recounting;
 mod relaying;
 mod releasing;
 mod rerouting;
@@ -45,6 +46,7 @@ mod views;
 
 use crate::event::{Event, Order};
 use crate::frame_text::LONGEST_FRAME;
+use crate::reroutings::{DueFlows, FlowSets};
 use crate::unequipped::Unequipped;
 use cell_pool::CellPool;
 use changeback::Changeback;
@@ -84,10 +86,15 @@ pub struct Exchange {
     messages_lost: u64,
     times_broken: u64,
     times_late: u64,
+    // by which sets flows went last, and how often one changed its set
+    flow_sets: FlowSets,
+    times_rerouted: u64,
     // whether a hold changed since the messages of Held were last walked
     release_due: bool,
     // which updates for adjacent points may be pending
     pending: PendingUpdates,
+    // which flows may have changed their set since they were last counted
+    flows_due: DueFlows,
 }
 
 // By hand, so that no proof above has what an exchange owns.
@@ -111,8 +118,11 @@ impl Drop for Exchange {
             messages_lost: _,
             times_broken: _,
             times_late: _,
+            flow_sets: _,
+            times_rerouted: _,
             release_due: _,
             pending: _,
+            flows_due: _,
         } = self;
     }
 }
@@ -152,7 +162,7 @@ impl Exchange {
         ensures kept_outcome { result ≡ outcome_of kept (happened event.now result) self.old }
         ensures kept_state { self.new ≡ after kept (happened event.now result) self.old }
     {
-        self.apply(event)
+        self.happen(event)
     }
 
     /// Writes the next frame to go out on a link to the front of `buffer`, and returns its length in octets: a waiting
@@ -180,6 +190,17 @@ impl Exchange {
 }
 
 impl Exchange {
+    /// Applies an event; then counts the flows that changed their set by it.
+    #[inline(always)]
+    fn happen(&mut self, event: &Event<'_>) -> Outcome
+        ensures outcome { result ≡ outcome_of kept (happened event.now result) self.old }
+        ensures state { self.new ≡ after kept (happened event.now result) self.old }
+    {
+        let outcome = self.apply(event);
+        self.count_flows();
+        outcome
+    }
+
     /// Passes an event to its handler; then releases messages that are no longer held, and queues the pending updates
     /// for adjacent points.
     #[inline(always)]

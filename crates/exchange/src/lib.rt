@@ -6,6 +6,7 @@ pub mod event;
 pub mod exchange;
 pub mod frame_text;
 pub mod memory;
+mod reroutings;
 mod unequipped;
 pub mod view;
 

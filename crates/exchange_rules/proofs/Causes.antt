@@ -28,8 +28,8 @@ Cause what a TitlesChange = changes_titles what a ≡ true
 Cause what a (WaitEnds link) = MayEndWait link what a
 Cause what a (HoldsEnd procedure) = EndsByWord procedure what a ⊎ (EndsByTimer procedure what a ⊎ EndsByRecovery procedure what a)
 
-allows-event : (what : Happening) (c : Configuration) (n : Node WholeQueues) → AllowsEvent c (Cause what (record { settings = c; node = n })) what n
-allows-event what c n = record {
+allows-event : (what : Happening) (a : Abstract) → AllowsEvent a.settings (Cause what a) what a.node a.reroutings
+allows-event what a = record {
   opens = λ link e. e;
   lost = λ link e. e;
   ordered = λ link e. e;
@@ -41,11 +41,11 @@ allows-event what c n = record {
     status = λ bsn fsn status f. record {
       fails = λ none g. (status, record { text = text; bsn = bsn; fsn = fsn; came = e; reads = f }, none, g);
       recovers = λ g.
-          let is : status ≡ ProcessorRecovered = recovery-is status (recovers-says link status n.parts g) in
+          let is : status ≡ ProcessorRecovered = recovery-is status (recovers-says link status a.node.parts g) in
           inr (inr (record {
             link = link;
             says = record { text = text; bsn = bsn; fsn = fsn; came = e; reads = f ∙ ap (λ (x : LinkStatus). Ok (StatusFrame bsn fsn x)) is };
-            out = recovery-out link status n.parts g;
+            out = recovery-out link status a.node.parts g;
             ends = refl;
           }));
     };
@@ -55,13 +55,13 @@ allows-event what c n = record {
   titles = λ e. e;
 }
 
-allows-timer : (what : Happening) (c : Configuration) (n : Node WholeQueues) → what ≡ Ticked → (timer : TimerName) → is_due (ticked n.parts.timers) timer ≡ true
-    → AllowsTimer (Cause what (record { settings = c; node = n })) timer
-allows-timer what c n is timer due = record {
+allows-timer : (what : Happening) (a : Abstract) → what ≡ Ticked → (timer : TimerName) → is_due (ticked a.node.parts.timers) timer ≡ true
+    → AllowsTimer (Cause what a) timer
+allows-timer what a is timer due = record {
   ends = λ procedure e. inr (inl (record { timer = timer; runs_out = (is, due); ends = e }));
-  fails = λ link its e f. (its, f, (is, subst (λ (x : TimerName). is_due (ticked n.parts.timers) x ≡ true) e due));
-  tests = λ link e. (is, subst (λ (x : TimerName). is_due (ticked n.parts.timers) x ≡ true) e due);
-  waits = λ link e. inr (inl (is, subst (λ (x : TimerName). is_due (ticked n.parts.timers) x ≡ true) e due));
+  fails = λ link its e f. (its, f, (is, subst (λ (x : TimerName). is_due (ticked a.node.parts.timers) x ≡ true) e due));
+  tests = λ link e. (is, subst (λ (x : TimerName). is_due (ticked a.node.parts.timers) x ≡ true) e due);
+  waits = λ link e. inr (inl (is, subst (λ (x : TimerName). is_due (ticked a.node.parts.timers) x ≡ true) e due));
 }
 
 module _ {c : Configuration} {May : Deed → Type 0} {R : Node WholeQueues → Node WholeQueues → Type 0} (s : IsOfDeeds c any any May R)
@@ -85,7 +85,7 @@ module _ {c : Configuration} {May : Deed → Type 0} {R : Node WholeQueues → N
       (times-deeds (ticked n.parts.timers) (due_count (ticked n.parts.timers)) (with_timers n (ticked n.parts.timers)) (λ its e. e) may))
       (s.titled (subsystems_ticked c ran.parts).titles ran changes)
 
-pub event-deeds : (what : Happening) (c : Configuration) (n : Node WholeQueues) (R : Node WholeQueues → Node WholeQueues → Type 0)
-    → IsOfDeeds c any any (Cause what (record { settings = c; node = n })) R → ((r : Running) (m : Node WholeQueues) → R m (with_timers m r)) → R n (apply whole c what n).left
-event-deeds what c n R s timers =
-    apply-deeds s what n (λ link own. tt) (λ link own. tt) (allows-event what c n) (λ is. tick-deeds s timers n (allows-timer what c n is) (ap (λ (w : Happening). changes_titles w (record { settings = c; node = n })) is))
+pub event-deeds : (what : Happening) (a : Abstract) (R : Node WholeQueues → Node WholeQueues → Type 0)
+    → IsOfDeeds a.settings any any (Cause what a) R → ((r : Running) (m : Node WholeQueues) → R m (with_timers m r)) → R a.node (apply whole a.settings what a.node).left
+event-deeds what a R s timers =
+    apply-deeds s what a.node (λ link own. tt) (λ link own. tt) (allows-event what a) (λ is. tick-deeds s timers a.node (allows-timer what a is) (ap (λ (w : Happening). changes_titles w a) is))

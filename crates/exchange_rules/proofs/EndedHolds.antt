@@ -213,7 +213,7 @@ module _ (May : Deed → Type 0) where
     }
 
 pub holds-end : holds_end_so
-holds-end what a = (event-deeds what a.settings a.node (Ends (Cause what a)) (ends-deeds (Cause what a) a.settings) (λ r m. same (Cause what a) m _ refl)).ends
+holds-end what a = (event-deeds what a (Ends (Cause what a)) (ends-deeds (Cause what a) a.settings) (λ r m. same (Cause what a) m _ refl)).ends
 
 pub takes-leave : takes_leave_holds
 takes-leave a link = by (goes_out whole a.settings link a.node)

@@ -222,7 +222,7 @@ rested window n h = record {
 pub may-end : (what : Happening) (a : Abstract) (link : ℕ) → AreLinksSteady a.settings.window a.node → (changeover_of a.node.parts link).awaited ≡ true
     → (changeover_of (after whole what a).node.parts link).awaited ≡ false → MayEndWait link what a
 may-end what a link steady awaited ended =
-    (event-deeds what a.settings a.node (Waits (Cause what a)) (waits-deeds (Cause what a) a.settings) (λ r m. same-waits (Cause what a) m _ (timers-rest m _ refl refl) refl)).ends
+    (event-deeds what a (Waits (Cause what a)) (waits-deeds (Cause what a) a.settings) (λ r m. same-waits (Cause what a) m _ (timers-rest m _ refl refl) refl)).ends
     (rested a.settings.window a.node steady) link awaited ended
 
 pub take-leaves : takes_leave_waits

@@ -219,7 +219,7 @@ no-failure what a its link why is h = by why (subst (λ (w : Happening). MayFail
 pub links-fail : links_fail_so
 links-fail what a =
     let n : Names (Cause what a) a.node (apply whole a.settings what a.node).left =
-    event-deeds what a.settings a.node (Names (Cause what a)) (names-deeds (Cause what a) a.settings) (λ r m. same (Cause what a) m _ refl refl) in
+    event-deeds what a (Names (Cause what a)) (names-deeds (Cause what a) a.settings) (λ r m. same (Cause what a) m _ refl refl) in
     record {
       made = n.made;
       noted = n.noted;

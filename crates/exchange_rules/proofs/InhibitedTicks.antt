@@ -15,6 +15,7 @@ use Rattle.exchange_rules.specs.LawsOfAnswers.{ComesBack, t8_runs_its_time, take
 use Rattle.exchange_rules.specs.Testing.{serves_set}
 use Rattle.exchange_rules.proofs.DueTimers.{next-dues, ran-dues, was-due}
 use Rattle.exchange_rules.proofs.ProvedAll.{due-climbs, no-link}
+use Rattle.exchange_rules.specs.Reroutings.{first_reroutings}
 use Rattle.exchange_rules.proofs.SteppingEvents.{IsOf, AllowsEvent, apply-deeds, run_timer-deeds, settled-steps}
 use Rattle.node_links.proofs.Chosen.{carrying-serves}
 use Rattle.exchange_rules.proofs.SteppingFailures.{fail-links}
@@ -215,7 +216,7 @@ module _ (c : Configuration) (s d : ℕ) (n : Node WholeQueues) where
   unfolding apply
   up-runs link r = settled-runs (association_up whole c link n).left (runs-on c s d n _ (association_up-steps (rules c s d) link n tt tt) r)
 
-  allowed : (what : Happening) → ((link : ℕ) → IsOf what link → ⊥) → AllowsEvent c (Kept c s d) what n
+  allowed : (what : Happening) → ((link : ℕ) → IsOf what link → ⊥) → AllowsEvent c (Kept c s d) what n (first_reroutings c)
   allowed what none = record {
     opens = λ link e. tt;
     lost = λ link e. tt;

@@ -268,7 +268,7 @@ not-so false e f = let no : false ≡ true = e in cc
 pub no-other : nothing_else_changes_titles
 no-other what a e =
     ⊎_elim (λ (may : changes_titles what a ≡ true). absurd (not-so (changes_titles what a) may e)) (λ (same : (after whole what a).node.parts.titles ≡ a.node.parts.titles). same)
-    (event-deeds what a.settings a.node (Alters (MayDo what a)) (alters-deeds a.settings (MayDo what a)) (λ r m. as_it_was a.settings (MayDo what a) m _ refl)).is
+    (event-deeds what a (Alters (MayDo what a)) (alters-deeds a.settings (MayDo what a)) (λ r m. as_it_was a.settings (MayDo what a) m _ refl)).is
 
 -- ---- an order about rows
 

@@ -1,6 +1,8 @@
 -- A refused event leaves what it is to leave, and a message is queued on a link in service.
 use Rattle.exchange_rules.proofs.Basics.{◌≡◌, ℕ, Bool, true, false, List, [], ◌∷◌, Option, Some, None, Result, Ok, Err, refl, ap, ◌∙◌, if◌then◌else◌, zero, suc, length}
-use Rattle.exchange_rules.proofs.Definitions.{Message, flow_of, Configuration, Cause, Queued, Ignored, Refused, FrameFault, FrameValue, read_frame, Owed, owed, facts, Action, UserData, acts_on, count_confirmed, Node, Done, with_node, with_parts, answer, refuse, is_link, link_at, down, in_traffic, link_of, no_room, send, route_message, told_parts, may_tell, tell_if, tell_each, tell_owed, whither_goes, submit, advance, Carrying, data_of, numbers, accept, read, CameUp, WentDown, FrameCame, Ticked, Submitted, Activated, Deactivated, TitleAdded, TitleRemoved, WholeQueues, whole, waits, all_wait, go_on, go_by, go, go_each, release, settled, apply, accept_data, accept_frame, accept_text, carried_message, answered, refusals_leave, queued_in_traffic, Abstract, IsSound, Released, late_by, ordered_late, order_all, order_each, order_if_late, order_late, is_late, asking, changeover_order, receive}
+use Rattle.exchange_rules.proofs.Definitions.{Message, flow_of, Configuration, Cause, Queued, Ignored, Refused, FrameFault, FrameValue, read_frame, Owed, owed, facts, Action, UserData, acts_on, count_confirmed, Node, Done, with_parts, answer, refuse, is_link, link_at, down, in_traffic, link_of, no_room, send, route_message, told_parts, may_tell, tell_if, tell_each, tell_owed, whither_goes, submit, advance, Carrying, data_of, numbers, accept, read, CameUp, WentDown, FrameCame, Ticked, Submitted, Activated, Deactivated, TitleAdded, TitleRemoved, WholeQueues, whole, waits, all_wait, go_on, go_by, go, go_each, release, settled, apply, accept_data, accept_frame, accept_text, carried_message, answered, refusals_leave, queued_in_traffic, Abstract, IsSound, Released, late_by, ordered_late, order_all, order_each, order_if_late, order_late, is_late, asking, changeover_order, receive}
+use Rattle.exchange_rules.specs.State.{Reroutings}
+use Rattle.exchange_rules.specs.Exchange.{leaving}
 use Rattle.signalling_types.specs.declared.cause.Cause.TheVariants as causes
 use Rattle.link.specs.declared.action.Action.TheVariants as act
 use Rattle.exchange_rules.specs.Telling as telling
@@ -87,17 +89,18 @@ accept_text-waits link (Ok frame) a w = accept_frame-waits a.settings (data_of f
 accept_text-waits link (Err fault) a w = w
 
 -- a state in which nothing waits that is to go on, and nothing is owed that finds room, stays
-settled-so : (a : Abstract) (d : Done WholeQueues) → IsSound a → d.left ≡ a.node → with_node a (settled whole a.settings d).left ≡ a
+settled-so : (a : Abstract) (d : Done WholeQueues) → IsSound a → d.left ≡ a.node → leaving a (settled whole a.settings d).left ≡ a
 settled-so a d s e =
-    ap (λ (m : Node WholeQueues). with_node a m)
+    ap (λ (m : Node WholeQueues). leaving a m)
     (settled-left a.settings d a.node e s.waiting ∙ told_already whole a.settings a.node s.telling)
+    ∙ ap (λ (r : Reroutings). record a { reroutings = r }) s.rerouting
 
 received_left : (t : Bool) (d : Done WholeQueues) (by : Cause → Node WholeQueues) (a : Abstract) (cause : Cause) → Leaves d by
     → all_wait a.settings (by cause).parts.holds (by cause).queues.held ≡ true → IsSound a
     → (if t then d else refuse causes.NoSuchName a.node).outcome ≡ Refused cause
-    → with_node a (settled whole a.settings (if t then d else refuse causes.NoSuchName a.node)).left
-    ≡ (if t then with_node a (tell_owed whole a.settings (by cause)) else a)
-received_left true d by a cause f w s e = ap (λ (m : Node WholeQueues). with_node a m) (settled-left a.settings d (by cause) (f.left cause e) w)
+    → leaving a (settled whole a.settings (if t then d else refuse causes.NoSuchName a.node)).left
+    ≡ (if t then leaving a (tell_owed whole a.settings (by cause)) else a)
+received_left true d by a cause f w s e = ap (λ (m : Node WholeQueues). leaving a m) (settled-left a.settings d (by cause) (f.left cause e) w)
 received_left false d by a cause f w s e = settled-so a (refuse causes.NoSuchName a.node) s refl
 
 received_served : (t : Bool) (d : Done WholeQueues) (by : Cause → Node WholeQueues) (a : Abstract) (l : ℕ) → Leaves d by
@@ -152,7 +155,7 @@ as_it_was a cause = a.node
 unchanged : (a : Abstract) → Stays (as_it_was a) a.node
 unchanged a = record { others = λ cause e. refl }
 
-left-so : (a : Abstract) (d : Done WholeQueues) (cause : Cause) → IsSound a → Leaves d (as_it_was a) → d.outcome ≡ Refused cause → with_node a (settled whole a.settings d).left ≡ a
+left-so : (a : Abstract) (d : Done WholeQueues) (cause : Cause) → IsSound a → Leaves d (as_it_was a) → d.outcome ≡ Refused cause → leaving a (settled whole a.settings d).left ≡ a
 left-so a d cause s f e = settled-so a d s (f.left cause e)
 
 pub refused_leaves : refusals_leave
@@ -167,12 +170,12 @@ refused_leaves (TitleAdded row lacking) a cause s e = left-so a _ cause s (add_t
 refused_leaves (TitleRemoved key digits) a cause s e = left-so a _ cause s (remove_title-leaves key digits a.node) e
 refused_leaves (Submitted message) a cause s e =
     let left : Node WholeQueues = answered cause None (Some message) a.settings a.node in
-    ap (λ (m : Node WholeQueues). with_node a m)
+    ap (λ (m : Node WholeQueues). leaving a m)
     (settled-left a.settings (submit whole a.settings message a.node) left ((submit_to-leaves a.settings a.node (whither_goes a.settings message) message).left cause e)
     (answered-waits a.settings cause None (Some message) a.node s.waiting)
     ∙ told_already whole a.settings left (answered-told a.settings cause message a.node s.telling))
 refused_leaves (FrameCame link text) a cause s e =
-    ap (λ (m : Node WholeQueues). with_node a (tell_owed whole a.settings (release whole a.settings m))) (late-refused a.settings (receive whole a.settings link text a.node) cause e)
+    ap (λ (m : Node WholeQueues). leaving a (tell_owed whole a.settings (release whole a.settings m))) (late-refused a.settings (receive whole a.settings link text a.node) cause e)
     ∙ received_left (is_link a.node.parts link) (if down a.node.parts link then answer Ignored a.node else read whole a.settings link (read_frame text) a.node)
     (left_of_text link (read_frame text) a) a cause (up_leaves (down a.node.parts link) link (read_frame text) a)
     (answered-waits a.settings cause (Some link) (carried_message (read_frame text)) (accept_text link (read_frame text) a)

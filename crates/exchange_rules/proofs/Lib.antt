@@ -174,3 +174,6 @@ pub mod OrderedLinks
 pub mod OrdersByAnyRoute
 pub mod AnsweredOrders
 pub mod ReroutedFlows
+pub mod Reroutings
+pub mod LastingReroutings
+pub mod ReroutingExamples

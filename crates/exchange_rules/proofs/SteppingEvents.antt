@@ -1,5 +1,7 @@
 -- Frames, ticks, releases, whole events, and what goes out: each is made of steps.
 use Rattle.exchange_rules.proofs.Basics.{◌≡◌, inl, inr, ℕ, zero, suc, Bool, true, false, List, [], ◌∷◌, Option, Some, None, Result, Ok, Err, refl, ap, ◌∙◌, if◌then◌else◌, slice_get, drop, ◌&&◌, not, sym}
+use Rattle.exchange_rules.specs.State.{Reroutings}
+use Rattle.exchange_rules.specs.Reroutings.{first_reroutings}
 use Rattle.exchange_rules.proofs.Definitions.{Message, flow_of, Configuration, Ignored, FrameFault, FrameValue, EmptyFrame, MessageFrame, StatusFrame, read_frame, LinkStatus, Action, UserData, LinkTimer, timer_name, acts_on, Sending, SeqFault, TimerName, ticked, due_name, after_due, due_count, Link, down_link, is_in_service, Time, Code, Reroute, Parts, Node, with_parts, answer, refuse, is_link, link_at, down, in_service, link_of, waits, late_time, late_code, tell_owed, advance, Carrying, empty_data, message_data, owing, timed_parts, numbers, accept, carry, handle_by, act_by_data, receive_data, leave_aside, read, with_timers, run_timer, run_due, run_next, run_times, tick, go_on, go_by, go, go_each, release, Outgoing, if_owed, message_first, status_first, without_owed, next_message, after_sending, after_take, Happening, CameUp, WentDown, FrameCame, Ticked, Submitted, Activated, Deactivated, TitleAdded, TitleRemoved, handle_event, apply, WholeQueues, whole, new_by, new_at, new_in, new_of, Procedure, Changeover, run_all, subsystems_ticked, Facts, is_first_test, has_other, set_of, network_of, once_more, Released, Done, receive}
 use Rattle.signalling_types.specs.declared.cause.Cause.TheVariants as causes
 use Rattle.signalling_types.specs.declared.notice.Notice.TheVariants as notices
@@ -66,15 +68,15 @@ pub record AllowsTimer (May : Deed → Type 0) (timer : TimerName) : Type 0 wher
   pub waits : (link : ℕ) → timer ≡ name.T2 link → May (WaitEnds link)
 
 -- what an event may do, but for a tick
-pub record AllowsEvent (c : Configuration) (May : Deed → Type 0) (what : Happening) (n : Node WholeQueues) : Type 0 where
+pub record AllowsEvent (c : Configuration) (May : Deed → Type 0) (what : Happening) (n : Node WholeQueues) (r : Reroutings) : Type 0 where
   pub opens : (link : ℕ) → what ≡ CameUp link → May (LinkOpens link)
   pub lost : (link : ℕ) → what ≡ WentDown link → May (LinkFails link reasons.Association)
   pub ordered : (link : ℕ) → what ≡ Deactivated link → May (LinkFails link reasons.Operator)
   pub released : (link : ℕ) → what ≡ Released link → May (WaitEnds link)
   pub frame : (link : ℕ) (text : List ℕ) → what ≡ FrameCame link text → AllowsFrame c May link (read_frame text) n
-  pub words : (word : Word) → word_heard what (record { settings = c; node = n }) ≡ Some word → Allows c May word
-  pub lacking : brings_lacking what (record { settings = c; node = n }) ≡ true → May Lacking
-  pub titles : changes_titles what (record { settings = c; node = n }) ≡ true → May TitlesChange
+  pub words : (word : Word) → word_heard what (record { settings = c; node = n; reroutings = r }) ≡ Some word → Allows c May word
+  pub lacking : brings_lacking what (record { settings = c; node = n; reroutings = r }) ≡ true → May Lacking
+  pub titles : changes_titles what (record { settings = c; node = n; reroutings = r }) ≡ true → May TitlesChange
 
 module _ {c : Configuration} {Own Counts : ℕ → Type 0} {May : Deed → Type 0} {R : Node WholeQueues → Node WholeQueues → Type 0} (s : IsOfDeeds c Own Counts May R) where
   -- ---- a frame
@@ -212,8 +214,8 @@ module _ {c : Configuration} {Own Counts : ℕ → Type 0} {May : Deed → Type 
   run_times-steps zero n each = s.sends.none n
   run_times-steps (suc more) n each = s.sends.both _ _ _ (each n) (run_times-steps more (run_next whole c n) each)
 
-  handle_event-deeds : (what : Happening) (n : Node WholeQueues) → ((link : ℕ) → IsOf what link → Own link) → ((link : ℕ) → IsOf what link → Counts link)
-      → AllowsEvent c May what n → (what ≡ Ticked → R n (tick whole c n).left) → R n (handle_event whole c what n).left
+  handle_event-deeds : {r : Reroutings} (what : Happening) (n : Node WholeQueues) → ((link : ℕ) → IsOf what link → Own link) → ((link : ℕ) → IsOf what link → Counts link)
+      → AllowsEvent c May what n r → (what ≡ Ticked → R n (tick whole c n).left) → R n (handle_event whole c what n).left
   handle_event-deeds (CameUp link) n own counts may ticks = association_up-steps s link n (counts link refl) (may.opens link refl)
   handle_event-deeds (WentDown link) n own counts may ticks = association_down-steps s link n (may.lost link refl)
   handle_event-deeds (FrameCame link text) n own counts may ticks =
@@ -232,8 +234,8 @@ module _ {c : Configuration} {Own Counts : ℕ → Type 0} {May : Deed → Type 
   pub settled-steps : (n : Node WholeQueues) → R n (tell_owed whole c (release whole c n))
   settled-steps n = s.sends.both _ _ _ (release-steps n) (tell_owed-steps s (release whole c n))
 
-  pub apply-deeds : (what : Happening) (n : Node WholeQueues) → ((link : ℕ) → IsOf what link → Own link) → ((link : ℕ) → IsOf what link → Counts link)
-      → AllowsEvent c May what n → (what ≡ Ticked → R n (tick whole c n).left) → R n (apply whole c what n).left
+  pub apply-deeds : {r : Reroutings} (what : Happening) (n : Node WholeQueues) → ((link : ℕ) → IsOf what link → Own link) → ((link : ℕ) → IsOf what link → Counts link)
+      → AllowsEvent c May what n r → (what ≡ Ticked → R n (tick whole c n).left) → R n (apply whole c what n).left
   unfolding apply
   apply-deeds what n own counts may ticks = s.sends.both _ _ _ (handle_event-deeds what n own counts may ticks) (settled-steps (handle_event whole c what n).left)
 
@@ -246,7 +248,7 @@ module _ {c : Configuration} {Own Counts : ℕ → Type 0} {R : Node WholeQueues
   any_timer : (timer : TimerName) → AllowsTimer anything timer
   any_timer timer = record { ends = λ procedure e. tt; fails = λ link its e f. tt; tests = λ link e. tt; waits = λ link e. tt }
 
-  any_event : (what : Happening) (n : Node WholeQueues) → AllowsEvent c anything what n
+  any_event : (what : Happening) (n : Node WholeQueues) → AllowsEvent c anything what n (first_reroutings c)
   any_event what n = record {
     opens = λ link e. tt;
     lost = λ link e. tt;

@@ -155,5 +155,5 @@ module _ (c : Configuration) where
 
 pub uncounted : nothing_else_is_counted
 uncounted what a e =
-    event-deeds what a.settings a.node Stays
+    event-deeds what a Stays
     (deeds-stay a.settings (Cause what a) (λ lacking. no-way (brings_lacking what a) e lacking)) (λ r m. refl)

@@ -5,7 +5,8 @@ use Rattle.signalling_types.specs.Message.{Message, flow_of}
 use Rattle.settings_rows.specs.Configuration.{Configuration}
 use Rattle.signalling_types.specs.declared.cause.Cause.TheVariants.{NoRoute}
 use Rattle.exchange_rules.specs.State.{◌▷◌, QueueKind, Node, with_parts, Done, answer, State, with_node, Happening, CameUp, WentDown, FrameCame, Ticked, Submitted, Activated, Deactivated, Released, TitleAdded, TitleRemoved}
-use Rattle.exchange_rules.specs.Routing.{link_of, queue_on, waits, hold}
+use Rattle.exchange_rules.specs.Routing.{facts, link_of, queue_on, waits, hold}
+use Rattle.exchange_rules.specs.Reroutings.{counted}
 use Rattle.exchange_rules.specs.ChangingOver.{lose, order_all, on_changeover_timer}
 use Rattle.signalling_types.specs.declared.outcome.Outcome.TheVariants.{Refused, Queued, Held, Local, Handled, Ignored}
 use Rattle.link.specs.declared.action.LinkTimer.TheVariants as timer
@@ -139,9 +140,14 @@ apply q c what node = node ▷ handle_event q c what ▷ settled q c
 abbrev pub outcome_of : {Q : Type 0} → QueueKind Q → Happening → State Q → Outcome
 outcome_of q what s = (apply q s.settings what s.node).outcome
 
+-- the state with the node that an event leaves: at its end the flows that changed their sets are counted
+abbrev pub leaving : {Q : Type 0} → State Q → Node Q → State Q
+leaving s node =
+    record s { node = node; reroutings = counted s.settings (facts s.settings node.parts) s.reroutings }
+
 -- and the state after it
 abbrev pub after : {Q : Type 0} → QueueKind Q → Happening → State Q → State Q
-after q what s = with_node s (apply q s.settings what s.node).left
+after q what s = leaving s (apply q s.settings what s.node).left
 
 -- what becomes of messages that are submitted one after the other
 abbrev pub after_submitting : {Q : Type 0} → QueueKind Q → List Message → State Q → State Q

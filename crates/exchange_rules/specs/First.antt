@@ -3,7 +3,8 @@ use Rattle.std.specs.Prelude.{◌≡◌, ℕ, true, [], map, length, replicate}
 use Rattle.link.specs.Queue.{IsQueue, first_queue}
 use Rattle.exchange_rules.specs.State.{State, Parts}
 use Rattle.exchange_rules.specs.Queues.{WholeQueues, queue_at, whole}
-use Rattle.exchange_rules.specs.Routing.{all_wait}
+use Rattle.exchange_rules.specs.Routing.{all_wait, facts}
+use Rattle.exchange_rules.specs.Reroutings.{counted, first_reroutings}
 use Rattle.exchange_rules.specs.Telling.{is_all_told}
 use Rattle.settings_rows.specs.Configuration.{Configuration}
 use Rattle.timers.specs.declared.name.NodeCounts.{NodeCounts}
@@ -24,12 +25,13 @@ Abstract = State WholeQueues
 pub record AreQueues (window : ℕ) (qs : WholeQueues) : Type 0 where
   pub each : (link : ℕ) → IsQueue window (queue_at qs link)
 
--- the states that an exchange can stand for: between two events each message of Held has a hold, and adjacent points
--- are owed only what finds no room
+-- the states that an exchange can stand for: between two events each message of Held has a hold, adjacent points are
+-- owed only what finds no room, and each flow that changed its set is counted
 pub record IsSound (a : Abstract) : Type 0 where
   pub queues : AreQueues a.settings.window a.node.queues
   pub waiting : all_wait a.settings a.node.parts.holds a.node.queues.held ≡ true
   pub telling : is_all_told whole a.settings a.node ≡ true
+  pub rerouting : counted a.settings (facts a.settings a.node.parts) a.reroutings ≡ a.reroutings
 
 -- ---- The state that an exchange has once it is booted.
 
@@ -58,7 +60,7 @@ first_parts c = record {
   times_late = 0;
 }
 
--- the state that boot gives: all queues are empty
+-- the state that boot gives: all queues are empty, and no flow went by any set
 abbrev pub first_state : Configuration → Abstract
 first_state c = record {
   settings = c;
@@ -66,4 +68,5 @@ first_state c = record {
     queues = record { held = []; links = replicate (length c.links) first_queue };
     parts = first_parts c;
   };
+  reroutings = first_reroutings c;
 }

@@ -11,7 +11,7 @@ use Rattle.link.specs.declared.action.Action.{Action}
 use Rattle.link.specs.declared.action.Action.TheVariants as act
 use Rattle.link.specs.declared.action.Input.TheVariants.{UserData}
 use Rattle.link.specs.Queue.{count_confirmed}
-use Rattle.exchange_rules.specs.State.{Parts, Node, with_node, with_parts, is_link, link_at, in_service, in_traffic, note, Happening, CameUp, WentDown, FrameCame, Ticked, Submitted, Activated, Deactivated, Released, TitleAdded, TitleRemoved}
+use Rattle.exchange_rules.specs.State.{Parts, Node, with_parts, is_link, link_at, in_service, in_traffic, note, Happening, CameUp, WentDown, FrameCame, Ticked, Submitted, Activated, Deactivated, Released, TitleAdded, TitleRemoved}
 use Rattle.link.specs.declared.action.Transition.{Transition}
 use Rattle.node_links.specs.NodeLinks.{acts_on}
 use Rattle.exchange_rules.specs.ChangingOver.{complete_if}
@@ -26,7 +26,7 @@ use Rattle.signalling_types.specs.Message.{Message, service_indicator, dpc_of, o
 use Rattle.settings.specs.Readings.{destination_place}
 use Rattle.changeover.specs.Changeover.{moved}
 use Rattle.exchange_rules.specs.Routing.{link_of, goes_by, waits}
-use Rattle.exchange_rules.specs.Exchange.{release, outcome_of, after, frame_to_take, taken}
+use Rattle.exchange_rules.specs.Exchange.{leaving, release, outcome_of, after, frame_to_take, taken}
 use Rattle.exchange_rules.specs.Queues.{WholeQueues, queue_at, whole}
 use Rattle.exchange_rules.specs.First.{Abstract, IsSound, first_state}
 
@@ -47,9 +47,12 @@ accept_frame (Some d) link c node =
     accept_data (acts_on (link_at node.parts link) UserData) link d c node
 
 -- the node after the frame of this text was accepted; a text that isn't User Data isn't
+abbrev pub accept_read : ℕ → Result FrameValue FrameFault → Configuration → Node WholeQueues → Node WholeQueues
+accept_read link (Ok frame) c node = accept_frame (data_of frame) link c node
+accept_read link (Err fault) c node = node
+
 abbrev pub accept_text : ℕ → Result FrameValue FrameFault → Abstract → Node WholeQueues
-accept_text link (Ok frame) a = accept_frame (data_of frame) link a.settings a.node
-accept_text link (Err fault) a = a.node
+accept_text link read a = accept_read link read a.settings a.node
 
 -- the message that a frame of this text carries
 abbrev pub carried_message : Result FrameValue FrameFault → Option Message
@@ -90,7 +93,7 @@ after_refusal (CameUp link) cause a = a
 after_refusal (WentDown link) cause a = a
 after_refusal Ticked cause a = a
 after_refusal (Submitted message) cause a =
-    with_node a (answered cause None (Some message) a.settings a.node)
+    leaving a (answered cause None (Some message) a.settings a.node)
 after_refusal (Activated link emergency) cause a = a
 after_refusal (Deactivated link) cause a = a
 after_refusal (Released link) cause a = a
@@ -100,7 +103,7 @@ after_refusal (FrameCame link text) cause a =
     let node : Node WholeQueues = accept_text link (read_frame text) a in
     let left : Node WholeQueues = answered cause (Some link) (carried_message (read_frame text)) a.settings node in
     if is_link a.node.parts link
-    then with_node a (tell_owed whole a.settings (noted cause link left))
+    then leaving a (tell_owed whole a.settings (noted cause link left))
     else a
 
 abbrev pub refusals_leave : Type 0

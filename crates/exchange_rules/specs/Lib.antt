@@ -1,6 +1,7 @@
 pub mod State
 pub mod Timing
 pub mod Routing
+pub mod Reroutings
 pub mod Telling
 pub mod Rerouting
 pub mod ChangingOver
@@ -59,3 +60,5 @@ pub mod LawsOfTelling
 pub mod LawsOfOrders
 pub mod LawsOfAnyRoute
 pub mod LawsOfRerouting
+pub mod LawsOfReroutings
+pub mod ReroutingExamples

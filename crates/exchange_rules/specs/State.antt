@@ -90,10 +90,18 @@ pub record Node (Q : Type 0) : Type 0 where
   pub queues : Q
   pub parts : Parts
 
--- A node with the settings that it was booted with.
+-- By which sets flows went: for each destination and each of its selections the set by which the flow went last, if it
+-- went by one; and how often a flow changed its set since the node was booted, 2 ^ 64 - 1 at most. Nothing that the node
+-- does depends on it.
+pub record Reroutings : Type 0 where
+  pub last_sets : List (List (Option ℕ))
+  pub times : ℕ
+
+-- A node with the settings that it was booted with, and the reroutings of its flows.
 pub record State (Q : Type 0) : Type 0 where
   pub settings : Configuration
   pub node : Node Q
+  pub reroutings : Reroutings
 
 -- What became of an event, and the node after it.
 pub record Done (Q : Type 0) : Type 0 where

@@ -38,6 +38,7 @@ pub mod links;
 pub mod orders;
 pub mod outage;
 pub mod peers;
+pub mod reroutings;
 pub mod subsystems;
 pub mod user_parts;
 
@@ -61,6 +62,7 @@ pub use peers::{
     only_adjacent_points_manage, routes_change_as_their_points_say, rows_lead_to_subsystems,
     tests_of_others_are_answered, what_came_is_acknowledged,
 };
+pub use reroutings::{flows_keep_their_set_while_none_is_counted, rerouted_flows_are_counted};
 pub use subsystems::{
     prohibited_subsystems_are_tested, rows_keep_off_prohibited_subsystems,
     subsystems_are_as_their_points_say, subsystems_are_forgotten_with_their_points,

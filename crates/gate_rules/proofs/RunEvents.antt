@@ -1,5 +1,7 @@
 -- What becomes of the messages of the run where nothing holds their flow: as one is submitted, and as the changeover is
 -- complete that held one.
+use Rattle.exchange_rules.specs.Reroutings.{counted}
+use Rattle.exchange_rules.specs.Routing.{facts}
 use Rattle.std.proofs.Common.{◌≡◌, ℕ, Bool, true, false, List, [], ◌∷◌, ◌++◌, Option, Some, None, refl, ap, ◌∙◌, nat_eq}
 use Rattle.std.specs.Prelude.{if◌then◌else◌}
 use Rattle.signalling_types.specs.Message.{Message, flow_of}
@@ -67,14 +69,14 @@ offered m waiting n =
 
 abbrev left_with : Configuration → exchange.Done WholeQueues → List Message → Books → Books
 left_with c d ms b = record {
-  exchange = record { settings = c; node = d.left };
+  exchange = record { settings = c; node = d.left; reroutings = counted c (facts c d.left.parts) b.exchange.reroutings };
   accepted = b.accepted ++ ms;
   received = b.received ++ [];
 }
 
 abbrev submitted_as : Message → Configuration → Books → Books
 submitted_as m c b =
-    left_with c (apply whole c (Submitted m) b.exchange.node) (brought_in (Submitted m) (record { settings = c; node = b.exchange.node })) b
+    left_with c (apply whole c (Submitted m) b.exchange.node) (brought_in (Submitted m) (record { settings = c; node = b.exchange.node; reroutings = b.exchange.reroutings })) b
 
 abbrev queued_as : Message → exchange.Done WholeQueues → Books → Books
 queued_as m d b = left_with near_settings d (taken_in d.outcome m) b
@@ -142,16 +144,13 @@ hears-one now packet source g a m h =
 abbrev pub its_end : (link : ℕ) (text : List ℕ) → exchange.Node WholeQueues → exchange.Done WholeQueues
 its_end link text n = handle_event whole near_settings (FrameCame link text) n
 
-abbrev pub released : Message → (link : ℕ) (text : List ℕ) → (waiting : Bool) → exchange.Node WholeQueues → Abstract
-released m link text waiting n =
-    let d : exchange.Done WholeQueues = its_end link text n in
-    record {
-      settings = near_settings;
-      node = tell_owed whole near_settings (go_by whole near_settings waiting m (record d.left { queues = whole.without_held d.left.queues }));
-    }
+abbrev state_of : Configuration → Abstract → exchange.Node WholeQueues → Abstract
+state_of c a n = record { settings = c; node = n; reroutings = counted c (facts c n.parts) a.reroutings }
 
-abbrev state_of : Configuration → exchange.Node WholeQueues → Abstract
-state_of c n = record { settings = c; node = n }
+abbrev pub released : Message → (link : ℕ) (text : List ℕ) → (waiting : Bool) → Abstract → Abstract
+released m link text waiting a =
+    let d : exchange.Done WholeQueues = its_end link text a.node in
+    state_of near_settings a (tell_owed whole near_settings (go_by whole near_settings waiting m (record d.left { queues = whole.without_held d.left.queues })))
 
 as-applied : (c : Configuration) (link : ℕ) (text : List ℕ) (n : exchange.Node WholeQueues) → (apply whole c (FrameCame link text) n).left ≡ (settled whole c (handle_event whole c (FrameCame link text) n)).left
 unfolding apply
@@ -162,11 +161,11 @@ one-held : (c : Configuration) (d : exchange.Done WholeQueues) (m : Message) →
 one-held c d m e = ap (λ (ms : List Message). tell_owed whole c (go_each whole c ms (record d.left { queues = whole.without_held d.left.queues }))) e
 
 pub is-released : (m : Message) (link : ℕ) (text : List ℕ) (a : Abstract) → a.settings ≡ near_settings → (its_end link text a.node).left.queues.held ≡ m ∷ []
-    → waits near_settings (its_end link text a.node).left.parts.holds m ≡ false → after whole (FrameCame link text) a ≡ released m link text false a.node
+    → waits near_settings (its_end link text a.node).left.parts.holds m ≡ false → after whole (FrameCame link text) a ≡ released m link text false a
 is-released m link text a e held free =
-    ap (λ (c : Configuration). state_of c (apply whole c (FrameCame link text) a.node).left) e
-    ∙ ap (state_of near_settings) (as-applied near_settings link text a.node ∙ one-held near_settings (its_end link text a.node) m held)
-    ∙ ap (λ (b : Bool). released m link text b a.node) free
+    ap (λ (c : Configuration). state_of c a (apply whole c (FrameCame link text) a.node).left) e
+    ∙ ap (state_of near_settings a) (as-applied near_settings link text a.node ∙ one-held near_settings (its_end link text a.node) m held)
+    ∙ ap (λ (b : Bool). released m link text b a) free
 
 -- ---- so it is at the near node
 
@@ -196,7 +195,7 @@ pub record Completes (link now : ℕ) (d : rules.Done) (n : Node) (m : Message) 
 
 pub completes : (link now : ℕ) (packet : Option PacketValue) (source : Address) (n : Node) (m : Message) (text : List ℕ) (one : pieces.Message)
     → Completes link now (done now packet source (n.ports link).gate) n m text one
-    → did (Calls link (calling.Hears now packet source)) n ≡ node_left link now packet source n text (released m link text false n.books.exchange.node)
+    → did (Calls link (calling.Hears now packet source)) n ≡ node_left link now packet source n text (released m link text false n.books.exchange)
 completes link now packet source n m text one h =
     let g : Gate = (n.ports link).gate in
     let a : Abstract = n.books.exchange in

@@ -62,7 +62,7 @@ its_text w = (first_heard (its_told w)).octets
 
 abbrev pub completing : World → World
 completing w =
-    with_near w (node_left 1 3000 (order w) address w.near (its_text w) (released next_message 1 (its_text w) false w.near.books.exchange.node))
+    with_near w (node_left 1 3000 (order w) address w.near (its_text w) (released next_message 1 (its_text w) false w.near.books.exchange))
 
 -- what is computed of the world in which the order comes
 pub record Seen : Type 0 where
@@ -164,7 +164,7 @@ pub fallen-settings : (fallen_from begun).near.books.exchange.settings ≡ near_
 fallen-settings = near-stays unanswered (submitting next_message (come_from begun))
 
 completing-settings : (w : World) → (completing w).near.books.exchange.settings ≡ near_settings
-completing-settings w = settled-stays whole 3000 (heard_gate 3000 (done 3000 (order w) address (its_gate w)) (its_gate w)) (released next_message 1 (its_text w) false w.near.books.exchange.node)
+completing-settings w = settled-stays whole 3000 (heard_gate 3000 (done 3000 (order w) address (its_gate w)) (its_gate w)) (released next_message 1 (its_text w) false w.near.books.exchange)
 
 pub returned-settings : (returned_from begun).near.books.exchange.settings ≡ near_settings
 returned-settings =

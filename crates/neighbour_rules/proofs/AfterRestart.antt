@@ -1,4 +1,5 @@
 -- The run in which a message comes after a restart, by computation, except whether it waits, which is looked at once.
+use Rattle.exchange_rules.specs.Exchange.{leaving}
 use Rattle.pair_rules.proofs.Basics.{◌≡◌, ◌<◌, ℕ, zero, suc, Bool, true, false, [], ◌∷◌, ◌++◌, None, Some, refl, ap, sym, subst, ◌∙◌, arith}
 use Rattle.pair_rules.proofs.Definitions.{flow_of, set_timer, start_unless_running, clear_timer, clear_set, due_name, after_due, due_count, first_sets, choice_among, link_by, any_flow, flows, no_holds, none_at_first, Done, Node, WholeQueues, whole, no_room, waits, link_of, apply, settled, take_back_each, PairState, taken_in, may_follow, may_open_at, turned}
 use Rattle.timers.specs.Timers.{names_of}
@@ -31,7 +32,7 @@ offered waiting =
 abbrev queued_by : Bool → PairState
 queued_by waiting = record returned {
   near = record returned.near {
-    exchange = record { settings = near_settings; node = (offered waiting).left };
+    exchange = leaving returned.near.exchange (offered waiting).left;
     accepted = returned.near.accepted ++ users_to far_settings.own (taken_in (offered waiting).outcome the_message);
   };
 }

@@ -1,4 +1,7 @@
 -- Each step of a pair, at either end, goes by moves; and so does each list of them.
+use Rattle.exchange_rules.specs.State.{Reroutings}
+use Rattle.exchange_rules.specs.Routing.{facts}
+use Rattle.exchange_rules.specs.Reroutings.{counted, first_reroutings}
 use Rattle.pair_rules.proofs.Basics.{inl, ◌≡◌, ◌≢◌, ◌<◌, ℕ, Bool, true, false, List, [], ◌∷◌, length, Option, Some, None, append-nil, refl, ap, sym, subst, ◌∙◌, slice_get, slice_index_or, slice_set, get_or-set_other, get_or-set_same, length-set, ⊎_elim, cases_eq}
 use Rattle.pair_rules.proofs.Definitions.{Message, in_flight, new_message, Handled, Configuration, FrameValue, Nothing, Open, Close, Node, Done, answer, CameUp, FrameCame, WholeQueues, whole, open_link, wanted, apply, settled, done-waits, Reading, PairState, Streams, may_follow, may_open_at, turned}
 use Rattle.exchange_rules.specs.declared.wants.Wants.{Wants}
@@ -102,9 +105,9 @@ module _ (c z : Configuration) (a : AreFacing c z) where
   abbrev far_of : (link : ℕ) → Option ℕ
   far_of link = end_there c z (slice_get c.links link)
 
-  module _ (n m : Node WholeQueues) (ni fi : Streams) (nv fv : List Bool) (na nr fa fr : List Message) where
+  module _ (n m : Node WholeQueues) (nb fb : Reroutings) (ni fi : Streams) (nv fv : List Bool) (na nr fa fr : List Message) where
     abbrev p : PairState
-    p = record { near = end_with c n ni nv na nr; far = end_with z m fi fv fa fr }
+    p = record { near = end_with c n nb ni nv na nr; far = end_with z m fb fi fv fa fr }
 
     -- nothing is in flight to an end on the link then
     abbrev without : ℕ → Flying → Flying
@@ -155,7 +158,7 @@ module _ (c z : Configuration) (a : AreFacing c z) where
 
       -- it is the first of the two
       abbrev first_left : Node WholeQueues → PairState
-      first_left x = record { near = end_with c x (emptied link ni) (slice_set nv link false) na nr; far = end_with z m (emptied other fi) (slice_set fv other true) fa fr }
+      first_left x = record { near = end_with c x (counted c (facts c x.parts) nb) (emptied link ni) (slice_set nv link false) na nr; far = end_with z m fb (emptied other fi) (slice_set fv other true) fa fr }
 
       first-at : MayComeUp n.parts link → may_open_at p.far other ≡ true → Stands c z a p → Stands c z a (first_left (near_left link))
       first-at near far s =
@@ -200,7 +203,7 @@ module _ (c z : Configuration) (a : AreFacing c z) where
           record {
             near_settings = refl;
             far_settings = refl;
-            near_waits = subst (Waits c) (opened-node c n link near) (done-waits (CameUp link) (record { settings = c; node = n }));
+            near_waits = subst (Waits c) (opened-node c n link near) (done-waits (CameUp link) (record { settings = c; node = n; reroutings = first_reroutings c }));
             far_waits = s.far_waits;
             near_knows = subst (KnowsPoints c) (opened-node c n link near) (event-knows c (CameUp link) n s.near_knows);
             far_knows = s.far_knows;
@@ -221,7 +224,7 @@ module _ (c z : Configuration) (a : AreFacing c z) where
 
       -- it follows the other
       abbrev second_left : Node WholeQueues → PairState
-      second_left x = record { near = end_with c x ni (slice_set nv link false) na nr; far = end_with z m fi fv fa fr }
+      second_left x = record { near = end_with c x (counted c (facts c x.parts) nb) ni (slice_set nv link false) na nr; far = end_with z m fb fi fv fa fr }
 
       second-at : MayComeUp n.parts link → may_follow p.near link ≡ true → Stands c z a p → Stands c z a (second_left (near_left link))
       second-at near follows s =
@@ -251,7 +254,7 @@ module _ (c z : Configuration) (a : AreFacing c z) where
           record {
             near_settings = refl;
             far_settings = refl;
-            near_waits = subst (Waits c) (opened-node c n link near) (done-waits (CameUp link) (record { settings = c; node = n }));
+            near_waits = subst (Waits c) (opened-node c n link near) (done-waits (CameUp link) (record { settings = c; node = n; reroutings = first_reroutings c }));
             far_waits = s.far_waits;
             near_knows = subst (KnowsPoints c) (opened-node c n link near) (event-knows c (CameUp link) n s.near_knows);
             far_knows = s.far_knows;
@@ -296,14 +299,14 @@ module _ (c z : Configuration) (a : AreFacing c z) where
     up-elsewhere link e s =
         let w : World = world_of p s.to_near s.to_far in
         let away : LeadsAway c z j link = leads-away c z j link e in
-        subst (λ (ms : List Message). Stands c z a (left c z a n m ni fi nv fv na nr fa fr (apply whole c (CameUp link) n).left ni ms nr)) (sym (append-nil na))
-        (near-stands c z a n m ni fi nv fv na nr fa fr s (apply whole c (CameUp link) n).left ni na nr s.to_near (done-waits (CameUp link) (record { settings = c; node = n })) (event-knows c (CameUp link) n s.near_knows) s.near_texts s.near_quiet
+        subst (λ (ms : List Message). Stands c z a (left c z a n m nb fb ni fi nv fv na nr fa fr (apply whole c (CameUp link) n).left ni ms nr)) (sym (append-nil na))
+        (near-stands c z a n m nb fb ni fi nv fv na nr fa fr s (apply whole c (CameUp link) n).left ni na nr s.to_near (done-waits (CameUp link) (record { settings = c; node = n; reroutings = first_reroutings c })) (event-knows c (CameUp link) n s.near_knows) s.near_texts s.near_quiet
         (event-passes c z j (CameUp link) w w n (away-up c z j w n link away.apart)))
 
     heard-elsewhere : (link : ℕ) (text : List ℕ) → leads_elsewhere p link ≡ true → speaks_for c.own z.own text ≡ false → Stands c z a p → Stands c z a (takes_in_for a.base.there (FrameCame link text) p).left
     heard-elsewhere link text e honest s =
         let away : LeadsAway c z j link = leads-away c z j link e in
-        near-stands c z a n m ni fi nv fv na nr fa fr s (apply whole c (FrameCame link text) n).left ni _ nr s.to_near (done-waits (FrameCame link text) (record { settings = c; node = n })) (event-knows c (FrameCame link text) n s.near_knows) s.near_texts s.near_quiet
+        near-stands c z a n m nb fb ni fi nv fv na nr fa fr s (apply whole c (FrameCame link text) n).left ni _ nr s.to_near (done-waits (FrameCame link text) (record { settings = c; node = n; reroutings = first_reroutings c })) (event-knows c (FrameCame link text) n s.near_knows) s.near_texts s.near_quiet
         (away-comes c z j (world_of p s.to_near s.to_far) n link text s.near_waits s.near_knows away.apart away.here honest)
 
     up-by : (b : Bool) (link : ℕ) → leads_elsewhere p link ≡ b → Stands c z a p → Stands c z a (takes_elsewhere_for a.base.there b false (CameUp link) p).left
@@ -318,19 +321,19 @@ module _ (c z : Configuration) (a : AreFacing c z) where
     -- ---- what is done at the near end
 
     between-stands : (what : pairs.Doing) → IsUntoldDoing c z a (Does what) p → Stands c z a p → Stands c z a (did_between_for a.base.there a.base.back what p).left
-    between-stands (pairs.Submits message) untold s = submit-stands c z a n m ni fi nv fv na nr fa fr message s
-    between-stands (pairs.Takes link) untold s = take-stands c z a n m ni fi nv fv na nr fa fr link s
-    between-stands (pairs.Delivers link) untold s = deliver-stands c z a n m ni fi nv fv na nr fa fr link untold s
-    between-stands (pairs.DeliversStatus link) untold s = deliver_status-stands c z a n m ni fi nv fv na nr fa fr link s
-    between-stands (pairs.LosesStatus link) untold s = lose_status-stands c z a n m ni fi nv fv na nr fa fr link s
-    between-stands (pairs.DoublesStatus link) untold s = double_status-stands c z a n m ni fi nv fv na nr fa fr link s
-    between-stands (pairs.AddsTitle row is_memory_refused) untold s = happens-stands c z a n m ni fi nv fv na nr fa fr _ (λ w. add_title-passes c z j row is_memory_refused w n) s
-    between-stands (pairs.RemovesTitle key digits) untold s = happens-stands c z a n m ni fi nv fv na nr fa fr _ (λ w. remove_title-passes c z j key digits w n) s
-    between-stands (pairs.Loses link) untold s = happens-stands c z a n m ni fi nv fv na nr fa fr _ (λ w. association_down-passes c z j w n link) s
-    between-stands pairs.Ticks untold s = happens-stands c z a n m ni fi nv fv na nr fa fr _ (λ w. passes-both c z j _ _ _ (tick-passes c z j w n) (late_by-passes c z j Handled w (tick whole c n).left)) s
-    between-stands (pairs.Activates link emergency) untold s = happens-stands c z a n m ni fi nv fv na nr fa fr _ (λ w. activate-passes c z j emergency w n link) s
-    between-stands (pairs.Deactivates link) untold s = happens-stands c z a n m ni fi nv fv na nr fa fr _ (λ w. deactivate-passes c z j w n link) s
-    between-stands (pairs.Releases link) untold s = happens-stands c z a n m ni fi nv fv na nr fa fr _ (λ w. release_bar-passes c z j w n link) s
+    between-stands (pairs.Submits message) untold s = submit-stands c z a n m nb fb ni fi nv fv na nr fa fr message s
+    between-stands (pairs.Takes link) untold s = take-stands c z a n m nb fb ni fi nv fv na nr fa fr link s
+    between-stands (pairs.Delivers link) untold s = deliver-stands c z a n m nb fb ni fi nv fv na nr fa fr link untold s
+    between-stands (pairs.DeliversStatus link) untold s = deliver_status-stands c z a n m nb fb ni fi nv fv na nr fa fr link s
+    between-stands (pairs.LosesStatus link) untold s = lose_status-stands c z a n m nb fb ni fi nv fv na nr fa fr link s
+    between-stands (pairs.DoublesStatus link) untold s = double_status-stands c z a n m nb fb ni fi nv fv na nr fa fr link s
+    between-stands (pairs.AddsTitle row is_memory_refused) untold s = happens-stands c z a n m nb fb ni fi nv fv na nr fa fr _ (λ w. add_title-passes c z j row is_memory_refused w n) s
+    between-stands (pairs.RemovesTitle key digits) untold s = happens-stands c z a n m nb fb ni fi nv fv na nr fa fr _ (λ w. remove_title-passes c z j key digits w n) s
+    between-stands (pairs.Loses link) untold s = happens-stands c z a n m nb fb ni fi nv fv na nr fa fr _ (λ w. association_down-passes c z j w n link) s
+    between-stands pairs.Ticks untold s = happens-stands c z a n m nb fb ni fi nv fv na nr fa fr _ (λ w. passes-both c z j _ _ _ (tick-passes c z j w n) (late_by-passes c z j Handled w (tick whole c n).left)) s
+    between-stands (pairs.Activates link emergency) untold s = happens-stands c z a n m nb fb ni fi nv fv na nr fa fr _ (λ w. activate-passes c z j emergency w n link) s
+    between-stands (pairs.Deactivates link) untold s = happens-stands c z a n m nb fb ni fi nv fv na nr fa fr _ (λ w. deactivate-passes c z j w n link) s
+    between-stands (pairs.Releases link) untold s = happens-stands c z a n m nb fb ni fi nv fv na nr fa fr _ (λ w. release_bar-passes c z j w n link) s
     between-stands (pairs.OpensFirst link) untold s = first-by (wanted n.parts link) (far_of link) (far_may_open p (far_of link)) link refl refl refl s
     between-stands (pairs.OpensSecond link) untold s = second-by (wanted n.parts link) (may_follow p.near link) (far_of link) link refl refl refl s
 
@@ -345,20 +348,20 @@ module _ (c z : Configuration) (a : AreFacing c z) where
   -- the pair with the settings written out
   abbrev written : PairState → PairState
   written p = record {
-    near = end_with c p.near.exchange.node p.near.incoming p.near.following p.near.accepted p.near.received;
-    far = end_with z p.far.exchange.node p.far.incoming p.far.following p.far.accepted p.far.received;
+    near = end_with c p.near.exchange.node p.near.exchange.reroutings p.near.incoming p.near.following p.near.accepted p.near.received;
+    far = end_with z p.far.exchange.node p.far.exchange.reroutings p.far.incoming p.far.following p.far.accepted p.far.received;
   }
 
   is-written : (p : PairState) → p.near.exchange.settings ≡ c → p.far.exchange.settings ≡ z → p ≡ written p
   is-written p e f =
-      ap (λ (x : Configuration). record p { near = end_with x p.near.exchange.node p.near.incoming p.near.following p.near.accepted p.near.received }) e
-      ∙ ap (λ (y : Configuration). record (written p) { far = end_with y p.far.exchange.node p.far.incoming p.far.following p.far.accepted p.far.received }) f
+      ap (λ (x : Configuration). record p { near = end_with x p.near.exchange.node p.near.exchange.reroutings p.near.incoming p.near.following p.near.accepted p.near.received }) e
+      ∙ ap (λ (y : Configuration). record (written p) { far = end_with y p.far.exchange.node p.far.exchange.reroutings p.far.incoming p.far.following p.far.accepted p.far.received }) f
 
   done-stands : (what : Doing) (p : PairState) → IsUntoldDoing c z a what p → Stands c z a p → Stands c z a (did_for a.base.there a.base.back what p).left
   done-stands what p untold s =
       let e : p ≡ written p = is-written p s.near_settings s.far_settings in
       subst (λ (q : PairState). Stands c z a (did_for a.base.there a.base.back what q).left) (sym e)
-      (did-stands c z a p.near.exchange.node p.far.exchange.node p.near.incoming p.far.incoming p.near.following p.far.following p.near.accepted p.near.received p.far.accepted p.far.received what
+      (did-stands c z a p.near.exchange.node p.far.exchange.node p.near.exchange.reroutings p.far.exchange.reroutings p.near.incoming p.far.incoming p.near.following p.far.following p.near.accepted p.near.received p.far.accepted p.far.received what
       (subst (IsUntoldDoing c z a what) e untold) (subst (Stands c z a) e s))
 
 module _ (c z : Configuration) (a : AreFacing c z) where

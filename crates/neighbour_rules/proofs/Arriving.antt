@@ -1,4 +1,5 @@
 -- A frame comes, between the two nodes or from elsewhere: whole events at the near node, by moves.
+use Rattle.exchange_rules.specs.Reroutings.{first_reroutings}
 use Rattle.pair_rules.proofs.Basics.{◌≡◌, ◌≢◌, ◌<◌, ◌++◌, ◌∷◌, ◌&&◌, ℕ, Bool, true, false, not, ◌||◌, List, [], length, Option, None, Result, Ok, Err, refl, ap, sym, subst, ◌∙◌, nat_lt, arith, nat_tests, if◌then◌else◌, option_to_list, Some}
 use Rattle.pair_rules.proofs.Definitions.{Message, Ignored, Outcome, Configuration, FrameValue, EmptyFrame, MessageFrame, StatusFrame, read_frame, set_of, Node, Done, FrameCame, UserData, acts_on, WholeQueues, whole, is_link, link_at, down, answer, refuse, with_parts, fit-steps, Fits, read, all_wait, apply, handle_event, accept_text, brought_by, brought_in, new_message, new_of}
 use Rattle.signalling_types.specs.declared.cause.Cause.TheVariants as causes
@@ -35,7 +36,7 @@ speaks_for one two text =
 
 module _ (c z : Configuration) (j : Joint c z) where
   abbrev pub exchange : Node WholeQueues → Abstract
-  exchange n = record { settings = c; node = n }
+  exchange n = record { settings = c; node = n; reroutings = first_reroutings c }
 
   -- a frame came, and this is in flight to the node then
   abbrev pub came : World → Flying → (link : ℕ) (text : List ℕ) → Node WholeQueues → World

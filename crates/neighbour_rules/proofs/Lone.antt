@@ -1,4 +1,5 @@
 -- What a node that leads to one point alone accepts is for that point, and is a user message.
+use Rattle.exchange_rules.specs.Reroutings.{first_reroutings}
 use Rattle.signalling_types.specs.Message.{opc_of}
 use Rattle.exchange_rules.specs.Telling.{answer_no_user_part}
 use Rattle.pair_rules.proofs.Basics.{◌≡◌, ◌≢◌, ◌⊎◌, inl, inr, ◌<◌, ◌&&◌, suc, ℕ, Bool, true, false, not, List, [], ◌∷◌, length, Option, Some, None, is_some, nat_eq, refl, ap, sym, subst, ◌∙◌, arith, All, if◌then◌else◌, slice_index_or, eq-eqb}
@@ -161,7 +162,7 @@ module _ (c : Configuration) (far : ℕ) (only : HasOnly c far) where
 
 module _ (c : Configuration) (far : ℕ) (only : HasOnly c far) (n : Node WholeQueues) where
   abbrev a : Abstract
-  a = record { settings = c; node = n }
+  a = record { settings = c; node = n; reroutings = first_reroutings c }
 
   pub submitted : (m : Message) → All (IsUserMessageTo far) (brought_in (Submitted m) a)
   submitted m =

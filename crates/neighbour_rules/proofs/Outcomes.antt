@@ -1,4 +1,5 @@
 -- What a frame that is handed in leads to tells what it brought, and what was accepted of that.
+use Rattle.exchange_rules.specs.Reroutings.{first_reroutings}
 use Rattle.pair_rules.proofs.Basics.{◌&&◌, ◌≡◌, ◌≢◌, inl, inr, ℕ, Bool, true, false, List, [], ◌∷◌, ◌++◌, length, Option, Some, None, Ok, refl, ap, sym, subst, ◌∙◌, nat_eq, not, ◌⊎◌, if◌then◌else◌, drop, option_to_list, slice_get, eq-eqb, is_some, nat_lt, Result, Err}
 use Rattle.pair_rules.proofs.Definitions.{Message, dpc_of, opc_of, flow_of, SIF_OCTETS, network_indicator, read_management, is_management, service_indicator, Cause, Outcome, Handled, Ignored, Local, Refused, Queued, Held, Configuration, FrameValue, read_frame, Discrimination, Management, is_outstanding, set_place, Node, Done, answer, refuse, FrameCame, WholeQueues, whole, changeover_of, on_changeback_acknowledgement, accept_text, answered_in, brought_by, brought_here, brought_in, brought_to, taken_in, unitdata_in, distribute, do_order, do_acknowledgement, is_user, local, manage, on_management, sccp, deliver, deliver_to, whither_goes, on_unitdata, is_idle, new_message, outcome_of, receive, users_of, PairState, Streams, Delivers, DeliversStatus, after_steps, deliver_frame, first_pair, in_flight, turned, without_data, without_status}
 use Rattle.signalling_types.specs.declared.cause.Cause.TheVariants as causes
@@ -345,7 +346,7 @@ module _ (c z : Configuration) (g : AreJoined c z) (f : AreFacing c z) (own : f.
 
   module _ (n : Node WholeQueues) (text : List ℕ) where
     abbrev there : Abstract
-    there = record { settings = c; node = n }
+    there = record { settings = c; node = n; reroutings = first_reroutings c }
 
     pub came-between : (frame : FrameValue) (m : Message) → read_frame text ≡ Ok frame → IsFlying z c f.base.back f.far_set frame → new_message link text there ≡ Some m → Has m
     came-between frame m reads flying e = same-carried frame m flying (ap carried_message (sym reads) ∙ new-carried link text there m e)
@@ -401,14 +402,14 @@ module _ (c z : Configuration) (g : AreJoined c z) (f : AreFacing c z) (its_own 
   TellsAt own x received accepted outcome = ComesTo own x a.node.parts.titles (drop (length p.near.received) received) (drop (length p.near.accepted) accepted) outcome
 
   -- whichever frame comes, and what it leaves in flight
-  came-tells : (text : List ℕ) → Came c z g f its_own link a.node text (new_message link text (record { settings = c; node = a.node }))
+  came-tells : (text : List ℕ) → Came c z g f its_own link a.node text (new_message link text (record { settings = c; node = a.node; reroutings = first_reroutings c }))
       → TellsAt (own_of a.settings (after whole (FrameCame link text) a).node.parts) a.settings (p.near.received ++ users_of (option_to_list (new_message link text a))) (p.near.accepted ++ brought_in (FrameCame link text) a) (outcome_of whole (FrameCame link text) a)
   came-tells text h =
       subst (λ (x : Configuration).
-      let b : Abstract = record { settings = x; node = a.node } in
+      let b : Abstract = record { settings = x; node = a.node; reroutings = first_reroutings x } in
       TellsAt (own_of x (after whole (FrameCame link text) b).node.parts) x (p.near.received ++ users_of (option_to_list (new_message link text b))) (p.near.accepted ++ brought_in (FrameCame link text) b) (outcome_of whole (FrameCame link text) b))
       (sym s.near_settings)
-      (let b : Abstract = record { settings = c; node = a.node } in
+      (let b : Abstract = record { settings = c; node = a.node; reroutings = first_reroutings c } in
       let ms : List Message = users_of (option_to_list (new_message link text b)) in
       let own : OwnValue = own_of c (after whole (FrameCame link text) b).node.parts in
       let ks : List Message = brought_in (FrameCame link text) b in
@@ -433,7 +434,7 @@ module _ (c z : Configuration) (g : AreJoined c z) (f : AreFacing c z) (its_own 
           let frames : List FrameValue = s.to_near.user_data link in
           let first : IsFirst frames (in_flight p.near.incoming.user_data link) text = first-frame frames (in_flight p.near.incoming.user_data link) text (s.near_texts.user_data.each link) e in
           let flying : IsFlying z c f.base.back f.far_set first.frame = (subst (Each (IsFlying z c f.base.back f.far_set)) first.first (s.near_good.coming.user_data link)).0 in
-          came-tells text (data-came c z g f its_own link a.node text first.frame (ap read_frame first.spells ∙ flies-back z c f.base.back f.far_set first.frame flying) flying (new_message link text (record { settings = c; node = a.node })) refl)
+          came-tells text (data-came c z g f its_own link a.node text first.frame (ap read_frame first.spells ∙ flies-back z c f.base.back f.far_set first.frame flying) flying (new_message link text (record { settings = c; node = a.node; reroutings = first_reroutings c })) refl)
 
   pub status_delivery-tells : Tells (DeliversStatus link) p
   status_delivery-tells = by (slice_get (in_flight p.near.incoming.statuses link) 0) refl
@@ -448,7 +449,7 @@ module _ (c z : Configuration) (g : AreJoined c z) (f : AreFacing c z) (its_own 
           let frames : List FrameValue = s.to_near.statuses link in
           let first : IsFirst frames (in_flight p.near.incoming.statuses link) text = first-frame frames (in_flight p.near.incoming.statuses link) text (s.near_texts.statuses.each link) e in
           let telling : IsTelling first.frame = (subst (Each IsTelling) first.first (s.near_good.coming.statuses link)).0 in
-          came-tells text (status-came c z g f its_own link a.node text first.frame (ap read_frame first.spells ∙ tells-back first.frame telling) telling (new_message link text (record { settings = c; node = a.node })) refl)
+          came-tells text (status-came c z g f its_own link a.node text first.frame (ap read_frame first.spells ∙ tells-back first.frame telling) telling (new_message link text (record { settings = c; node = a.node; reroutings = first_reroutings c })) refl)
 
 pub tells : deliveries_tell
 tells near far steps g =

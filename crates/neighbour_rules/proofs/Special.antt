@@ -1,4 +1,5 @@
 -- Between two nodes that have only each other, each step does what it does in `pair_rules`.
+use Rattle.exchange_rules.specs.State.{Reroutings}
 use Rattle.pair_rules.proofs.Basics.{◌≡◌, ◌<◌, ◌≤◌, ◌+◌, count_by, drop, ℕ, Ok, Bool, true, false, not, ◌&&◌, suc, List, [], ◌∷◌, ◌++◌, length, map, Option, Some, None, refl, ap, sym, subst, ◌∙◌, nat_eq, arith, if◌then◌else◌, All, slice_get, option_to_list, eq-eqb, ◌||◌, IsDistinct, list_any, nat_tests, slice_index_or}
 use Rattle.std.proofs.lemmas.Option.{slice_get-get_or, slice_get_past}
 use Rattle.pair_rules.proofs.Definitions.{DestinationEntry, IsWell, IsDestination, LeadsOnlyTo, Message, dpc_of, is_management, Configuration, LinkEntry, FrameValue, read_frame, Node, WholeQueues, queue_at, whole, FrameCame, Submitted, entry_of, peer_of, link_with_code, wanted, Nothing, Open, Close, brought_in, new_message, users_of, frame_taken, frame_to_take, PairState, Streams, in_flight, may_open_at, first_pair, without_data, without_status, turned, AreJoined}
@@ -127,9 +128,9 @@ sharing-own near far g = (let own : AreOwn near far (are-facing near far (sharin
 
 -- ---- what is done at the near end
 
-module _ (c z : Configuration) (g : AreJoined c z) (n m : Node WholeQueues) (ni fi : Streams) (nv fv : List Bool) (na nr fa fr : List Message) where
+module _ (c z : Configuration) (g : AreJoined c z) (n m : Node WholeQueues) (nb fb : Reroutings) (ni fi : Streams) (nv fv : List Bool) (na nr fa fr : List Message) where
   abbrev p : PairState
-  p = record { near = end_with c n ni nv na nr; far = end_with z m fi fv fa fr }
+  p = record { near = end_with c n nb ni nv na nr; far = end_with z m fb fi fv fa fr }
 
   module _ (f : AreFacing c z) (s : Stands c z f p) where
     abbrev a : Abstract
@@ -273,7 +274,7 @@ near-same : (c z : Configuration) (g : AreJoined c z) (f : AreFacing c z) (what 
 near-same c z g f what p s =
     let e : p ≡ with_settings c z p = written c z p s.near_settings s.far_settings in
     subst (λ (q : PairState). did_between what q ≡ pairs.did what q) (sym e)
-    (did-same c z g p.near.exchange.node p.far.exchange.node p.near.incoming p.far.incoming p.near.following p.far.following p.near.accepted p.near.received p.far.accepted p.far.received f (subst (Stands c z f) e s) what)
+    (did-same c z g p.near.exchange.node p.far.exchange.node p.near.exchange.reroutings p.far.exchange.reroutings p.near.incoming p.far.incoming p.near.following p.far.following p.near.accepted p.near.received p.far.accepted p.far.received f (subst (Stands c z f) e s) what)
 
 -- settings that face each other, seen from the far node
 pub joined-back : (c z : Configuration) → AreJoined c z → AreJoined z c
@@ -296,7 +297,7 @@ near-waits : (c z : Configuration) (g : AreJoined c z) (f : AreFacing c z) (p : 
 near-waits c z g f p s =
     let e : p ≡ with_settings c z p = written c z p s.near_settings s.far_settings in
     subst (λ (q : PairState). waiting q ≡ alone.waiting q) (sym e)
-    (waiting-same c z g p.near.exchange.node p.far.exchange.node p.near.incoming p.far.incoming p.near.following p.far.following p.near.accepted p.near.received p.far.accepted p.far.received f (subst (Stands c z f) e s))
+    (waiting-same c z g p.near.exchange.node p.far.exchange.node p.near.exchange.reroutings p.far.exchange.reroutings p.near.incoming p.far.incoming p.near.following p.far.following p.near.accepted p.near.received p.far.accepted p.far.received f (subst (Stands c z f) e s))
 
 as-once : (p : PairState) → waiting p ≡ alone.waiting p → EachOnce p → alone.EachOnce p
 as-once p e h = λ test. h test ∙ ap (λ (ms : List Message). count_by (user test) p.far.received + count_by (user test) ms) e

@@ -1,4 +1,7 @@
 -- Two exchanges after some steps, as the machine of moves shows them; and what each step at the near end does to that.
+use Rattle.exchange_rules.specs.State.{Reroutings}
+use Rattle.exchange_rules.specs.Routing.{facts}
+use Rattle.exchange_rules.specs.Reroutings.{counted, first_reroutings}
 use Rattle.pair_rules.proofs.Basics.{◌≡◌, ℕ, Bool, false, List, [], length, nat_lt, None, refl, slice_get, subst, ◌∙◌}
 use Rattle.pair_rules.proofs.Definitions.{Message, Configuration, Reading, Node, Happening, WholeQueues, whole, apply, handle_event, done-waits, PairState, LostNothing, Streams, happens, may_follow, turned}
 use Rattle.pair_moves.specs.Ends as ends
@@ -85,16 +88,20 @@ regood c z j x y other f g h m n s t a = record {
 
 -- ---- something happens at the near end
 
-module _ (c z : Configuration) (a : AreFacing c z) (n m : Node WholeQueues) (ni fi : Streams) (nv fv : List Bool) (na nr fa fr : List Message) where
+module _ (c z : Configuration) (a : AreFacing c z) (n m : Node WholeQueues) (nb fb : Reroutings) (ni fi : Streams) (nv fv : List Bool) (na nr fa fr : List Message) where
   abbrev pub p : PairState
-  p = record { near = end_with c n ni nv na nr; far = end_with z m fi fv fa fr }
+  p = record { near = end_with c n nb ni nv na nr; far = end_with z m fb fi fv fa fr }
 
   -- its node, what comes to it and its books are these then
-  abbrev pub left : Node WholeQueues → Streams → (accepted received : List Message) → PairState
-  left o i accepted received = record { near = end_with c o i nv accepted received; far = end_with z m fi fv fa fr }
+  abbrev pub left_by : Reroutings → Node WholeQueues → Streams → (accepted received : List Message) → PairState
+  left_by b o i accepted received = record { near = end_with c o b i nv accepted received; far = end_with z m fb fi fv fa fr }
 
-  pub near-stands : (s : Stands c z a p) (o : Node WholeQueues) (i : Streams) (accepted received : List Message) (f : Flying) → Waits c o → KnowsPoints c o → AreStreams c i f → ((link : ℕ) → IsAway c z link → IsQuiet f link)
-      → Passes c z (near_joint c z a) (world_of p s.to_near s.to_far) (world_of (left o i accepted received) f s.to_far) → Stands c z a (left o i accepted received)
+  -- after an event
+  abbrev pub left : Node WholeQueues → Streams → (accepted received : List Message) → PairState
+  left o i accepted received = left_by (counted c (facts c o.parts) nb) o i accepted received
+
+  pub near-stands : {b : Reroutings} (s : Stands c z a p) (o : Node WholeQueues) (i : Streams) (accepted received : List Message) (f : Flying) → Waits c o → KnowsPoints c o → AreStreams c i f → ((link : ℕ) → IsAway c z link → IsQuiet f link)
+      → Passes c z (near_joint c z a) (world_of p s.to_near s.to_far) (world_of (left_by b o i accepted received) f s.to_far) → Stands c z a (left_by b o i accepted received)
   near-stands s o i accepted received f waits knows texts quiet passes = record {
     near_settings = refl;
     far_settings = refl;
@@ -123,5 +130,5 @@ module _ (c z : Configuration) (a : AreFacing c z) (n m : Node WholeQueues) (ni 
       → Stands c z a p → Stands c z a (happens what p).left
   happens-stands what passes s =
       let w : World = world_of p s.to_near s.to_far in
-      near-stands s (apply whole c what n).left ni na nr s.to_near (done-waits what (record { settings = c; node = n })) (event-knows c what n s.near_knows) s.near_texts s.near_quiet
+      near-stands s (apply whole c what n).left ni na nr s.to_near (done-waits what (record { settings = c; node = n; reroutings = first_reroutings c })) (event-knows c what n s.near_knows) s.near_texts s.near_quiet
       (event-passes c z (near_joint c z a) what w w n (passes w))

@@ -1,6 +1,8 @@
 -- Each step of a pair goes by moves.
+use Rattle.exchange_rules.specs.State.{Reroutings}
+use Rattle.exchange_rules.specs.Reroutings.{first_reroutings}
 use Rattle.pair_rules.proofs.Basics.{◌≡◌, ◌≢◌, ◌<◌, ℕ, Bool, List, [], ◌∷◌, ◌++◌, length, Option, Some, None, Ok, refl, ap, sym, subst, ◌∙◌, drop, slice_get, slice_set, take, ⊎_elim, cases_eq}
-use Rattle.pair_rules.proofs.Definitions.{Message, Outcome, Configuration, FrameValue, EmptyFrame, MessageFrame, StatusFrame, spelled, read_frame, Node, Happening, FrameCame, Submitted, WholeQueues, whole, whither_goes, apply, handle_event, outcome_of, frame_to_take, after_take, frame_taken, done-waits, PairState, Streams, change_statuses, in_flight, may_follow, brought_in, brought_to, new_message}
+use Rattle.pair_rules.proofs.Definitions.{Message, Outcome, Configuration, FrameValue, EmptyFrame, MessageFrame, StatusFrame, spelled, read_frame, Node, Happening, FrameCame, Submitted, WholeQueues, whole, whither_goes, apply, handle_event, frame_to_take, after_take, frame_taken, done-waits, PairState, Streams, change_statuses, in_flight, may_follow, brought_in, brought_to, new_message}
 use Rattle.std.specs.Prelude.{map}
 use Rattle.exchange_rules.proofs.Settling.{take-waits}
 use Rattle.pair_rules.specs.Pairs as pairs
@@ -28,7 +30,7 @@ use Rattle.neighbour_rules.proofs.Standing.{IsAway, IsQuiet, Stands, near-stands
 
 -- ---- what becomes of an event is what its rule says
 
-pub outcome-same : (c : Configuration) (what : Happening) (n : Node WholeQueues) → outcome_of whole what (record { settings = c; node = n }) ≡ (handle_event whole c what n).outcome
+pub outcome-same : (c : Configuration) (what : Happening) (n : Node WholeQueues) → (apply whole c what n).outcome ≡ (handle_event whole c what n).outcome
 unfolding apply
 outcome-same c what n = refl
 
@@ -74,9 +76,9 @@ module _ (c z : Configuration) (a : AreFacing c z) where
 
   -- ---- what is done at the near end
 
-  module _ (n m : Node WholeQueues) (ni fi : Streams) (nv fv : List Bool) (na nr fa fr : List Message) where
+  module _ (n m : Node WholeQueues) (nb fb : Reroutings) (ni fi : Streams) (nv fv : List Bool) (na nr fa fr : List Message) where
     abbrev p : PairState
-    p = record { near = end_with c n ni nv na nr; far = end_with z m fi fv fa fr }
+    p = record { near = end_with c n nb ni nv na nr; far = end_with z m fb fi fv fa fr }
 
     -- a user part hands a message over
     pub submit-stands : (message : Message) → Stands c z a p → Stands c z a (takes_in_for a.base.there (Submitted message) p).left
@@ -84,8 +86,8 @@ module _ (c z : Configuration) (a : AreFacing c z) where
         let w : World = world_of p s.to_near s.to_far in
         let known : brought_to (whither_goes c message) (handle_event whole c (Submitted message) n).outcome c message n ≡ brought_in (Submitted message) p.near.exchange =
         ap (λ (o : Outcome). brought_to (whither_goes c message) o c message n) (sym (outcome-same c (Submitted message) n)) in
-        near-stands c z a n m ni fi nv fv na nr fa fr s (apply whole c (Submitted message) n).left ni (na ++ users_to a.base.there (brought_in (Submitted message) p.near.exchange)) nr s.to_near
-        (done-waits (Submitted message) (record { settings = c; node = n })) (event-knows c (Submitted message) n s.near_knows) s.near_texts s.near_quiet
+        near-stands c z a n m nb fb ni fi nv fv na nr fa fr s (apply whole c (Submitted message) n).left ni (na ++ users_to a.base.there (brought_in (Submitted message) p.near.exchange)) nr s.to_near
+        (done-waits (Submitted message) (record { settings = c; node = n; reroutings = first_reroutings c })) (event-knows c (Submitted message) n s.near_knows) s.near_texts s.near_quiet
         (subst (λ (ms : List Message). Passes c z j (at c z j w n [] []) (at c z j (accepting c z j w ms) (apply whole c (Submitted message) n).left [] [])) known
         (submitting-passes c z j message w n s.near_waits))
 
@@ -95,7 +97,7 @@ module _ (c z : Configuration) (a : AreFacing c z) where
     abbrev seen_there : Flying → Flying → Node WholeQueues → World
     seen_there to_near to_far o = record {
       near = rests p.far;
-      far = rests (end_with c o ni nv na nr);
+      far = rests (end_with c o nb ni nv na nr);
       to_near = to_far;
       to_far = to_near;
       near_may = λ other. may_follow p.far other;
@@ -137,7 +139,7 @@ module _ (c z : Configuration) (a : AreFacing c z) where
     put other frame g = changed_at other (g other ++ frame ∷ []) g
 
     abbrev fetched_pair : Streams → ℕ → PairState
-    fetched_pair incoming link = record { near = end_with c (after_take whole c link n) ni nv na nr; far = end_with z m incoming fv fa fr }
+    fetched_pair incoming link = record { near = end_with c (after_take whole c link n) nb ni nv na nr; far = end_with z m fb incoming fv fa fr }
 
     there : (link : ℕ) (frame : FrameValue) → Stands c z a p → frame_taken whole c link n ≡ Some frame → link < length c.links
     there link frame s e = subst (λ (i : ℕ). link < i) s.near_good.fits.places.parts.links (taken-there c link n frame e)
@@ -237,7 +239,7 @@ module _ (c z : Configuration) (a : AreFacing c z) where
 
     away-fetched : (link : ℕ) (frame : FrameValue) → Stands c z a p → frame_taken whole c link n ≡ Some frame → IsAway c z link → Stands c z a (take_frame (Some frame) link None p).left
     away-fetched link frame s e away =
-        near-stands c z a n m ni fi nv fv na nr fa fr s (after_take whole c link n) ni na nr s.to_near (take-waits c link n s.near_waits) (take-knows c link n s.near_knows) s.near_texts s.near_quiet
+        near-stands c z a n m nb fb ni fi nv fv na nr fa fr s (after_take whole c link n) ni na nr s.to_near (take-waits c link n s.near_waits) (take-knows c link n s.near_knows) s.near_texts s.near_quiet
         (away-takes c z j (world_of p s.to_near s.to_far) link n (of-no-set c z j link away (there link frame s e)))
 
     pub take-stands : (link : ℕ) → Stands c z a p → Stands c z a (take_frame (frame_to_take whole p.near.exchange link) link (far_end p link) p).left
@@ -272,8 +274,8 @@ module _ (c z : Configuration) (a : AreFacing c z) where
             let h : HasLine link = has-line link (g link) first.frame first.rest first.first (λ away. (s.near_quiet link away).user_data) in
             let f : ℕ → List FrameValue = changed_at link first.rest g in
             let flying : IsFlying z c a.base.back a.far_set first.frame = (subst (Each (IsFlying z c a.base.back a.far_set)) first.first (s.near_good.coming.user_data link)).0 in
-            near-stands c z a n m ni fi nv fv na nr fa fr s (apply whole c (FrameCame link text) n).left (pairs.without_data link ni) _ _ (record s.to_near { user_data = f })
-            (done-waits (FrameCame link text) (record { settings = c; node = n })) (event-knows c (FrameCame link text) n s.near_knows)
+            near-stands c z a n m nb fb ni fi nv fv na nr fa fr s (apply whole c (FrameCame link text) n).left (pairs.without_data link ni) _ _ (record s.to_near { user_data = f })
+            (done-waits (FrameCame link text) (record { settings = c; node = n; reroutings = first_reroutings c })) (event-knows c (FrameCame link text) n s.near_knows)
             (record {
               statuses = s.near_texts.statuses;
               user_data = texts-changed c ni.user_data g link (drop 1 (in_flight ni.user_data link)) first.rest s.near_texts.user_data h.line.here first.left;
@@ -319,8 +321,8 @@ module _ (c z : Configuration) (a : AreFacing c z) where
         by (Some text) e =
             let i : FirstStatus s link text = first-status s link text e in
             let f : ℕ → List FrameValue = changed_at link i.first.rest s.to_near.statuses in
-            near-stands c z a n m ni fi nv fv na nr fa fr s (apply whole c (FrameCame link text) n).left (pairs.without_status link ni) _ _ (record s.to_near { statuses = f })
-            (done-waits (FrameCame link text) (record { settings = c; node = n })) (event-knows c (FrameCame link text) n s.near_knows)
+            near-stands c z a n m nb fb ni fi nv fv na nr fa fr s (apply whole c (FrameCame link text) n).left (pairs.without_status link ni) _ _ (record s.to_near { statuses = f })
+            (done-waits (FrameCame link text) (record { settings = c; node = n; reroutings = first_reroutings c })) (event-knows c (FrameCame link text) n s.near_knows)
             (retold-texts s link (drop 1 (in_flight ni.statuses link)) i.first.rest i.its.line.here i.first.left) (retold-quiet s link i.first.rest i.its)
             (status-comes c z j (world_of p s.to_near s.to_far) n link text s.near_waits s.near_knows f i.first.frame (first-of s.to_near.statuses link (in_flight ni.statuses link) text i.first i.its)
             (ap read_frame i.first.spells ∙ tells-back i.first.frame i.telling))
@@ -329,9 +331,9 @@ module _ (c z : Configuration) (a : AreFacing c z) where
     retold-stands : (s : Stands c z a p) (link : ℕ) (texts : List (List ℕ)) (next : List FrameValue) → HasLine link → texts ≡ map spelled next
         → Passes c z j (at c z j (world_of p s.to_near s.to_far) n [] [])
         (at c z j (record (world_of p s.to_near s.to_far) { to_near = record s.to_near { statuses = changed_at link next s.to_near.statuses } }) n [] [])
-        → Stands c z a (record { near = end_with c n (record ni { statuses = slice_set ni.statuses link texts }) nv na nr; far = end_with z m fi fv fa fr })
+        → Stands c z a (record { near = end_with c n nb (record ni { statuses = slice_set ni.statuses link texts }) nv na nr; far = end_with z m fb fi fv fa fr })
     retold-stands s link texts next h e x =
-        near-stands c z a n m ni fi nv fv na nr fa fr s n (record ni { statuses = slice_set ni.statuses link texts }) na nr (record s.to_near { statuses = changed_at link next s.to_near.statuses })
+        near-stands c z a n m nb fb ni fi nv fv na nr fa fr s n (record ni { statuses = slice_set ni.statuses link texts }) na nr (record s.to_near { statuses = changed_at link next s.to_near.statuses })
         s.near_waits s.near_knows (retold-texts s link texts next h.line.here e) (retold-quiet s link next h) x
 
     pub lose_status-stands : (link : ℕ) → Stands c z a p → Stands c z a (change_statuses (slice_get (in_flight ni.statuses link) 0) (pairs.without_status link ni) p).left

@@ -1,4 +1,5 @@
 -- The run in which a message comes from a third node, by computation, except whether it waits, which is looked at once.
+use Rattle.exchange_rules.specs.Exchange as rules
 use Rattle.pair_rules.proofs.Basics.{◌≡◌, ◌≤◌, ◌<◌, ℕ, zero, suc, Bool, true, false, List, [], ◌∷◌, ◌++◌, Some, refl, ap, sym, subst, ◌∙◌, arith, nat_eq, IsTrue, slice_get, IsDistinct, list_any, true≢false, All-from_recursion}
 use Rattle.pair_rules.proofs.Definitions.{Message, flow_of, Configuration, SetEntry, LinkEntry, LINKS, SETS, DESTINATIONS, POOL, WINDOW, TICKS, IsLink, IsSet, IsDestination, IsTitle, IsWell, IsWithin, all_ticks, is_led_first, set_timer, start_unless_running, clear_timer, clear_set, due_name, after_due, due_count, first_sets, choice_among, link_by, Procedure, any_flow, flows, HoldSet, holds, is_held, held_by, none_at_first, Done, Node, lost_any, late_any, WholeQueues, whole, no_room_for, waits, link_of, Outcome, FrameCame, accept_text, read_frame, receive, deliver, outcome_of, new_message, brought_by, brought_in, apply, settled, take_back_each, PairState, taken_in}
 use Rattle.timers.specs.Timers.{names_of}
@@ -125,7 +126,7 @@ abbrev first : Node WholeQueues
 first = served.near.exchange.node
 
 abbrev exchange : Abstract
-exchange = record { settings = near_settings; node = first }
+exchange = record { settings = near_settings; node = first; reroutings = served.near.exchange.reroutings }
 
 -- once its frame is accepted
 abbrev node : Node WholeQueues
@@ -139,7 +140,7 @@ offered n waiting = note_refusal 0 (offer whole near_settings (no_room_for whole
 abbrev leaving : Node WholeQueues → List Message → PairState
 leaving n ms = record served {
   near = record served.near {
-    exchange = record served.near.exchange { node = n };
+    exchange = rules.leaving served.near.exchange n;
     accepted = served.near.accepted ++ users_to served.far.exchange.settings.own ms;
   };
 }
@@ -182,11 +183,11 @@ brings o n = refl
 
 -- what comes of its frame
 comes-to : (c : Configuration) → served.near.exchange.settings ≡ c → heard
-    ≡ leaving (apply whole c (FrameCame 0 its_text) first).left (brought_in (FrameCame 0 its_text) (record { settings = c; node = first }))
+    ≡ leaving (apply whole c (FrameCame 0 its_text) first).left (brought_in (FrameCame 0 its_text) (record { settings = c; node = first; reroutings = served.near.exchange.reroutings }))
 comes-to c e =
     ap (λ (b : Bool). (takes_elsewhere b (speaks_for_either served its_text) (FrameCame 0 its_text) served).left) goes-elsewhere
     ∙ ap (λ (b : Bool). (takes_elsewhere true b (FrameCame 0 its_text) served).left) speaks-honestly
-    ∙ ap (λ (x : Configuration). leaving (apply whole x (FrameCame 0 its_text) first).left (brought_in (FrameCame 0 its_text) (record { settings = x; node = first }))) e
+    ∙ ap (λ (x : Configuration). leaving (apply whole x (FrameCame 0 its_text) first).left (brought_in (FrameCame 0 its_text) (record { settings = x; node = first; reroutings = served.near.exchange.reroutings }))) e
 
 its-outcome : outcome_of whole (FrameCame 0 its_text) exchange ≡ (offered node (waits near_settings node.parts.holds the_message)).outcome
 its-outcome = outcome-same near_settings (FrameCame 0 its_text) first ∙ ap (λ (d : Done WholeQueues). d.outcome) (delivers ∙ offers node)

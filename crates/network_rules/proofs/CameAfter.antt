@@ -1,5 +1,5 @@
 -- What the run shows in which a message comes after a restart, by computation.
-use Rattle.pair_rules.proofs.Basics.{◌≡◌, ◌<◌, ℕ, zero, suc, Bool, false, true, List, [], ◌∷◌, ap, refl, sym, subst, ◌∙◌, arith, length}
+use Rattle.pair_rules.proofs.Basics.{◌≡◌, ◌<◌, ℕ, zero, suc, false, true, List, [], ◌∷◌, ap, refl, sym, subst, ◌∙◌, arith, length}
 use Rattle.pair_rules.proofs.Definitions.{Message, set_timer, start_unless_running, clear_timer, clear_set, due_name, after_due, due_count, first_sets, choice_among, link_by, any_flow, flows, lost_any, apply, take_back_each}
 use Rattle.timers.specs.Timers.{names_of}
 use Rattle.routes.specs.Routes.{links_below}
@@ -13,7 +13,7 @@ use Rattle.pair_rules.specs.Pairs.{may_follow, may_open_at}
 use Rattle.neighbour_rules.specs.ThirdNode.{the_message}
 use Rattle.neighbour_rules.specs.Anew.{Stays, most}
 use Rattle.network_rules.specs.Networks.{Arrival, NetworkNode, NetworkState, end_of}
-use Rattle.network_rules.specs.Anew.{HaveLostNothingSince, IsQuietNode}
+use Rattle.network_rules.specs.Anew.{IsQuietNode}
 use Rattle.network_rules.specs.TwoFailures.{row, users_come}
 use Rattle.network_rules.specs.AfterRestart.{ComesAfterRestart, IsDone, broken, come}
 use Rattle.network_rules.proofs.LaidOut.{node_at}

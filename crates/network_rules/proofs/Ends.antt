@@ -1,4 +1,5 @@
 -- What one of two nodes that share a set sends elsewhere is no management of one of the two for the other.
+use Rattle.exchange_rules.specs.Reroutings.{first_reroutings}
 use Rattle.exchange_rules.proofs.Basics.{arith, nat_tests, ◌≡◌, ◌≢◌, ◌&&◌, ◌||◌, ℕ, zero, suc, Bool, true, false, not, List, [], ◌∷◌, Option, Some, None, Result, Ok, Err, refl, ap, sym, subst, ◌∙◌, if◌then◌else◌, slice_get, nat_eq, nat_lt, ◌-◌, list_all, list_any}
 use Rattle.exchange_rules.proofs.Definitions.{Message, is_management, opc_of, dpc_of, service_indicator, Configuration, Management, ChangebackDeclaration, MgmtFault, read_management, FrameValue, EmptyFrame, MessageFrame, StatusFrame, LinkStatus, Node, WholeQueues, queue_at, whole, Queue, Sending, frame_taken, next_message, may_send, message_first, status_first, link_at, set_of, apply, after_take, Happening, first_state}
 use Rattle.mtp3_codec.specs.declared.management.Management.TheVariants as kinds
@@ -93,13 +94,13 @@ module _ (c z : Configuration) (j : Joint c z) where
   pub event-ok : (what : Happening) (n : Node WholeQueues) → EndOk n → EndOk (apply whole c what n).left
   event-ok what n h = record {
     lone = (event-all (lone-all c j.shares.near_set z.own j.adjacent j.shares.near_leads j.adjacent_place) what n).stay h.lone;
-    onward = messages-stay (Happens what ∷ []) (record { settings = c; node = n }) j.near_well h.onward;
+    onward = messages-stay (Happens what ∷ []) (record { settings = c; node = n; reroutings = first_reroutings c }) j.near_well h.onward;
   }
 
   pub take-ok : (link : ℕ) (n : Node WholeQueues) → EndOk n → EndOk (after_take whole c link n)
   take-ok link n h = record {
     lone = (take-steps (lone-all c j.shares.near_set z.own j.adjacent j.shares.near_leads j.adjacent_place).rules link n tt).stay h.lone;
-    onward = messages-stay (Takes link ∷ []) (record { settings = c; node = n }) j.near_well h.onward;
+    onward = messages-stay (Takes link ∷ []) (record { settings = c; node = n; reroutings = first_reroutings c }) j.near_well h.onward;
   }
 
   -- a message that stands on a link that leads elsewhere

@@ -1,5 +1,5 @@
 -- Lists that are made up of two, each in its order.
-use Rattle.exchange_rules.proofs.Basics.{◌≡◌, ℕ, ◌+◌, Bool, true, false, not, List, [], ◌∷◌, ◌++◌, filter, refl, ap, sym, ◌∙◌, arith, if◌then◌else◌, count_by}
+use Rattle.exchange_rules.proofs.Basics.{◌≡◌, ℕ, ◌+◌, Bool, true, false, not, List, [], ◌∷◌, ◌++◌, filter, refl, ap, arith, if◌then◌else◌, count_by}
 use Rattle.exchange_rules.proofs.Definitions.{Message}
 use Rattle.pair_moves.specs.Laws.{one_if}
 use Rattle.pair_moves.proofs.Counts.{count-cons}

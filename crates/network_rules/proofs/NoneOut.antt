@@ -1,6 +1,6 @@
 -- No link of a network whose links are joined leads out, so nothing is done to it but steps.
 use Rattle.std.specs.Prelude.{nat_lt}
-use Rattle.pair_rules.proofs.Basics.{◌≡◌, ℕ, Bool, false, not, List, [], ◌∷◌, Option, Some, None, refl, ap, sym, subst, ◌∙◌, length, slice_get}
+use Rattle.pair_rules.proofs.Basics.{◌≡◌, ℕ, Bool, false, not, List, [], ◌∷◌, Option, Some, None, refl, ap, subst, ◌∙◌, length, slice_get}
 use Rattle.std.proofs.lemmas.Option.{get_or_from_slice_get, slice_get_within}
 use Rattle.exchange_rules.specs.Routing.{adjacent_of}
 use Rattle.pair_rules.proofs.Definitions.{Configuration, LinkEntry}

@@ -1,5 +1,8 @@
 -- What becomes of a message of a run at one node, where nothing holds its flow: as it is submitted, as it comes for
 -- another point, and as a changeover that held it completes.
+use Rattle.exchange_rules.specs.First.{Abstract}
+use Rattle.exchange_rules.specs.Reroutings.{counted, first_reroutings}
+use Rattle.exchange_rules.specs.Routing.{facts}
 use Rattle.pair_rules.proofs.Basics.{◌≡◌, ℕ, Bool, true, false, List, [], ◌∷◌, ◌++◌, Option, Some, None, map, refl, ap, sym, ◌∙◌, slice_get, slice_index_or, option_to_list, is_some}
 use Rattle.pair_rules.proofs.Definitions.{Message, Outcome, whither_goes, brought_to, flow_of, Configuration, Done, Node, WholeQueues, whole, no_room_for, waits, link_of, go_by, go_each, deliver, receive, read_frame, FrameCame, Submitted, new_message, handle_event, outcome_of, settled, in_flight, without_data, brought_in, brought_by, taken_in, accept_text}
 unfoldable use Rattle.exchange_rules.specs.Exchange.{apply}
@@ -23,15 +26,19 @@ offered m c from waiting n = offer whole c (no_room_for whole c m n) waiting (li
 abbrev pub third : Configuration
 third = end_settings 3 2
 
+-- an exchange with these settings, after an event that leaves this node
+abbrev left_of : Configuration → Abstract → Node WholeQueues → Abstract
+left_of c a n = record { settings = c; node = n; reroutings = counted c (facts c n.parts) a.reroutings }
+
 -- this is left of the exchange, and this enters
 abbrev entered_as : Done WholeQueues → List Message → NetworkNode → NetworkNode
-entered_as d ms x = record x { exchange = record { settings = third; node = d.left }; accepted = x.accepted ++ ms; entered = x.entered ++ ms }
+entered_as d ms x = record x { exchange = left_of third x.exchange d.left; accepted = x.accepted ++ ms; entered = x.entered ++ ms }
 
 abbrev submitted_as : Message → Configuration → NetworkNode → NetworkNode
 submitted_as m c x = record x {
-  exchange = record { settings = c; node = (apply whole c (Submitted m) x.exchange.node).left };
-  accepted = x.accepted ++ brought_in (Submitted m) (record { settings = c; node = x.exchange.node });
-  entered = x.entered ++ brought_in (Submitted m) (record { settings = c; node = x.exchange.node });
+  exchange = left_of c x.exchange (apply whole c (Submitted m) x.exchange.node).left;
+  accepted = x.accepted ++ brought_in (Submitted m) (record { settings = c; node = x.exchange.node; reroutings = x.exchange.reroutings });
+  entered = x.entered ++ brought_in (Submitted m) (record { settings = c; node = x.exchange.node; reroutings = x.exchange.reroutings });
 }
 
 abbrev queued_as : Message → Done WholeQueues → NetworkNode → NetworkNode
@@ -70,7 +77,7 @@ module _ (m : Message) (on : GoesOn m) where
 
 abbrev booked_with : (link : ℕ) → Option Message → Configuration → (brought : List Message) → Done WholeQueues → NetworkNode → NetworkNode
 booked_with link new c brought d x = record x {
-  exchange = record { settings = c; node = d.left };
+  exchange = left_of c x.exchange d.left;
   incoming = without_data link x.incoming;
   accepted = x.accepted ++ brought;
   arrived = x.arrived ++ map (λ (m : Message). record { link = link; message = m }) (option_to_list new);
@@ -82,10 +89,10 @@ abbrev booked_as : (link : ℕ) → Option Message → Configuration → (accept
 booked_as link new c accepted d x = booked_with link new c (brought_by new d.outcome c accepted) d x
 
 abbrev accepted_of : (link : ℕ) (text : List ℕ) → Configuration → Node WholeQueues → Node WholeQueues
-accepted_of link text c n = accept_text link (read_frame text) (record { settings = c; node = n })
+accepted_of link text c n = accept_text link (read_frame text) (record { settings = c; node = n; reroutings = first_reroutings c })
 
 abbrev pub new_of : (link : ℕ) (text : List ℕ) → Configuration → Node WholeQueues → Option Message
-new_of link text c n = new_message link text (record { settings = c; node = n })
+new_of link text c n = new_message link text (record { settings = c; node = n; reroutings = first_reroutings c })
 
 abbrev delivered_as : (link : ℕ) (text : List ℕ) → Configuration → NetworkNode → NetworkNode
 delivered_as link text c x =
@@ -142,7 +149,7 @@ abbrev released : Configuration → Done WholeQueues → (waiting : Bool) → No
 released c d waiting = tell_owed whole c (go_by whole c waiting the_message (record d.left { queues = whole.without_held d.left.queues }))
 
 abbrev gone_on : (link : ℕ) (text : List ℕ) → Configuration → Node WholeQueues → NetworkNode → NetworkNode
-gone_on link text c n x = record (delivered_as link text c x) { exchange = record { settings = c; node = n } }
+gone_on link text c n x = record (delivered_as link text c x) { exchange = left_of c x.exchange n }
 
 abbrev pub completed : (link : ℕ) (text : List ℕ) → Configuration → NetworkNode → NetworkNode
 completed link text c x = gone_on link text c (released c (ends link text c x) false) x

@@ -5,7 +5,7 @@ use Rattle.exchange_rules.proofs.Basics.{eqb-true}
 use Rattle.signalling_types.specs.Message.{dpc_of, opc_of, service_indicator}
 use Rattle.settings.specs.Sharing.{LeadsAlone}
 use Rattle.exchange_rules.specs.Laws.{carried_message}
-use Rattle.exchange_rules.specs.Routing.{adjacent_of, peer_of}
+use Rattle.exchange_rules.specs.Routing.{adjacent_of}
 use Rattle.exchange_rules.specs.State.{CameUp}
 use Rattle.pair_rules.proofs.Definitions.{Message, Configuration, LinkEntry, SetEntry, PairState, turned, read_frame}
 use Rattle.pair_rules.specs.Sharing.{AreSharing}
@@ -19,7 +19,7 @@ use Rattle.network_rules.proofs.AllRuns.{HasPoints, changed-keeps, did-keeps}
 use Rattle.network_rules.proofs.Ends.{fine-both, is_fine}
 use Rattle.network_rules.proofs.Nodes.{Next, Terms, turned_terms, away-heard, idle, opened-away}
 use Rattle.network_rules.proofs.Places.{not-equal}
-use Rattle.network_rules.proofs.Quiet.{IsOk, IsQuiet, delivered, fine, happened, quiet-changed}
+use Rattle.network_rules.proofs.Quiet.{IsQuiet, delivered, fine, happened, quiet-changed}
 use Rattle.network_rules.proofs.Runs.{NextOf, alike-turned_for, here-next, next-turned, still-next}
 use Rattle.network_rules.proofs.Texts.{IsHarmless, same-some}
 

@@ -1,6 +1,7 @@
 -- So it is with whole events: with frames, with ticks, with a link that opens, and with all others.
+use Rattle.exchange_rules.specs.Reroutings.{first_reroutings}
 use Rattle.exchange_rules.proofs.Basics.{◌≡◌, ◌<◌, ◌&&◌, ◌+◌, ℕ, zero, suc, Bool, true, false, not, List, [], ◌++◌, Option, Some, None, Result, Ok, Err, refl, ap, ◌∙◌, arith, if◌then◌else◌, take}
-use Rattle.exchange_rules.proofs.Definitions.{Message, Configuration, FrameFault, FrameValue, EmptyFrame, MessageFrame, StatusFrame, read_frame, SeqFault, Action, UserData, Status, Alignment, Standing, Link, is_down, is_in_service, may_restart, acts_on, accept_answer, unconfirmed, count_confirmed, Node, with_parts, answer, refuse, WholeQueues, queue_at, whole, Carrying, carries, empty_data, message_data, numbers, accept, handle_by, act_by_data, receive_data, read, advance, is_link, link_at, down, may_open, open_link, association_up, changeover_of, title_refusal, with_timers, run_due, run_next, run_times, tick, with_expiry, complete_if, ChangeoverTimer, release, tell_owed, handle_event, apply, Happening, CameUp, WentDown, FrameCame, Ticked, Submitted, Activated, Deactivated, Released, TitleAdded, TitleRemoved, whither_goes, AreLinksSteady, IsSteady, is_l7_running}
+use Rattle.exchange_rules.proofs.Definitions.{Message, Configuration, FrameFault, FrameValue, EmptyFrame, MessageFrame, StatusFrame, read_frame, SeqFault, Action, UserData, Alignment, Standing, Link, is_down, is_in_service, may_restart, acts_on, accept_answer, unconfirmed, count_confirmed, Node, with_parts, answer, refuse, WholeQueues, queue_at, whole, Carrying, carries, empty_data, message_data, numbers, accept, handle_by, act_by_data, receive_data, read, advance, is_link, link_at, down, may_open, open_link, association_up, changeover_of, title_refusal, with_timers, run_due, run_next, run_times, tick, with_expiry, complete_if, ChangeoverTimer, release, tell_owed, handle_event, apply, Happening, CameUp, WentDown, FrameCame, Ticked, Submitted, Activated, Deactivated, Released, TitleAdded, TitleRemoved, whither_goes, AreLinksSteady, IsSteady, is_l7_running}
 use Rattle.exchange_rules.proofs.Definitions.{Gone, nothing_gone, both_gone, gone_by_completion, gone_by_new, confirmed_by, confirmed_at, confirmed_in, confirmed_of, gone_by_timer, gone_by_timers, gone_by_tick, new_at, new_by, new_in, new_of, new_message, accept_data, accept_frame, accept_text}
 use Rattle.exchange_rules.specs.ChangingOver.{barred}
 use Rattle.exchange_rules.specs.Conserving.{confirmed}
@@ -82,7 +83,7 @@ module _ (c : Configuration) (fits : MayMake c) where
   data-comes link d n = act-comes (acts_on (link_at n.parts link) UserData) link d n
 
   frame-comes : (link : ℕ) (x : Result FrameValue FrameFault) (n : Node WholeQueues)
-      → Comes c link (new_of x link c n) n.queues (read whole c link x n).left (confirmed_of x link c n) (gone_by_new (new_of x link c n) c (accept_text link x (record { settings = c; node = n })))
+      → Comes c link (new_of x link c n) n.queues (read whole c link x n).left (confirmed_of x link c n) (gone_by_new (new_of x link c n) c (accept_text link x (record { settings = c; node = n; reroutings = first_reroutings c })))
   frame-comes link (Ok (EmptyFrame bsn fsn)) n = data-comes link (empty_data bsn fsn) n
   frame-comes link (Ok (MessageFrame bsn fsn sio sif)) n = data-comes link (message_data bsn fsn sio sif) n
   frame-comes link (Ok (StatusFrame bsn fsn status)) n = quiet (link_status-keeps c any_message f r link status n).queues refl refl refl
@@ -92,7 +93,7 @@ module _ (c : Configuration) (fits : MayMake c) where
       → Comes c link (if is_there && not is_down then new_of x link c n else None) n.queues
       (if is_there then (if is_down then answer Ignored n else read whole c link x n) else refuse causes.NoSuchName n).left
       (if is_there && not is_down then confirmed_of x link c n else [])
-      (gone_by_new (if is_there && not is_down then new_of x link c n else None) c (accept_text link x (record { settings = c; node = n })))
+      (gone_by_new (if is_there && not is_down then new_of x link c n else None) c (accept_text link x (record { settings = c; node = n; reroutings = first_reroutings c })))
   receive-comes false is_down link x n = quiet (grown-same n.queues n.queues refl) refl refl refl
   receive-comes true true link x n = quiet (grown-same n.queues n.queues refl) refl refl refl
   receive-comes true false link x n = frame-comes link x n
@@ -102,14 +103,14 @@ module _ (c : Configuration) (fits : MayMake c) where
   comes-then link o qs m s ms g e (takes d count next h i l t) = takes d count next h i l (does-then m s e.queues t)
 
   pub frame-event : (link : ℕ) (text : List ℕ) (n : Node WholeQueues)
-      → Comes c link (new_message link text (record { settings = c; node = n })) n.queues (apply whole c (FrameCame link text) n).left (confirmed link text (record { settings = c; node = n }))
-      (gone_by_new (new_message link text (record { settings = c; node = n })) c (accept_text link (read_frame text) (record { settings = c; node = n })))
+      → Comes c link (new_message link text (record { settings = c; node = n; reroutings = first_reroutings c })) n.queues (apply whole c (FrameCame link text) n).left (confirmed link text (record { settings = c; node = n; reroutings = first_reroutings c }))
+      (gone_by_new (new_message link text (record { settings = c; node = n; reroutings = first_reroutings c })) c (accept_text link (read_frame text) (record { settings = c; node = n; reroutings = first_reroutings c })))
   unfolding apply
   frame-event link text n =
       let came : Done WholeQueues = receive whole c link text n in
       let d : Node WholeQueues = (handle_event whole c (FrameCame link text) n).left in
-      let o : Option Message = new_message link text (record { settings = c; node = n }) in
-      let ms : List Message = confirmed link text (record { settings = c; node = n }) in
+      let o : Option Message = new_message link text (record { settings = c; node = n; reroutings = first_reroutings c }) in
+      let ms : List Message = confirmed link text (record { settings = c; node = n; reroutings = first_reroutings c }) in
       comes-then link o n.queues d (tell_owed whole c (release whole c d)) ms _ (settled-grows d)
       (comes-then link o n.queues came.left d ms _ (late_by-keeps c any_message f r came.outcome came.left) (receive-comes (is_link n.parts link) (down n.parts link) link (read_frame text) n))
 

@@ -1,6 +1,6 @@
 -- So it is with every event, and with every frame that goes out.
-use Rattle.exchange_rules.proofs.Basics.{◌<◌, ◌^◌, ◌%◌, arith, ◌≡◌, ℕ, zero, suc, Bool, true, false, List, Option, Some, None, Result, Ok, Err, refl, ap, ◌∙◌, if◌then◌else◌, nat_eq, list_all}
-use Rattle.exchange_rules.proofs.Definitions.{Message, is_management, opc_of, service_indicator, Configuration, NoSuchName, Management, TrafficRestartAllowed, ExtendedChangeoverOrder, ExtendedChangeoverAcknowledgement, EmergencyChangeoverOrder, EmergencyChangeoverAcknowledgement, ChangebackDeclaration, ChangebackAcknowledgement, TransferProhibited, TransferRestricted, TransferAllowed, RouteSetTestProhibited, RouteSetTestRestricted, MgmtFault, Discrimination, UserData, Status, Allowed, Restricted, Prohibited, Node, Done, answer, refuse, WholeQueues, queue_at, whole, Queue, first_queue, accept_answer, to_send, SeqFault, carries, destination_place, set_place, is_link, link_at, down, route_about, from_afar, UserPartUnavailable}
+use Rattle.exchange_rules.proofs.Basics.{◌<◌, ◌^◌, ◌≡◌, ℕ, zero, suc, Bool, true, false, List, Option, Some, None, Result, Ok, Err, refl, ap, ◌∙◌, if◌then◌else◌, nat_eq, list_all}
+use Rattle.exchange_rules.proofs.Definitions.{Message, is_management, opc_of, service_indicator, Configuration, NoSuchName, Management, TrafficRestartAllowed, ExtendedChangeoverOrder, ExtendedChangeoverAcknowledgement, EmergencyChangeoverOrder, EmergencyChangeoverAcknowledgement, ChangebackDeclaration, ChangebackAcknowledgement, TransferProhibited, TransferRestricted, TransferAllowed, RouteSetTestProhibited, RouteSetTestRestricted, MgmtFault, Discrimination, UserData, Allowed, Restricted, Prohibited, Node, Done, answer, refuse, WholeQueues, queue_at, whole, Queue, first_queue, accept_answer, to_send, SeqFault, carries, destination_place, set_place, is_link, link_at, down, route_about, from_afar, UserPartUnavailable}
 use Rattle.exchange_rules.proofs.Definitions.{tell_owed, title_refusal}
 use Rattle.exchange_rules.proofs.Definitions.{is_adjacent, local, do_test, do_order, do_acknowledgement, do_management, link_with_code, manage, deliver_to, deliver, whither_goes, changeback_acknowledgement, changeover_of}
 use Rattle.exchange_rules.proofs.Definitions.{advance, acts_on, Carrying, empty_data, message_data, numbers, accept, carry, handle_by, act_by_data, receive_frame, read, receive, FrameValue, EmptyFrame, MessageFrame, StatusFrame, read_frame, carried_message, may_open, open_link, may_restart, association_up}

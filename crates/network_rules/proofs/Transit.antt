@@ -1,4 +1,5 @@
 -- A message for another point is queued, held or refused by the node to which it comes.
+use Rattle.exchange_rules.specs.Reroutings.{first_reroutings}
 use Rattle.exchange_rules.proofs.Basics.{◌≡◌, ◌&&◌, ℕ, Bool, true, false, not, List, [], ◌∷◌, ◌++◌, Option, Some, None, Result, Ok, Err, refl, ap, sym, subst, ◌∙◌, if◌then◌else◌, option_to_list, append-nil}
 use Rattle.std.proofs.Common.{map}
 use Rattle.exchange_rules.proofs.Definitions.{acts_on, Action, UserData, SeqFault, EmptyFrame, FrameValue, MessageFrame, StatusFrame, read_frame, Discrimination, Configuration, Message, dpc_of, flow_of, Cause, FrameFault, is_destination, offer, transfer, apply, Carrying, accept, act_by_data, carry, empty_data, handle_by, message_data, numbers, read, waits, down, is_link, link_at, deliver_to, whither_goes, no_room_for, WholeQueues, whole, new_at, new_by, new_of, new_message, link_of, Done, Node, answer, refuse, advance, FrameCame, brought_in, brought_by, brought_to, taken_in, accept_text}
@@ -73,8 +74,8 @@ module _ (c : Configuration) (link : ℕ) (m : Message) (label : Label) (away : 
   receive-goes true true r n e = absurd cc
   receive-goes true false r n e = frame-goes r n e
 
-  pub frame-outcome : (n : Node WholeQueues) (text : List ℕ) → new_message link text (record { settings = c; node = n }) ≡ Some m
-      → goes_on (outcome_of whole (FrameCame link text) (record { settings = c; node = n })) ≡ true
+  pub frame-outcome : (n : Node WholeQueues) (text : List ℕ) → new_message link text (record { settings = c; node = n; reroutings = first_reroutings c }) ≡ Some m
+      → goes_on (outcome_of whole (FrameCame link text) (record { settings = c; node = n; reroutings = first_reroutings c })) ≡ true
   unfolding apply
   frame-outcome n text e = receive-goes (is_link n.parts link) (down n.parts link) (read_frame text) n e
 

@@ -23,7 +23,7 @@ nothing-sent c link last_accepted last_sent n SendsNothing e = refl
 
 pub nothing-taken : (a : Abstract) (link : ℕ) → frame_to_take whole a link ≡ None → taken whole a link ≡ a
 nothing-taken a link e =
-    ap (λ (n : Node WholeQueues). record { settings = a.settings; node = n })
+    ap (λ (n : Node WholeQueues). record { settings = a.settings; node = n; reroutings = a.reroutings })
     (nothing-sent a.settings link (whole.last_accepted a.node.queues link) (whole.last_sent a.node.queues link) a.node (goes_out whole a.settings link a.node) e)
 
 pub is-there : (link count : ℕ) → link < count → nat_lt link count ≡ true

@@ -12,6 +12,7 @@ use Rattle.link.specs.declared.action.Action.{Action}
 use Rattle.link.specs.declared.action.Action.TheVariants as act
 use Rattle.link.specs.declared.action.Input.TheVariants.{UserData}
 use Rattle.link.specs.declared.fault.SeqFault.{SeqFault}
+use Rattle.exchange_rules.specs.Reroutings.{first_reroutings}
 use Rattle.exchange_rules.specs.State.{Node, answer, refuse, down, is_link, link_at}
 use Rattle.exchange_rules.specs.Queues.{WholeQueues, whole}
 use Rattle.exchange_rules.specs.Frames.{Carrying, accept, act_by_data, advance, carry, empty_data, handle_by, message_data, numbers, read, receive}
@@ -34,7 +35,7 @@ module _ (c : Configuration) (link : ℕ) (m : Message) where
       by-numbers (numbers whole c link d next) d next e
 
   by-read : (r : Result FrameValue FrameFault) (n : Node WholeQueues) → new_of r link c n ≡ Some m
-      → read whole c link r n ≡ deliver whole c link m (accept_text link r (record { settings = c; node = n }))
+      → read whole c link r n ≡ deliver whole c link m (accept_text link r (record { settings = c; node = n; reroutings = first_reroutings c }))
   by-read (Ok (EmptyFrame bsn fsn)) n e = by-action (acts_on (link_at n.parts link) UserData) (empty_data bsn fsn) n e
   by-read (Ok (MessageFrame bsn fsn sio sif)) n e =
       by-action (acts_on (link_at n.parts link) UserData) (message_data bsn fsn sio sif) n e
@@ -44,11 +45,11 @@ module _ (c : Configuration) (link : ℕ) (m : Message) where
   by-link : (is_there is_down : Bool) (r : Result FrameValue FrameFault) (n : Node WholeQueues)
       → (if is_there && not is_down then new_of r link c n else None) ≡ Some m
       → (if is_there then (if is_down then answer Ignored n else read whole c link r n) else refuse NoSuchName n)
-      ≡ deliver whole c link m (accept_text link r (record { settings = c; node = n }))
+      ≡ deliver whole c link m (accept_text link r (record { settings = c; node = n; reroutings = first_reroutings c }))
   by-link true false r n e = by-read r n e
   by-link true true r n e = absurd cc
   by-link false is_down r n e = absurd cc
 
-  pub delivers : (text : List ℕ) (n : Node WholeQueues) → new_message link text (record { settings = c; node = n }) ≡ Some m
-      → receive whole c link text n ≡ deliver whole c link m (accept_text link (read_frame text) (record { settings = c; node = n }))
+  pub delivers : (text : List ℕ) (n : Node WholeQueues) → new_message link text (record { settings = c; node = n; reroutings = first_reroutings c }) ≡ Some m
+      → receive whole c link text n ≡ deliver whole c link m (accept_text link (read_frame text) (record { settings = c; node = n; reroutings = first_reroutings c }))
   delivers text n e = by-link (is_link n.parts link) (down n.parts link) (read_frame text) n e

@@ -6,6 +6,7 @@ use Rattle.node_moves.proofs.LaidOut.{Four, network_of, placing, run, run-is}
 use Rattle.node_moves.specs.MatedPair.{mated, transfer_settings}
 use Rattle.node_moves.specs.Networks.{NetworkNode, NetworkState, Step, Submits, Delivers, after_steps, did_here, hear_data, made_of, named_by, next_in, updated}
 unfoldable use Rattle.exchange_rules.specs.Exchange.{apply}
+use Rattle.exchange_rules.specs.Reroutings.{first_reroutings}
 use Rattle.exchange_rules.specs.Conserving.{brought_by, brought_to, gone_by_release, taken_in}
 use Rattle.exchange_rules.specs.Exchange.{go_by, go_each, handle_event, ordered_late, settled}
 use Rattle.exchange_rules.specs.Frames.{receive}
@@ -84,10 +85,10 @@ abbrev booked_as : (link : ℕ) → Option Message → Configuration → (accept
 booked_as link new c accepted lost d x = booked_with link new c (brought_by new d.outcome c accepted) lost d x
 
 abbrev pub accepted_of : (link : ℕ) (text : List ℕ) → Configuration → Node WholeQueues → Node WholeQueues
-accepted_of link text c n = accept_text link (read_frame text) (record { settings = c; node = n })
+accepted_of link text c n = accept_text link (read_frame text) (record { settings = c; node = n; reroutings = first_reroutings c })
 
 abbrev pub new_of : (link : ℕ) (text : List ℕ) → Configuration → Node WholeQueues → Option Message
-new_of link text c n = new_message link text (record { settings = c; node = n })
+new_of link text c n = new_message link text (record { settings = c; node = n; reroutings = first_reroutings c })
 
 abbrev delivered_as : (link : ℕ) (text : List ℕ) → Configuration → NetworkNode → NetworkNode
 delivered_as link text c x = booked_as link (new_of link text c x.node) c (accepted_of link text c x.node) (named_by c (FrameCame link text) x) (apply whole c (FrameCame link text) x.node) x

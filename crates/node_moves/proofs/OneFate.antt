@@ -9,6 +9,7 @@ use Rattle.node_moves.proofs.Reading.{is_long}
 use Rattle.node_moves.specs.Fates.{HaveFates, goes_on, has_part, is_delivered, is_for_sccp, is_handled, is_local, is_refusal, is_refused, sccp_takes, is_sccp, is_taken_on}
 use Rattle.node_moves.specs.Laws.{any_fate, fates_that, is_user, users_that}
 use Rattle.node_moves.specs.Networks.{Fate, is_here, made_of}
+use Rattle.exchange_rules.specs.Reroutings.{first_reroutings}
 unfoldable use Rattle.exchange_rules.specs.Exchange.{apply}
 use Rattle.exchange_rules.specs.Conserving.{answered_in, brought_here, brought_to, relayed_in, returned_in, taken_in, unitdata_in}
 use Rattle.exchange_rules.specs.Exchange.{outcome_of}
@@ -361,27 +362,27 @@ user-not m e = not-management (is_long m) (is_management m) e
 
 module _ (c : Configuration) (n : Node WholeQueues) (m : Message) where
   -- in a frame: once that is accepted, the message is delivered
-  frame-outcome : (link : ℕ) (text : List ℕ) → new_message link text (record { settings = c; node = n }) ≡ Some m
-      → outcome_of whole (FrameCame link text) (record { settings = c; node = n })
-      ≡ (deliver_to whole c (whither_goes c m) link m (accept_text link (read_frame text) (record { settings = c; node = n }))).outcome
+  frame-outcome : (link : ℕ) (text : List ℕ) → new_message link text (record { settings = c; node = n; reroutings = first_reroutings c }) ≡ Some m
+      → outcome_of whole (FrameCame link text) (record { settings = c; node = n; reroutings = first_reroutings c })
+      ≡ (deliver_to whole c (whither_goes c m) link m (accept_text link (read_frame text) (record { settings = c; node = n; reroutings = first_reroutings c }))).outcome
   unfolding apply
   frame-outcome link text e = ap (λ (d : Done WholeQueues). d.outcome) (delivers c link m text n e)
 
-  pub frame-adds : (link : ℕ) (text : List ℕ) → new_message link text (record { settings = c; node = n }) ≡ Some m → (out : Outcome) → out ≡ outcome_of whole (FrameCame link text) (record { settings = c; node = n })
-      → let brought : List Message = brought_to (whither_goes c m) out c m (accept_text link (read_frame text) (record { settings = c; node = n })) in
+  pub frame-adds : (link : ℕ) (text : List ℕ) → new_message link text (record { settings = c; node = n; reroutings = first_reroutings c }) ≡ Some m → (out : Outcome) → out ≡ outcome_of whole (FrameCame link text) (record { settings = c; node = n; reroutings = first_reroutings c })
+      → let brought : List Message = brought_to (whither_goes c m) out c m (accept_text link (read_frame text) (record { settings = c; node = n; reroutings = first_reroutings c })) in
       Adds c (record { message = m; outcome = out } ∷ []) brought (made_of c (Some m) brought)
   frame-adds link text e out is =
-      let accepted : Node WholeQueues = accept_text link (read_frame text) (record { settings = c; node = n }) in
+      let accepted : Node WholeQueues = accept_text link (read_frame text) (record { settings = c; node = n; reroutings = first_reroutings c }) in
       subst (λ (o : Outcome). Adds c (record { message = m; outcome = o } ∷ []) (brought_to (whither_goes c m) o c m accepted) (made_of c (Some m) (brought_to (whither_goes c m) o c m accepted)))
       (sym (frame-outcome link text e) ∙ sym is)
       (adds-by c accepted m (λ d. (deliver_to whole c d link m accepted).outcome) (λ cause. refl) (whither_goes c m) refl
       (λ user. deliver-fit c accepted link m (user-not m user) (whither_goes c m) refl))
 
-  submit-outcome : outcome_of whole (Submitted m) (record { settings = c; node = n }) ≡ (submit_to whole c (whither_goes c m) m n).outcome
+  submit-outcome : outcome_of whole (Submitted m) (record { settings = c; node = n; reroutings = first_reroutings c }) ≡ (submit_to whole c (whither_goes c m) m n).outcome
   unfolding apply
   submit-outcome = refl
 
-  pub submit-adds : (out : Outcome) → out ≡ outcome_of whole (Submitted m) (record { settings = c; node = n })
+  pub submit-adds : (out : Outcome) → out ≡ outcome_of whole (Submitted m) (record { settings = c; node = n; reroutings = first_reroutings c })
       → Adds c (record { message = m; outcome = out } ∷ []) (brought_to (whither_goes c m) out c m n) (made_of c (Some m) (brought_to (whither_goes c m) out c m n))
   submit-adds out is =
       subst (λ (o : Outcome). Adds c (record { message = m; outcome = o } ∷ []) (brought_to (whither_goes c m) o c m n) (made_of c (Some m) (brought_to (whither_goes c m) o c m n)))

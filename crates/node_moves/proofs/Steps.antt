@@ -14,6 +14,7 @@ use Rattle.node_moves.proofs.Relining.{Leads, leads-none, leads-one, leads-goes,
 use Rattle.node_moves.proofs.Flights.{IsSameFlight, same-flight, changed-here, changed-other, updated-here, updated-other, only-changed, statuses-changed}
 use Rattle.node_moves.specs.Networks.{NetworkNode, NetworkState, IsNode, changed, happens, hand_over, with_statuses, state_of}
 use Rattle.node_moves.specs.Laws.{AreTheirs, IsUnbroken}
+use Rattle.exchange_rules.specs.Reroutings.{first_reroutings}
 use Rattle.exchange_rules.specs.Conserving.{brought_in, brought_to, gone, gone_by, gone_by_release}
 unfoldable use Rattle.exchange_rules.specs.Exchange.{apply}
 use Rattle.exchange_rules.specs.Exchange.{handle_event, outcome_of}
@@ -24,7 +25,7 @@ use Rattle.signalling_types.specs.declared.outcome.Outcome.{Outcome}
 use Rattle.sccp_codec.specs.declared.title.TitleKey.{TitleKey}
 use Rattle.settings_rows.specs.Configuration.{TitleEntry}
 
-pub outcome-same : (c : Configuration) (what : Happening) (n : Node WholeQueues) → outcome_of whole what (record { settings = c; node = n }) ≡ (handle_event whole c what n).outcome
+pub outcome-same : (c : Configuration) (what : Happening) (n : Node WholeQueues) → outcome_of whole what (record { settings = c; node = n; reroutings = first_reroutings c }) ≡ (handle_event whole c what n).outcome
 unfolding apply
 outcome-same c what n = refl
 
@@ -40,9 +41,9 @@ module _ (shape : Shape) (o : IsShape shape) (c : Configuration) (well : IsWell 
 
   -- where its rule names this, or less
   pub event-settles : (what : Happening) (v : Mid) (n : Node WholeQueues) (k : Books) → Goes shape c v (mid (handle_event whole c what n).left [] [] k)
-      → Goes shape c v (mid (apply whole c what n).left [] [] (naming k (gone what (record { settings = c; node = n })).lost))
+      → Goes shape c v (mid (apply whole c what n).left [] [] (naming k (gone what (record { settings = c; node = n; reroutings = first_reroutings c })).lost))
   event-settles what v n k e =
-      let lost : List Message = (gone_by what (record { settings = c; node = n })).lost in
+      let lost : List Message = (gone_by what (record { settings = c; node = n; reroutings = first_reroutings c })).lost in
       event-ends what v n k lost (names-more shape o c well v (handle_event whole c what n).left [] [] k lost e)
 
 module _ (settings : (point : ℕ) → Configuration) (t : AreTheirs settings) (shape : Shape) (o : IsShape shape) where

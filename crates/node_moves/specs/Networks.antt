@@ -9,6 +9,7 @@ use Rattle.settings_rows.specs.Configuration.{Configuration, TitleEntry}
 use Rattle.sccp_codec.specs.declared.title.TitleKey.{TitleKey}
 use Rattle.m2pa_codec.specs.Frames.{FrameValue, EmptyFrame, MessageFrame, StatusFrame, spelled}
 use Rattle.changeover.specs.Changeover.{may_restart}
+use Rattle.exchange_rules.specs.Reroutings.{first_reroutings}
 use Rattle.exchange_rules.specs.Conserving.{brought_in, gone}
 use Rattle.exchange_rules.specs.declared.wants.Wants.{Wants}
 use Rattle.exchange_rules.specs.declared.wants.Wants.TheVariants.{Open}
@@ -97,8 +98,9 @@ updated f place x = λ other. if nat_eq other place then x else f other
 abbrev pub changed : (point : ℕ) → (NetworkNode → NetworkNode) → NetworkState → NetworkState
 changed point change w = record { node = λ other. if nat_eq other point then change (w.node other) else w.node other }
 
+-- its exchange; no rule depends on what was rerouted
 abbrev pub state_of : Configuration → NetworkNode → Abstract
-state_of c x = record { settings = c; node = x.node }
+state_of c x = record { settings = c; node = x.node; reroutings = first_reroutings c }
 
 -- the next text in flight on a link of a node
 abbrev pub next_in : Configuration → (link : ℕ) → List (List ℕ) → Option (List ℕ)

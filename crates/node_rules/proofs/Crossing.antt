@@ -31,6 +31,7 @@ use Rattle.exchange_rules.specs.Routing.{waits, link_of}
 use Rattle.exchange_rules.specs.State as exchange
 use Rattle.exchange_rules.specs.State.{Done, lost_any, late_any}
 use Rattle.exchange_rules.specs.Exchange as rules
+use Rattle.exchange_rules.specs.First.{Abstract}
 use Rattle.exchange_rules.specs.Messages.{no_room_for, offer}
 use Rattle.exchange_rules.specs.Conserving.{taken_in}
 use Rattle.exchange_rules.specs.Queues.{WholeQueues}
@@ -69,29 +70,29 @@ abbrev submitting : Bool → exchange.Node WholeQueues → Books → Books
 submitting waiting n b =
     let d : Done WholeQueues = rules.settled whole near_settings (offer whole near_settings (no_room_for whole near_settings the_message n) waiting (link_of near_settings n.parts (flow_of the_message)) None the_message n) in
     record {
-      exchange = record { settings = near_settings; node = d.left };
+      exchange = rules.leaving b.exchange d.left;
       accepted = b.accepted ++ taken_in d.outcome the_message;
       received = b.received ++ [];
     }
 
--- of any node, so that nothing is computed of it
-submits-any : (n : exchange.Node WholeQueues) (accepted received : List Message)
-    → happened (exchange.Submitted the_message) (record { exchange = record { settings = near_settings; node = n }; accepted = accepted; received = received })
-    ≡ submitting (waits near_settings n.parts.holds the_message) n (record { exchange = record { settings = near_settings; node = n }; accepted = accepted; received = received })
-unfolding apply tell_owed
-submits-any n accepted received = refl
+-- an exchange with the near node's settings, at any node and with any reroutings
+abbrev exchange_at : exchange.Node WholeQueues → exchange.Reroutings → Abstract
+exchange_at n r = record { settings = near_settings; node = n; reroutings = r }
 
-abbrev submitted_by : Bool → World
-submitted_by waiting =
-    record served { near = record served.near { books = submitting waiting served.near.books.exchange.node served.near.books } }
+-- of any node, so that nothing is computed of it
+submits-any : (n : exchange.Node WholeQueues) (r : exchange.Reroutings) (accepted received : List Message)
+    → happened (exchange.Submitted the_message) (record { exchange = exchange_at n r; accepted = accepted; received = received })
+    ≡ submitting (waits near_settings n.parts.holds the_message) n (record { exchange = exchange_at n r; accepted = accepted; received = received })
+unfolding apply tell_owed
+submits-any n r accepted received = refl
 
 -- the settings are still the near node's
 abbrev with_settings : Books → Books
-with_settings b = record {
-  exchange = record { settings = near_settings; node = b.exchange.node };
-  accepted = b.accepted;
-  received = b.received;
-}
+with_settings b = record b { exchange = exchange_at b.exchange.node b.exchange.reroutings }
+
+abbrev submitted_by : Bool → World
+submitted_by waiting =
+    record served { near = record served.near { books = submitting waiting served.near.books.exchange.node (with_settings served.near.books) } }
 
 settings-stay : served.near.books ≡ with_settings served.near.books
 unfolding after going drained run_from blocks_from lost_from named_below passed_below given next_place gone_again gone_first confirmation confirmed settled acknowledged after_t3 apply tell_owed first_sets links_below status_of set_timer clear_timer start_unless_running clear_set due_name after_due due_count names_of choice_among link_by changes_of changes take_back_each owes_nothing any_flow flows
@@ -100,7 +101,7 @@ settings-stay = refl
 goes-in : submitted ≡ submitted_by (waits near_settings served.near.books.exchange.node.parts.holds the_message)
 goes-in =
     ap (λ b. record served { near = record served.near { books = happened (exchange.Submitted the_message) b } }) settings-stay
-    ∙ ap (λ b. record served { near = record served.near { books = b } }) (submits-any served.near.books.exchange.node served.near.books.accepted served.near.books.received)
+    ∙ ap (λ b. record served { near = record served.near { books = b } }) (submits-any served.near.books.exchange.node served.near.books.exchange.reroutings served.near.books.accepted served.near.books.received)
 
 free : waits near_settings served.near.books.exchange.node.parts.holds the_message ≡ false
 unfolding after going drained run_from blocks_from lost_from named_below passed_below given next_place gone_again gone_first confirmation confirmed settled acknowledged after_t3 apply tell_owed first_sets links_below status_of set_timer clear_timer start_unless_running clear_set due_name after_due due_count names_of choice_among link_by changes_of changes take_back_each owes_nothing any_flow flows

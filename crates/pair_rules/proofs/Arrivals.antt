@@ -1,6 +1,7 @@
 -- A frame that newly carries a message: what it leads to, and the node that the message comes to.
+use Rattle.exchange_rules.specs.Reroutings.{first_reroutings}
 use Rattle.pair_rules.proofs.Basics.{◌≡◌, ◌&&◌, ℕ, zero, suc, Bool, true, false, not, List, length, Option, Some, None, Result, Ok, Err, refl, subst, ◌∙◌, if◌then◌else◌, sym}
-use Rattle.pair_rules.proofs.Definitions.{Message, Ignored, Configuration, TitleEntry, FrameValue, EmptyFrame, MessageFrame, StatusFrame, read_frame, Action, UserData, acts_on, SeqFault, Facts, Node, Done, answer, refuse, down, is_link, link_at, WholeQueues, whole, Carrying, accept, accept_data, accept_frame, accept_text, act_by_data, carry, data_of, empty_data, handle_by, message_data, numbers, read, receive, receive_frame, deliver, new_at, new_by, new_in, new_message, new_of, advance, begun_anew_if, enters, enters_traffic, return_if, step_on, loses_flows, hold_flows, code_for, take_back_each, count_confirmed, facts, owing, Parts, with_parts, has_other, in_service, Cause, no_room}
+use Rattle.pair_rules.proofs.Definitions.{Message, Ignored, Configuration, FrameValue, EmptyFrame, MessageFrame, StatusFrame, read_frame, Action, UserData, acts_on, SeqFault, Facts, Node, Done, answer, refuse, down, is_link, link_at, WholeQueues, whole, Carrying, accept, accept_data, accept_frame, accept_text, act_by_data, carry, data_of, empty_data, handle_by, message_data, numbers, read, receive, receive_frame, deliver, new_at, new_by, new_in, new_message, new_of, advance, begun_anew_if, enters, enters_traffic, return_if, step_on, loses_flows, hold_flows, code_for, take_back_each, count_confirmed, facts, owing, Parts, with_parts, has_other, in_service, Cause, no_room}
 use Rattle.sccp_relay.specs.Statuses.{TitlesValue}
 use Rattle.signalling_types.specs.declared.cause.Cause.TheVariants as causes
 use Rattle.signalling_types.specs.declared.notice.FrameFault.{FrameFault}
@@ -35,7 +36,7 @@ module _ (c : Configuration) (link : ℕ) where
     framed-as (StatusFrame bsn fsn status) n e = absurd cc
 
     abbrev at_rest : Node WholeQueues → Abstract
-    at_rest n = record { settings = c; node = n }
+    at_rest n = record { settings = c; node = n; reroutings = first_reroutings c }
 
     read-as : (r : Result FrameValue FrameFault) (n : Node WholeQueues) → new_of r link c n ≡ Some m → P (read whole c link r n) (accept_text link r (at_rest n))
     read-as (Ok frame) n e = framed-as frame n e
@@ -101,7 +102,7 @@ module _ (c : Configuration) (link : ℕ) where
       ∙ returned-titles (enters_traffic link step n.parts) (facts c n.parts) (with_parts n (moved_on c link step n.parts))
       ∙ anew-titles (enters_traffic link step n.parts && not (has_other c link n.parts)) step n
 
-  pub accepted-titles : (r : Result FrameValue FrameFault) (n : Node WholeQueues) → (accept_text link r (record { settings = c; node = n })).parts.titles ≡ n.parts.titles
+  pub accepted-titles : (r : Result FrameValue FrameFault) (n : Node WholeQueues) → (accept_text link r (record { settings = c; node = n; reroutings = first_reroutings c })).parts.titles ≡ n.parts.titles
   accepted-titles (Ok (EmptyFrame bsn fsn)) n = acted-titles (acts_on (link_at n.parts link) UserData) (empty_data bsn fsn) n
   accepted-titles (Ok (MessageFrame bsn fsn sio sif)) n = acted-titles (acts_on (link_at n.parts link) UserData) (message_data bsn fsn sio sif) n
   accepted-titles (Ok (StatusFrame bsn fsn status)) n = refl

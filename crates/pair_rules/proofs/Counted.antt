@@ -1,5 +1,7 @@
 -- A message that SCCP refuses adds to the user messages after a number: one, if the UDTS that returns it is in a queue
 -- or in Held.
+use Rattle.exchange_rules.specs.Exchange.{leaving}
+use Rattle.exchange_rules.specs.Reroutings.{first_reroutings}
 use Rattle.pair_rules.proofs.Basics.{◌≡◌, ◌≤◌, ◌<◌, ◌+◌, ◌-◌, ◌&&◌, ℕ, Bool, true, false, not, List, [], ◌∷◌, ◌++◌, length, drop, Option, Some, None, Result, Ok, Err, refl, ap, sym, subst, ◌∙◌, nat_eq, arith, if◌then◌else◌, get_or-set_other, get_or-set_same}
 use Rattle.pair_rules.proofs.Definitions.{Message, dpc_of, flow_of, service_indicator, Cause, Refused, Configuration, FrameValue, EmptyFrame, MessageFrame, StatusFrame, read_frame, Action, UserData, acts_on, SeqFault, Queue, IsQueue, after_answer, appended, count_confirmed, first_queue, named_count, Discrimination, Node, FrameCame, Submitted, WholeQueues, whole, queue_at, queue_on, no_room_for, link_of, waits, Carrying, Fits, accept, accept_data, accept_text, carries, empty_data, message_data, numbers, is_link, down, link_at, new_at, new_by, new_message, new_of, advance, outcome_of, after, sccp, whither_goes, taken_in, Done, refuse, fit-steps, in_service, confirming, owing-steps, advance-serves, data-serves}
 use Rattle.std.specs.Option.{option_map}
@@ -20,7 +22,6 @@ use Rattle.sccp_relay.specs.Returning.{returned}
 use Rattle.exchange_rules.specs.Messages.{is_destination, offer, transfer, in_place_of, own_of, return_unitdata, send_udts}
 use Rattle.exchange_rules.specs.Conserving.{returned_in}
 use Rattle.exchange_rules.specs.Laws.{answered, answered_by, no_part_answered, carried_message, noted}
-use Rattle.exchange_rules.specs.State.{with_node}
 use Rattle.exchange_rules.specs.Telling.{tell_owed}
 use Rattle.exchange_rules.specs.First.{Abstract, IsSound}
 use Rattle.exchange_rules.proofs.CarriedMessages.{new-carried}
@@ -169,14 +170,14 @@ module _ (c : Configuration) (link : ℕ) where
       (advance-serves c link UserData step n at ∙ data-serves (link_at n.parts link).period (link_at n.parts link).alignment step at) refl e
 
   read-same : (r : Result FrameValue FrameFault) (m : Message) (n : Node WholeQueues) → Fits c n → new_of r link c n ≡ Some m
-      → Same (confirming_number r) c n (accept_text link r (record { settings = c; node = n }))
+      → Same (confirming_number r) c n (accept_text link r (record { settings = c; node = n; reroutings = first_reroutings c }))
   read-same (Ok (EmptyFrame bsn fsn)) m n f e = data-same (acts_on (link_at n.parts link) UserData) (empty_data bsn fsn) m n f refl e
   read-same (Ok (MessageFrame bsn fsn sio sif)) m n f e = data-same (acts_on (link_at n.parts link) UserData) (message_data bsn fsn sio sif) m n f refl e
   read-same (Ok (StatusFrame bsn fsn status)) m n f e = absurd cc
   read-same (Err fault) m n f e = absurd cc
 
   -- the node that the message comes to has its places
-  read-fits : (r : Result FrameValue FrameFault) (m : Message) (n : Node WholeQueues) → Fits c n → new_of r link c n ≡ Some m → Fits c (accept_text link r (record { settings = c; node = n }))
+  read-fits : (r : Result FrameValue FrameFault) (m : Message) (n : Node WholeQueues) → Fits c n → new_of r link c n ≡ Some m → Fits c (accept_text link r (record { settings = c; node = n; reroutings = first_reroutings c }))
   read-fits (Ok (EmptyFrame bsn fsn)) m n f e = data-fits (acts_on (link_at n.parts link) UserData) (empty_data bsn fsn) m n f refl e
   read-fits (Ok (MessageFrame bsn fsn sio sif)) m n f e = data-fits (acts_on (link_at n.parts link) UserData) (message_data bsn fsn sio sif) m n f refl e
   read-fits (Ok (StatusFrame bsn fsn status)) m n f e = absurd cc
@@ -214,7 +215,7 @@ module _ (a : Abstract) (link : ℕ) (text : List ℕ) (cause : Cause) (m : Mess
   pub frame-counts : count (after whole (FrameCame link text) a).node ≡ count a.node + users (returned_in (returned (own_of a.settings mid.parts) mid.parts.titles m.sif cause) a.settings m mid)
   frame-counts =
       ap (λ (x : Abstract). count x.node) (refused_leaves (FrameCame link text) a cause sound e)
-      ∙ ap (λ (b : Bool). count (if b then with_node a (tell_owed whole a.settings (noted cause link left)) else a).node) read-new.0
+      ∙ ap (λ (b : Bool). count (if b then leaving a (tell_owed whole a.settings (noted cause link left)) else a).node) read-new.0
       ∙ as-many number a.settings (noted cause link left) (tell_owed whole a.settings (noted cause link left)) (tell_owed-same number a.settings (noted cause link left))
       ∙ ap (λ (o : Option Message). count (answered cause (Some link) o a.settings mid)) (new-carried link text a m new)
       ∙ answered-more number a.settings cause (Some link) m label mid (read-fits a.settings link (read_frame text) m a.node f read-new.1) here is

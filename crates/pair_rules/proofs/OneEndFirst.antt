@@ -1,4 +1,5 @@
 -- The run of two exchanges, by computation, except whether its message waits, which is looked at twice.
+use Rattle.exchange_rules.specs.Exchange.{leaving}
 use Rattle.pair_rules.proofs.Basics.{◌≡◌, ◌≢◌, ℕ, Bool, true, false, not, ◌&&◌, ◌||◌, List, [], ◌∷◌, ◌++◌, refl, sym, ap, ◌∙◌, subst, None, Some, slice_get, slice_index_or, option_to_list, true≢false, and_left as and-first}
 use Rattle.pair_rules.proofs.Definitions.{Message, flow_of, Configuration, set_timer, start_unless_running, clear_timer, clear_set, due_name, after_due, due_count, first_sets, choice_among, link_by, Procedure, any_flow, flows, with_flows, HoldSet, holds, is_held, is_same, lifted, may_hold, no_holds, flows_add, flows_leave, contains-lifted, held_by, none_at_first, Done, Node, lost_any, late_any, WholeQueues, whole, no_room_for, waits, link_of, go_by, go_each, FrameCame, new_message, apply, handle_event, settled, take_back_each, PairState, AtNear, Delivers, Loses, OpensFirst, taken_in, after_steps, deliver_frame, users_of, in_flight, may_follow, without_data, is_down_at, waiting_on, brought_in}
 use Rattle.std.specs.Prelude.{Option}
@@ -78,7 +79,7 @@ abbrev queued_by : Bool → PairState
 queued_by waiting =
     let n : Node WholeQueues = served.near.exchange.node in
     let d : Done WholeQueues = settled whole near_settings (offer whole near_settings (no_room_for whole near_settings the_message n) waiting (link_of near_settings n.parts (flow_of the_message)) None the_message n) in
-    record served { near = record served.near { exchange = record { settings = near_settings; node = d.left }; accepted = served.near.accepted ++ taken_in d.outcome the_message } }
+    record served { near = record served.near { exchange = leaving served.near.exchange d.left; accepted = served.near.accepted ++ taken_in d.outcome the_message } }
 
 goes-first : submitted ≡ queued_by (waits near_settings served.near.exchange.node.parts.holds the_message)
 unfolding apply tell_owed first_sets links_below status_of set_timer clear_timer start_unless_running clear_set due_name after_due due_count names_of choice_among link_by changes_of changes take_back_each owes_nothing any_flow flows
@@ -102,13 +103,13 @@ its_text = slice_index_or (in_flight awaiting.near.incoming.user_data 1) 0 []
 abbrev its_end : Done WholeQueues
 its_end = handle_event whole near_settings (FrameCame 1 its_text) awaiting.near.exchange.node
 
+abbrev completed_left : Bool → Node WholeQueues
+completed_left waiting = tell_owed whole near_settings (go_by whole near_settings waiting the_message (record its_end.left { queues = whole.without_held its_end.left.queues }))
+
 abbrev completed_in : Configuration → Bool → PairState
 completed_in c waiting = record awaiting {
   near = record awaiting.near {
-    exchange = record {
-      settings = c;
-      node = tell_owed whole near_settings (go_by whole near_settings waiting the_message (record its_end.left { queues = whole.without_held its_end.left.queues }));
-    };
+    exchange = record (leaving awaiting.near.exchange (completed_left waiting)) { settings = c };
     incoming = without_data 1 awaiting.near.incoming;
     accepted = awaiting.near.accepted ++ brought_in (FrameCame 1 its_text) awaiting.near.exchange;
     received = awaiting.near.received ++ users_of (option_to_list (new_message 1 its_text awaiting.near.exchange));
@@ -129,7 +130,7 @@ delivered-as : (p : PairState) (link : ℕ) (text : List ℕ) (left : Node Whole
     → after_steps (AtNear (Delivers link) ∷ []) p
     ≡ record p {
       near = record p.near {
-        exchange = record { settings = p.near.exchange.settings; node = left };
+        exchange = leaving p.near.exchange left;
         incoming = without_data link p.near.incoming;
         accepted = p.near.accepted ++ brought_in (FrameCame link text) p.near.exchange;
         received = p.near.received ++ users_of (option_to_list (new_message link text p.near.exchange));
@@ -139,7 +140,7 @@ delivered-as p link text left e f =
     ap (λ (o : Option (List ℕ)). (deliver_frame o link (without_data link p.near.incoming) p).left) e
     ∙ ap (λ (n : Node WholeQueues). record p {
       near = record p.near {
-        exchange = record { settings = p.near.exchange.settings; node = n };
+        exchange = leaving p.near.exchange n;
         incoming = without_data link p.near.incoming;
         accepted = p.near.accepted ++ brought_in (FrameCame link text) p.near.exchange;
         received = p.near.received ++ users_of (option_to_list (new_message link text p.near.exchange));

@@ -1,6 +1,6 @@
 -- The causes for which SCCP, and a message for another point, are refused aren't that of user parts.
 use Rattle.pair_rules.proofs.Basics.{◌≡◌, ◌≢◌, ℕ, Bool, true, false, List, Option, Some, None, refl, ap, sym, ◌∙◌, ◌&&◌, ◌||◌, not, option_or, if◌then◌else◌}
-use Rattle.pair_rules.proofs.Definitions.{Message, dpc_of, flow_of, is_management, Cause, Outcome, Refused, Queued, Held, Configuration, TitleEntry, Node, Done, refuse, WholeQueues, whole, link_of, is_share_full, no_room_on, no_room_for, waits}
+use Rattle.pair_rules.proofs.Definitions.{Message, dpc_of, flow_of, is_management, Cause, Outcome, Refused, Queued, Held, Configuration, Node, Done, refuse, WholeQueues, whole, link_of, is_share_full, no_room_on, no_room_for, waits}
 use Rattle.signalling_types.specs.declared.cause.Cause.TheVariants as causes
 use Rattle.sccp_relay.specs.Relay as relays
 use Rattle.sccp_relay.specs.Points.{OwnValue}

@@ -1,13 +1,14 @@
 -- Two exchanges, with the frames in flight between them and their texts.
+use Rattle.exchange_rules.specs.State.{Reroutings}
 use Rattle.pair_rules.proofs.Basics.{◌≡◌, ℕ, Bool, true, List, [], length, map}
 use Rattle.pair_rules.proofs.Definitions.{Message, Configuration, FrameValue, spelled, Node, WholeQueues, all_wait, End, PairState, Streams, in_flight, may_follow}
 use Rattle.pair_rules.proofs.World.{Flying, Mid, World}
 
 -- ---- an end, and two of them, with the frames in flight
 
-abbrev pub end_with : Configuration → Node WholeQueues → (incoming : Streams) → (following : List Bool) → (accepted received : List Message) → End
-end_with c n incoming following accepted received = record {
-  exchange = record { settings = c; node = n };
+abbrev pub end_with : Configuration → Node WholeQueues → Reroutings → (incoming : Streams) → (following : List Bool) → (accepted received : List Message) → End
+end_with c n r incoming following accepted received = record {
+  exchange = record { settings = c; node = n; reroutings = r };
   incoming = incoming;
   following = following;
   accepted = accepted;

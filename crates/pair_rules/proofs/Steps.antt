@@ -1,6 +1,6 @@
 -- What a fetched frame and an event lead to.
 use Rattle.pair_rules.proofs.Basics.{◌≡◌, ◌<◌, ◌≤◌, ℕ, length, Some, None, refl, ap, if◌then◌else◌, slice_get, ⊎_elim, cases_lt, get_or_past}
-use Rattle.pair_rules.proofs.Definitions.{Configuration, FrameValue, Link, down_link, Node, Happening, WholeQueues, whole, apply, handle_event, outcome_of, frame_from, frame_taken, may_send, message_first, status_first}
+use Rattle.pair_rules.proofs.Definitions.{Configuration, FrameValue, Link, down_link, Node, Happening, WholeQueues, whole, apply, handle_event, frame_from, frame_taken, may_send, message_first, status_first}
 
 -- ---- a frame is fetched only from a link that is there
 
@@ -17,6 +17,6 @@ taken-there c link n frame e =
 
 -- ---- what becomes of an event is what its rule says
 
-pub outcome-same : (c : Configuration) (what : Happening) (n : Node WholeQueues) → outcome_of whole what (record { settings = c; node = n }) ≡ (handle_event whole c what n).outcome
+pub outcome-same : (c : Configuration) (what : Happening) (n : Node WholeQueues) → (apply whole c what n).outcome ≡ (handle_event whole c what n).outcome
 unfolding apply
 outcome-same c what n = refl

@@ -17,7 +17,7 @@ use Rattle.signalling_types.specs.declared.notice.LateTimer.TheVariants.{T3, T4}
 use Rattle.signalling_types.specs.declared.outcome.Outcome.TheVariants as outcome
 use Rattle.exchange.specs.Calls.{Kept}
 use Rattle.console.specs.Names.{name_in}
-use Rattle.console.specs.Texts.{refused_text, notice_text, flag_line, loss_line}
+use Rattle.console.specs.Texts.{refused_text, notice_text, flag_line, loss_line, rerouting_line}
 use Rattle.program.specs.ConsoleAnswers.{blanks, is_answer, is_last, is_refusal}
 use Rattle.served_node.specs.Captured.{Captured, answer_to, captured_line, order_of}
 use Rattle.served_node.specs.Clients.{ClientState}
@@ -179,6 +179,10 @@ captured-lines : (name : List ℕ) (is_on : Bool) → IsNone (captured_line name
 captured-lines name true = refl
 captured-lines name false = refl
 
+reroutings : (s : Kept) (k : ℕ) (line : List ℕ) → rerouting_line s k ≡ Some line → IsNone line
+reroutings s zero line e = there _ line refl e
+reroutings s (suc k) line e = cc e
+
 pub shown : ShownAnswersNone
 shown = record {
   links = λ name v is_barred. refl;
@@ -188,6 +192,7 @@ shown = record {
   notices = notices;
   flags = flags;
   losses = losses;
+  reroutings = reroutings;
   counters = λ counter name value. refl;
   datagrams = λ name value. refl;
   captured = captured-lines;

@@ -14,7 +14,7 @@ use Rattle.exchange.specs.Calls.{Kept}
 use Rattle.served_link.specs.Counting.{NodeCounters}
 use Rattle.served_link.specs.declared.counter.Counter.{Counter}
 use Rattle.served_link.specs.Lines.{counter_line, datagram_line}
-use Rattle.console.specs.Texts.{link_text, route_text, title_text, subsystem_text, notice_text, flag_line, loss_line}
+use Rattle.console.specs.Texts.{link_text, route_text, title_text, subsystem_text, notice_text, flag_line, loss_line, rerouting_line}
 use Rattle.script.specs.Texts.{outcome_line}
 use Rattle.served_node.specs.Captured.{Captured, captured_line}
 use Rattle.served_node.specs.Clients.{ClientState, told_of}
@@ -96,6 +96,7 @@ pub record ShownAnswersNone : Type 0 where
   pub notices : (points : PointFormat) (c : Configuration) (notice : Notice) → IsNone (notice_text points c notice)
   pub flags : (s : Kept) (k : ℕ) (line : List ℕ) → flag_line s k ≡ Some line → IsNone line
   pub losses : (s : Kept) (k : ℕ) (line : List ℕ) → loss_line s k ≡ Some line → IsNone line
+  pub reroutings : (s : Kept) (k : ℕ) (line : List ℕ) → rerouting_line s k ≡ Some line → IsNone line
   pub counters : (counter : Counter) (name : List ℕ) (value : ℕ) → IsNone (counter_line counter name value)
   pub datagrams : (name : List ℕ) (value : ℕ) → IsNone (datagram_line name value)
   pub captured : (name : List ℕ) (is_on : Bool) → IsNone (captured_line name is_on)

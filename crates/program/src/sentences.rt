@@ -141,7 +141,8 @@ fn form(command: Command) -> &'static str {
              if ROUTE is title, REMOVE 0 to 32; PLAN, NATURE and ADD may be -"
         }
         Command::Show => {
-            "show links, show routes, show titles, show subsystems, show notices, show flags or show losses"
+            "show links, show routes, show titles, show subsystems, show notices, show flags, show losses or show \
+             reroutings"
         }
     }
 }

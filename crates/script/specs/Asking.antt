@@ -15,7 +15,7 @@ use Rattle.script.specs.declared.line.Line.{Line}
 use Rattle.script.specs.declared.line.Line.TheVariants as line
 use Rattle.script.specs.declared.line.Malformed.{Malformed}
 use Rattle.script.specs.declared.line.Show.{Show}
-use Rattle.script.specs.declared.line.Show.TheVariants.{Links, Routes, Titles, Subsystems, Notices, Flags, Losses}
+use Rattle.script.specs.declared.line.Show.TheVariants.{Links, Routes, Titles, Subsystems, Notices, Flags, Losses, Reroutings}
 
 -- what a line asks for; a link goes by a name, which no link need have
 pub data Asked : Type 0 where
@@ -39,6 +39,7 @@ show_named points word =
     else if bytes_eq word (codes "notices") then Some (Notices points)
     else if bytes_eq word (codes "flags") then Some Flags
     else if bytes_eq word (codes "losses") then Some Losses
+    else if bytes_eq word (codes "reroutings") then Some Reroutings
     else None
 
 -- a command with one word after it

@@ -37,6 +37,8 @@ pub enum Show {
     Flags,
     /// The counts of losses.
     Losses,
+    /// How often flows changed their link set.
+    Reroutings,
 }
 
 /// What a line of a script asks for.
@@ -85,8 +87,8 @@ pub enum Line<'a> {
         /// The order.
         order: OrderText<'a>,
     },
-    /// `show links`, `show routes`, `show titles`, `show subsystems`, `show notices`, `show flags` or `show losses`: a
-    /// text of the console.
+    /// `show links`, `show routes`, `show titles`, `show subsystems`, `show notices`, `show flags`, `show losses` or
+    /// `show reroutings`: a text of the console.
     Show {
         /// Which.
         what: Show,
@@ -219,6 +221,8 @@ fn show_named(word: &[u8], points: PointFormat) -> Option<Show>
         Some(Show::Flags)
     } else if word == b"losses".as_slice() {
         Some(Show::Losses)
+    } else if word == b"reroutings".as_slice() {
+        Some(Show::Reroutings)
     } else {
         None
     }

@@ -14,8 +14,8 @@ use crate::sink::{Sink, WriteFailed};
 use crate::text::console_line;
 use arrayvec::ArrayString;
 use console::{
-    FLAGS, LINE_OCTETS, LOSSES, show_flags, show_links, show_losses, show_notices, show_routes,
-    show_subsystems, show_titles,
+    FLAGS, LINE_OCTETS, LOSSES, REROUTINGS, show_flags, show_links, show_losses, show_notices,
+    show_reroutings, show_routes, show_subsystems, show_titles,
 };
 use exchange::Exchange;
 
@@ -86,6 +86,7 @@ fn write_line(
         Show::Notices(points) => show_notices(exchange, k, points, line),
         Show::Flags => show_flags(exchange, k, line),
         Show::Losses => show_losses(exchange, k, line),
+        Show::Reroutings => show_reroutings(exchange, k, line),
     }
 }
 
@@ -101,5 +102,6 @@ fn most_lines(exchange: &Exchange, what: Show) -> usize
         Show::Notices(_) => exchange.notices().len(),
         Show::Flags => FLAGS,
         Show::Losses => LOSSES,
+        Show::Reroutings => REROUTINGS,
     }
 }

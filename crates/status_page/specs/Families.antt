@@ -25,8 +25,8 @@ use Rattle.status_page.specs.declared.family.Kind.{Kind}
 use Rattle.status_page.specs.declared.family.Kind.TheVariants.{Counter as Growing, Gauge}
 use Rattle.status_page.specs.declared.family.Family.{Family}
 use Rattle.status_page.specs.declared.family.Family.TheVariants.{Build, Uptime, PoolLimit, Pool, Held, Notices, Flags}
-use Rattle.status_page.specs.declared.family.Family.TheVariants.{Raised, Lost, Broken, InService, ChangingOver}
-use Rattle.status_page.specs.declared.family.Family.TheVariants.{Barred, Queue}
+use Rattle.status_page.specs.declared.family.Family.TheVariants.{Raised, Lost, Broken, Rerouted, InService}
+use Rattle.status_page.specs.declared.family.Family.TheVariants.{ChangingOver, Barred, Queue}
 use Rattle.status_page.specs.declared.family.Family.TheVariants.{FramesReceived, OctetsReceived, FramesSent}
 use Rattle.status_page.specs.declared.family.Family.TheVariants.{OctetsSent, Forwarded, Delivered, Refused}
 use Rattle.status_page.specs.declared.family.Family.TheVariants.{Failures, Retries, InitsRefused, TriesFailed}
@@ -40,9 +40,9 @@ use Rattle.status_page.specs.declared.noticed.NoticeKind.TheVariants as noticed
 -- all families, in the order in which they are shown
 abbrev pub families : List Family
 families =
-    Build ∷ Uptime ∷ PoolLimit ∷ Pool ∷ Held ∷ Notices ∷ Flags ∷ Raised ∷ Lost ∷ Broken ∷ InService ∷
-    ChangingOver ∷ Barred ∷ Queue ∷ FramesReceived ∷ OctetsReceived ∷ FramesSent ∷ OctetsSent ∷ Forwarded ∷
-    Delivered ∷ Refused ∷ Failures ∷ Retries ∷ InitsRefused ∷ TriesFailed ∷ []
+    Build ∷ Uptime ∷ PoolLimit ∷ Pool ∷ Held ∷ Notices ∷ Flags ∷ Raised ∷ Lost ∷ Broken ∷ Rerouted ∷
+    InService ∷ ChangingOver ∷ Barred ∷ Queue ∷ FramesReceived ∷ OctetsReceived ∷ FramesSent ∷ OctetsSent ∷
+    Forwarded ∷ Delivered ∷ Refused ∷ Failures ∷ Retries ∷ InitsRefused ∷ TriesFailed ∷ []
 
 -- the name: a counter ends in total, and a unit is in the name
 abbrev pub family_name : Family → List ℕ
@@ -56,6 +56,7 @@ family_name Flags = codes "stp_flag"
 family_name Raised = codes "stp_flag_raised_total"
 family_name Lost = codes "stp_messages_lost_total"
 family_name Broken = codes "stp_changeovers_broken_total"
+family_name Rerouted = codes "stp_flows_rerouted_total"
 family_name InService = codes "stp_link_in_service"
 family_name ChangingOver = codes "stp_link_changing_over"
 family_name Barred = codes "stp_link_barred"
@@ -84,6 +85,7 @@ family_help Flags = codes "1 if the flag is raised: a message may be lost, or ma
 family_help Raised = codes "How often the flag was raised."
 family_help Lost = codes "Messages that notices named as lost."
 family_help Broken = codes "Changeovers of which it isn't known for sure what the peer has of the link."
+family_help Rerouted = codes "Flows that changed their link set, but away from the one to their destination."
 family_help InService = codes "1 if the link is in service, else 0."
 family_help ChangingOver = codes "1 if the link is down and its changeover isn't over, else 0."
 family_help Barred = codes "1 if the link can't open until its changeover order is answered, else 0."
@@ -112,6 +114,7 @@ kind_of Flags = Gauge
 kind_of Raised = Growing
 kind_of Lost = Growing
 kind_of Broken = Growing
+kind_of Rerouted = Growing
 kind_of InService = Gauge
 kind_of ChangingOver = Gauge
 kind_of Barred = Gauge
@@ -174,6 +177,7 @@ metrics_of Flags = Node of_node.LostAny ∷ Node of_node.LateAny ∷ []
 metrics_of Raised = Node of_node.TimesLost ∷ Node of_node.TimesLate ∷ []
 metrics_of Lost = Node of_node.MessagesLost ∷ []
 metrics_of Broken = Node of_node.TimesBroken ∷ []
+metrics_of Rerouted = Node of_node.TimesRerouted ∷ []
 metrics_of InService = Link of_link.InService ∷ []
 metrics_of ChangingOver = Link of_link.ChangingOver ∷ []
 metrics_of Barred = Link of_link.Barred ∷ []

@@ -112,3 +112,4 @@ node_value q of_node.TimesLost s log uptime = s.node.parts.times_lost
 node_value q of_node.TimesLate s log uptime = s.node.parts.times_late
 node_value q of_node.MessagesLost s log uptime = s.node.parts.messages_lost
 node_value q of_node.TimesBroken s log uptime = s.node.parts.times_broken
+node_value q of_node.TimesRerouted s log uptime = s.reroutings.times

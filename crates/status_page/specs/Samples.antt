@@ -54,6 +54,7 @@ node_labels of_node.TimesLost = codes "{name=\"lost_any\"}"
 node_labels of_node.TimesLate = codes "{name=\"late_any\"}"
 node_labels of_node.MessagesLost = []
 node_labels of_node.TimesBroken = []
+node_labels of_node.TimesRerouted = []
 
 -- the cause of a refusal, or the reason of a failure or a setback
 abbrev pub counter_labels : Counter → List ℕ

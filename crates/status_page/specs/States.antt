@@ -183,6 +183,7 @@ count_members q s =
     ++ number_member (codes "times_late") s.node.parts.times_late
     ++ number_member (codes "messages_lost") s.node.parts.messages_lost
     ++ number_member (codes "times_broken") s.node.parts.times_broken
+    ++ number_member (codes "times_rerouted") s.reroutings.times
     ++ number_member (codes "notice_count") s.node.parts.notices.count
 
 unfoldable pub node_members : {Q : Type 0} → QueueKind Q → PointFormat → State Q → (uptime : ℕ) → List Token

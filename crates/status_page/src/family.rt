@@ -58,6 +58,8 @@ pub enum Family {
     Lost,
     /// How often it wasn't known for sure what the other end has of a link.
     Broken,
+    /// How often a flow changed its link set.
+    Rerouted,
     /// Whether each link is in service.
     InService,
     /// Whether the changeover of each link isn't over.
@@ -92,7 +94,7 @@ pub enum Family {
 
 impl Family {
     /// All families, in the order in which they are shown.
-    pub const ALL: [Family; 25] = [
+    pub const ALL: [Family; 26] = [
         Family::Build,
         Family::Uptime,
         Family::PoolLimit,
@@ -103,6 +105,7 @@ impl Family {
         Family::Raised,
         Family::Lost,
         Family::Broken,
+        Family::Rerouted,
         Family::InService,
         Family::ChangingOver,
         Family::Barred,
@@ -136,6 +139,7 @@ impl Family {
             Family::Raised => "stp_flag_raised_total",
             Family::Lost => "stp_messages_lost_total",
             Family::Broken => "stp_changeovers_broken_total",
+            Family::Rerouted => "stp_flows_rerouted_total",
             Family::InService => "stp_link_in_service",
             Family::ChangingOver => "stp_link_changing_over",
             Family::Barred => "stp_link_barred",
@@ -173,6 +177,8 @@ impl Family {
             Family::Lost => "Messages that notices named as lost.",
             Family::Broken =>
                 "Changeovers of which it isn't known for sure what the peer has of the link.",
+            Family::Rerouted =>
+                "Flows that changed their link set, but away from the one to their destination.",
             Family::InService => "1 if the link is in service, else 0.",
             Family::ChangingOver => "1 if the link is down and its changeover isn't over, else 0.",
             Family::Barred =>
@@ -213,6 +219,7 @@ impl Family {
             | Family::Raised
             | Family::Lost
             | Family::Broken
+            | Family::Rerouted
             | Family::FramesReceived
             | Family::OctetsReceived
             | Family::FramesSent
@@ -248,6 +255,7 @@ impl Family {
             ],
             Family::Lost => &[Metric::Node(NodeMetric::MessagesLost)],
             Family::Broken => &[Metric::Node(NodeMetric::TimesBroken)],
+            Family::Rerouted => &[Metric::Node(NodeMetric::TimesRerouted)],
             Family::InService => &[Metric::Link(LinkMetric::InService)],
             Family::ChangingOver => &[Metric::Link(LinkMetric::ChangingOver)],
             Family::Barred => &[Metric::Link(LinkMetric::Barred)],

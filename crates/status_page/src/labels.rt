@@ -33,7 +33,8 @@ pub(crate) fn node_labels(metric: NodeMetric) -> ArrayString<LABELS_OCTETS>
         | NodeMetric::Pool
         | NodeMetric::Held
         | NodeMetric::MessagesLost
-        | NodeMetric::TimesBroken => {}
+        | NodeMetric::TimesBroken
+        | NodeMetric::TimesRerouted => {}
     }
     labels
 }

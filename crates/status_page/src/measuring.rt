@@ -38,6 +38,7 @@ pub(crate) fn node_value(
         NodeMetric::TimesLate => exchange.times_late(),
         NodeMetric::MessagesLost => exchange.messages_lost(),
         NodeMetric::TimesBroken => exchange.times_broken(),
+        NodeMetric::TimesRerouted => exchange.times_rerouted(),
     }
 }
 

@@ -39,6 +39,8 @@ pub enum NodeMetric {
     MessagesLost,
     /// How often it wasn't known for sure what the other end has of a link.
     TimesBroken,
+    /// How often a flow changed its link set.
+    TimesRerouted,
 }
 
 /// What is measured of each link.

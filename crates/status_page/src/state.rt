@@ -119,6 +119,7 @@ fn put_counts(exchange: &Exchange, out: &mut Writer) -> Result<(), AllocError>
     put_number(out, "times_late", exchange.times_late())?;
     put_number(out, "messages_lost", exchange.messages_lost())?;
     put_number(out, "times_broken", exchange.times_broken())?;
+    put_number(out, "times_rerouted", exchange.times_rerouted())?;
     put_number(out, "notice_count", exchange.notice_count())
 }
 

@@ -203,6 +203,7 @@ function glance(state) {
     ['Perhaps late', raised(state.times_late), state.times_late ? 'turning' : ''],
     ['Messages lost', count(state.messages_lost), state.messages_lost ? 'bad' : ''],
     ['Changeovers broken', count(state.times_broken), state.times_broken ? 'bad' : ''],
+    ['Flows rerouted', count(state.times_rerouted), state.times_rerouted ? 'turning' : ''],
     ['Notices', count(state.notice_count), ''],
   ];
 }

@@ -104,7 +104,7 @@ impl Exchange {
     }
 
     /// The link of a flow to the destination of this number.
-    fn link_to(&self, destination: usize, sls: Sls) -> Option<LinkId>
+    pub(super) fn link_to(&self, destination: usize, sls: Sls) -> Option<LinkId>
         ensures link { result ≡ chosen_link (facts self.now.settings self.now.node.parts) destination sls }
         ensures fits { IfSome result (λ link. link < length self.now.settings.links) }
     {

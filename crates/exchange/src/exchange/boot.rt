@@ -11,10 +11,12 @@ ghost use Rattle.link.specs.Counts.{kept_first};
 ghost use Rattle.route_management.specs.Updates.{first_updates};
 ghost use Rattle.exchange.specs.Calls.{StandsFor, kept_of};
 ghost use Rattle.exchange_rules.specs.First.{first_state, counts_in};
+ghost use Rattle.exchange_rules.specs.Reroutings.{first_reroutings};
 ghost use Rattle.exchange_rules.specs.Routing.{first_network_of};
 
 use super::Exchange;
 use crate::memory::NoMemory;
+use crate::reroutings::{DueFlows, FlowSets};
 use crate::unequipped::Unequipped;
 use cell_pool::CellPool;
 use changeback::Changeback;
@@ -63,8 +65,11 @@ impl Exchange {
             messages_lost: 0,
             times_broken: 0,
             times_late: 0,
+            flow_sets: of_network.flow_sets,
+            times_rerouted: 0,
             release_due: false,
             pending: of_network.pending,
+            flows_due: DueFlows::All,
         })
     }
 }
@@ -110,12 +115,13 @@ struct NetworkParts {
     titles: Titles,
     unequipped: Unequipped,
     timers: Timers,
-    // nothing is owed yet, which the first event finds out
+    // nothing is owed yet, which the first event finds out; so it does with the flows
     pending: PendingUpdates,
+    flow_sets: FlowSets,
 }
 
 impl NetworkParts {
-    /// Nothing was told, nothing is held, and no timer runs.
+    /// Nothing was told, nothing is held, no timer runs, and no flow went by any set.
     fn first(alloc: Global, settings: &Settings) -> Result<NetworkParts, AllocError>
         ensures told { IfOk result (λ parts.
             parts.told ≡ first_told settings.now.sets settings.now.destinations) }
@@ -130,6 +136,8 @@ impl NetworkParts {
         ensures timers { IfOk result (λ parts. parts.timers ≡ none_running (counts_in settings.now)) }
         ensures pending { IfOk result (λ parts.
             parts.pending ≡ first_updates (length settings.now.destinations)) }
+        ensures flow_sets { IfOk result (λ parts.
+            parts.flow_sets ≡ (first_reroutings settings.now).last_sets) }
     {
         Ok(NetworkParts {
             told: nothing_told(alloc, settings)?,
@@ -139,6 +147,7 @@ impl NetworkParts {
             unequipped: Unequipped::none(alloc, settings.destinations().len())?,
             timers: Timers::new(alloc, counts_in(settings))?,
             pending: PendingUpdates::new(alloc, settings.destinations().len())?,
+            flow_sets: FlowSets::none(alloc, settings.destinations().len())?,
         })
     }
 }

@@ -67,7 +67,9 @@ impl Exchange {
         let carried = self.links.state(link).carries_traffic();
         self.links.pass_test(link);
         let carries = self.links.state(link).carries_traffic();
-        self.pending.add_all_if(has_changed(carried, carries));
+        let changed = has_changed(carried, carries);
+        self.pending.add_all_if(changed);
+        self.flows_due.mark_all_if(changed);
     }
 
     /// Drops the status that has waited longest, if there is one.
@@ -117,8 +119,9 @@ impl Exchange {
             (opened_by self.old.settings period (link_at self.old.node.parts link)))) }
     {
         let untested = self.tests_links();
-        self.pending
-            .add_all_if(self.links.state(link).carries_traffic());
+        let carried = self.links.state(link).carries_traffic();
+        self.pending.add_all_if(carried);
+        self.flows_due.mark_all_if(carried);
         self.links
             .open(link, self.settings.out_of_service(), period, untested);
     }
@@ -129,8 +132,9 @@ impl Exchange {
         ensures { self.new ≡ with_node self.old (with_parts self.old.node
             (with_link self.old.node.parts link (after_failure (link_at self.old.node.parts link)))) }
     {
-        self.pending
-            .add_all_if(self.links.state(link).carries_traffic());
+        let carried = self.links.state(link).carries_traffic();
+        self.pending.add_all_if(carried);
+        self.flows_due.mark_all_if(carried);
         self.links.fail(link);
     }
 
@@ -145,7 +149,9 @@ impl Exchange {
         let carried = self.links.state(link).carries_traffic();
         let action = self.links.on(link, input);
         let carries = self.links.state(link).carries_traffic();
-        self.pending.add_all_if(has_changed(carried, carries));
+        let changed = has_changed(carried, carries);
+        self.pending.add_all_if(changed);
+        self.flows_due.mark_all_if(changed);
         action
     }
 }

@@ -96,6 +96,7 @@ impl Exchange {
             (rule.forced self.old.settings set destination status self.old.node.parts)) }
     {
         self.pending.add(destination);
+        self.flows_due.mark(destination);
         self.links.set_status(destination, set, status);
     }
 
@@ -108,6 +109,7 @@ impl Exchange {
     {
         let timer = TimerName::T6(self.number_of(destination));
         self.pending.add(destination);
+        self.flows_due.mark(destination);
         self.release_due = true;
         if reroute(&mut self.links, &mut self.holds, destination, set, status) {
             self.timers.set(timer, self.settings.timers().t6);
@@ -131,6 +133,7 @@ impl Exchange {
             (with_parts self.old.node (rule.with_set_reset self.old.settings set self.old.node.parts)) }
     {
         self.pending.add_all();
+        self.flows_due.mark_all_if(true);
         self.links.reset_statuses(set);
         self.told.reset(set);
         self.timers.clear_set(RouteTimer::T8, set);

@@ -52,7 +52,7 @@ impl Exchange {
         ensures state { self.new ≡ after_call kept (asked call.now result) self.old }
     {
         match call {
-            Call::Step(event) => Answer::Stepped(self.apply(event)),
+            Call::Step(event) => Answer::Stepped(self.happen(event)),
             Call::Take(link) => Answer::Taken(self.text(*link)),
             Call::Wants(link) => Answer::Wanted(self.wants(*link)),
         }

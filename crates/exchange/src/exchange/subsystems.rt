@@ -59,7 +59,7 @@ impl Exchange {
         let mut field = [0; Limits::SIF_OCTETS];
         let count = write_test(self.settings.own(), subsystem, &mut field);
         let sio = self.own_sio(SCCP);
-        self.apply(&Event::Submit(MsuRef {
+        self.happen(&Event::Submit(MsuRef {
             sio,
             sif: &field[..count],
         }));

@@ -62,6 +62,16 @@ impl Exchange {
         self.times_broken
     }
 
+    /// How often since `boot` a flow changed its link set otherwise than away from the set that leads to its destination
+    /// itself: at the end of an event it went by another set than the last time that it had a link. It stays at
+    /// 2^64 - 1.
+    pub fn times_rerouted(&self) -> u64
+        ensures times { (a : Abstract) → StandsFor self.now a → result ≡ a.reroutings.times }
+        ensures kept_times { result ≡ self.now.reroutings.times }
+    {
+        self.times_rerouted
+    }
+
     /// Whether messages of a flow may have gone out of order since `boot`: T3 or T4 ran out, so a changeback released
     /// messages before the acknowledgement arrived. Once true it stays true.
     pub fn late_any(&self) -> bool

@@ -23,5 +23,6 @@ invariant_of-self c =
       holds = c.self.invariant.holds;
       unequipped = c.self.invariant.unequipped;
       pending = c.self.invariant.pending;
+      flows = c.self.invariant.flows;
       waiting = subst (λ (x : State KeptQueues). all_wait x.settings x.node.parts.holds (kept.held x.node.queues) ≡ true) (sym c.self.view_is) wait;
     }

@@ -5,7 +5,7 @@ use Rattle.exchange.proofs.Standing.{stands-outcome, stands-after}
 use Rattle.exchange.proofs.exchange.Exchange.step.Goals as goal
 
 pub returns-clause-outcome : goal.returns-clause-outcome
-returns-clause-outcome c = λ a s. c.apply.ensures.0 ∙ stands-outcome (happened c.args.event.now c.apply.result) _ a s
+returns-clause-outcome c = λ a s. c.happen.ensures.outcome ∙ stands-outcome (happened c.args.event.now c.happen.result) _ a s
 
 pub returns-clause-state : goal.returns-clause-state
-returns-clause-state c = λ a s. rw c.apply.ensures.1 (stands-after (happened c.args.event.now c.apply.result) _ a s)
+returns-clause-state c = λ a s. rw c.happen.ensures.state (stands-after (happened c.args.event.now c.happen.result) _ a s)
