@@ -10,7 +10,7 @@ use point_format::{POINT_OCTETS, PointFormat, point_text};
 use settings::{Cause, PointCode};
 
 /// Octets of a line, at most: a translation row with a backup and a change of titles has the longest one.
-pub const LINE_OCTETS: usize = 136;
+pub const LINE_OCTETS: usize = 152;
 
 /// Writes a line of some words and a count.
 pub(crate) fn write_count(words: &str, count: u64, line: &mut ArrayString<LINE_OCTETS>)

@@ -57,9 +57,9 @@ fn write_route(
 
 /// Appends the names of the sets that messages take.
 fn push_sets(line: &mut ArrayString<LINE_OCTETS>, settings: &Settings, sets: &[SetId])
-    requires { length line.old.bytes + 33 ≤ LINE_OCTETS }
+    requires { length line.old.bytes + 65 ≤ LINE_OCTETS }
     ensures text { line.new.bytes ≡ line.old.bytes ++ sets_text settings.now sets.now }
-    ensures short { length line.new.bytes ≤ length line.old.bytes + 33 }
+    ensures short { length line.new.bytes ≤ length line.old.bytes + 65 }
 {
     let Some(first) = sets.first() else {
         line.push_str("none");

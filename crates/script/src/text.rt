@@ -12,7 +12,7 @@ use settings::{Limits, Outcome};
 use std::marker::Model;
 
 /// Octets of a printed line, at most: a frame in two digits an octet, the name of its link, and words.
-const TEXT_OCTETS: usize = 640;
+const TEXT_OCTETS: usize = 656;
 
 /// A printed line, in place.
 #[derive(Drop)]

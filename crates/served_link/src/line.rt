@@ -9,7 +9,7 @@ use itoa::Buffer;
 use signalling_types::Limits;
 
 /// Octets of the line of a counter, at most.
-pub const LINE_OCTETS: usize = 80;
+pub const LINE_OCTETS: usize = 96;
 
 /// Writes the line of a counter: `counter NAME LINK VALUE`, without a line feed. NAME is `frames_in`, `octets_in`,
 /// `frames_out`, `octets_out`, `forwarded`, `delivered`, `refused_` and the cause's name, `failed_` and the reason's

@@ -24,7 +24,7 @@ use trace::{
 
 /// Octets of the line of a message for this point, at most: its link, two digits for each octet of the longest message,
 /// and the word before it.
-const MESSAGE_OCTETS: usize = 640;
+const MESSAGE_OCTETS: usize = 656;
 
 /// Octets of a packet in the capture with its header, at most.
 const LONGEST_PACKET: usize = RECORD_HEADER_OCTETS + WIRE_OCTETS;

@@ -13,7 +13,7 @@ use signalling_types::Limits;
 fn is_name_octet(octet: u8) -> bool
     ensures { result ≡ is_name_octet octet }
 {
-    matches!(octet, b'a'..=b'z' | b'0'..=b'9' | b'-')
+    matches!(octet, b'a'..=b'z' | b'A'..=b'Z' | b'0'..=b'9' | b'-' | b'_' | b'.')
 }
 
 /// Whether all octets may be in a name.

@@ -44,7 +44,7 @@ impl LinkRow {
         }
     }
 
-    /// The link's name: 1 to 16 letters `a` to `z`, digits and dashes.
+    /// The link's name: 1 to 32 letters, digits, dashes, low lines and dots.
     pub fn name(&self) -> &str
         ensures value { result.now ≡ self.now.name }
         ensures form { IsTrue (is_name self.now.name) }

@@ -39,7 +39,7 @@ impl SetRow {
         }
     }
 
-    /// The set's name: 1 to 16 letters `a` to `z`, digits and dashes.
+    /// The set's name: 1 to 32 letters, digits, dashes, low lines and dots.
     pub fn name(&self) -> &str
         ensures value { result.now ≡ self.now.name }
         ensures form { IsTrue (is_name self.now.name) }

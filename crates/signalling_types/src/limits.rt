@@ -32,7 +32,7 @@ impl Limits {
     pub const TITLE_DIGITS: usize = 32;
 
     /// Octets in a name of a link or a link set.
-    pub const NAME_OCTETS: usize = 16;
+    pub const NAME_OCTETS: usize = 32;
 
     /// User messages in the whole state, at most.
     pub const POOL: usize = 65_535;

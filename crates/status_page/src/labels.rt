@@ -13,7 +13,7 @@ use signalling_types::Limits;
 pub const VERSION: &str = "0.1.0";
 
 /// Octets of a sample's labels, at most.
-pub const LABELS_OCTETS: usize = 64;
+pub const LABELS_OCTETS: usize = 80;
 
 pub(crate) fn node_labels(metric: NodeMetric) -> ArrayString<LABELS_OCTETS>
     ensures { result.bytes ≡ node_labels metric }
@@ -57,8 +57,8 @@ fn kind_labels(kind: NoticeKind) -> &'static str
     }
 }
 
-/// The labels of a metric of the link of this name. A name has only letters, digits and dashes, so none of it is
-/// escaped.
+/// The labels of a metric of the link of this name. A name has only letters, digits, dashes, low lines and
+/// dots, so none of it is escaped.
 pub(crate) fn link_labels(metric: LinkMetric, name: &str) -> ArrayString<LABELS_OCTETS>
     requires { length name.now ≤ Limits.NAME_OCTETS }
     ensures { result.bytes ≡ link_labels metric name.now }
@@ -74,7 +74,7 @@ pub(crate) fn link_labels(metric: LinkMetric, name: &str) -> ArrayString<LABELS_
 
 /// Appends the further label of a metric of a link.
 fn push_further(metric: LinkMetric, labels: &mut ArrayString<LABELS_OCTETS>)
-    requires { length labels.old.bytes ≤ 24 }
+    requires { length labels.old.bytes ≤ 40 }
     ensures label { labels.new.bytes ≡ labels.old.bytes ++ metric_labels metric }
     ensures short { length labels.new.bytes ≤ length labels.old.bytes + 32 }
 {
@@ -89,7 +89,7 @@ fn push_further(metric: LinkMetric, labels: &mut ArrayString<LABELS_OCTETS>)
 
 /// Appends the label of a counter of refusals, failures or setbacks, its cause or its reason.
 fn push_reason(counter: Counter, labels: &mut ArrayString<LABELS_OCTETS>)
-    requires { length labels.old.bytes ≤ 24 }
+    requires { length labels.old.bytes ≤ 40 }
     ensures label { labels.new.bytes ≡ labels.old.bytes ++ counter_labels counter }
     ensures short { length labels.new.bytes ≤ length labels.old.bytes + 32 }
 {

@@ -18,7 +18,7 @@ use signalling_types::{Limits, MsuRef, Number24, PointCode};
 use std::marker::Model;
 
 /// Octets of a frame in words, at most: two digits for each of its octets, and the words before them.
-pub const WORDS_OCTETS: usize = 2 * Limits::FRAME_OCTETS + 192;
+pub const WORDS_OCTETS: usize = 2 * Limits::FRAME_OCTETS + 208;
 
 /// A frame in words, in place.
 #[derive(Drop)]

@@ -14,7 +14,7 @@ use script::{Sink, WriteFailed};
 use settings::{Limits, LinkId, Settings};
 
 /// Octets of the line of a link, at most.
-const LINE_OCTETS: usize = 32;
+const LINE_OCTETS: usize = 48;
 
 /// The answer to an order that was done.
 const HANDLED: &[u8] = b"handled\n";
