@@ -11,6 +11,7 @@ pub use Rattle.settings_file.specs.Endpoints.{endpoint_in, endpoints_behind}
 unfoldable pub use Rattle.settings_file.specs.Endpoints.{endpoints_at}
 pub use Rattle.settings_file.specs.Entries.{destination_in, link_entry_in, set_in}
 unfoldable pub use Rattle.settings_file.specs.Entries.{destinations_at, title_in}
+pub use Rattle.settings_file.specs.NodeKeys.{name_in}
 pub use Rattle.settings_file.specs.Reading.{reading_in}
 unfoldable pub use Rattle.settings_file.specs.Reading.{reading, settings_fault}
 pub use Rattle.settings_file.specs.Shapes.{and_then, each, listed, integer_in, text_in}

@@ -1,5 +1,5 @@
 -- Reading the addresses of a link one after the other, each into its place.
-use Rattle.settings_file.proofs.Basics.{◌≡◌, ℕ, ◌+◌, ◌<◌, ◌≤◌, List, [], ◌∷◌, length, get_or, drop, map, Option, Some, Result, Ok, Err, sym, view, Spelling, ServeFault}
+use Rattle.settings_file.proofs.Basics.{◌≡◌, ℕ, ◌+◌, ◌<◌, ◌≤◌, List, length, get_or, drop, map, Option, Some, Result, Ok, Err, sym, view, Spelling, ServeFault}
 use Rattle.std.specs.Prelude.{slice_set}
 use Rattle.std.proofs.lemmas.List.{drop_more, drop_all}
 use Rattle.std.specs.declared.net.ip_addr.IpAddr.{IpAddr}

@@ -57,7 +57,7 @@ document t =
     and_then (services_at (has_extensions numbers.version) (has_additions numbers.version) t) (λ services.
     and_then (timers_at (has_extensions numbers.version) (clock_of (has_additions numbers.version) t) t) (λ timers.
     and_then (sets_at (has_additions numbers.version) t) (λ sets.
-    and_then (links_at (has_extensions numbers.version) t) (λ links.
+    and_then (links_at (has_extensions numbers.version) (has_additions numbers.version) t) (λ links.
     and_then (destinations_at (has_joined numbers.version) (has_additions numbers.version) t) (λ destinations.
     and_then (titles_at (has_extensions numbers.version) (has_additions numbers.version) t) (λ titles.
     Ok (record {

@@ -14,7 +14,7 @@ use Rattle.settings_file.specs.declared.serve.server.OwnAddresses.{OwnAddresses}
 use Rattle.settings_file.specs.declared.serve.key.ServeKey.{ServeKey}
 use Rattle.settings_file.specs.declared.serve.key.ServeKey.TheVariants as key
 use Rattle.settings_file.specs.declared.serve.fault.ServeFault.{ServeFault}
-use Rattle.settings_file.specs.declared.serve.fault.ServeFault.TheVariants.{Settings, Missing, Range, Duplicate}
+use Rattle.settings_file.specs.declared.serve.fault.ServeFault.TheVariants.{Settings, Missing, Duplicate}
 use Rattle.settings_file.specs.Addresses.{Spelling, is_same, is_address_of}
 use Rattle.settings_file.specs.Paths.{entries_of, first_or, reached, others_in, addresses_at, share_host}
 use Rattle.settings_file.specs.Places.{key_name as node_name}

@@ -8,34 +8,34 @@ use Rattle.settings_file.specs.declared.fault.SettingsFault.{SettingsFault}
 use Rattle.settings_file.specs.declared.fault.SettingsFault.TheVariants.{Missing, Kind}
 use Rattle.settings_file.specs.NodeKeys.{found_at, integer_at, optional_integer_at, truth_at, text_at, optional_text_at}
 use Rattle.settings_file.specs.NodeKeys.{point_at, optional_point_at}
-use Rattle.settings_file.specs.NodeKeys.{texts_at, entries_at}
+use Rattle.settings_file.specs.NodeKeys.{name_at, names_at, entries_at}
 use Rattle.settings_file.specs.Shapes.{and_then, each, table_in, array_in, integer_in}
 use Rattle.settings_file.specs.Written.{WrittenSet, WrittenLink, WrittenDestination, WrittenChange, WrittenTitle}
 
 -- a link set: its name and its adjacent point
-unfoldable pub set_in : (has_texts : Bool) → ℕ → Data → Result WrittenSet SettingsFault
-set_in has_texts i d =
+unfoldable pub set_in : (has_additions : Bool) → ℕ → Data → Result WrittenSet SettingsFault
+set_in has_additions i d =
     and_then (table_in (Kind (key.SetEntry i)) d) (λ t.
-    and_then (text_at (key.SetName i) t) (λ name.
-    and_then (point_at has_texts (key.SetAdjacent i) t) (λ adjacent.
+    and_then (name_at has_additions (key.SetName i) t) (λ name.
+    and_then (point_at has_additions (key.SetAdjacent i) t) (λ adjacent.
     Ok (record { name = name; adjacent = adjacent }))))
 
 -- a link: its name, the name of its set, its signalling link code and its share of the pool, which may be left out
-unfoldable pub link_entry_in : (has_share : Bool) → ℕ → Data → Result WrittenLink SettingsFault
-link_entry_in has_share i d =
+unfoldable pub link_entry_in : (has_share has_longer : Bool) → ℕ → Data → Result WrittenLink SettingsFault
+link_entry_in has_share has_longer i d =
     and_then (table_in (Kind (key.LinkEntry i)) d) (λ t.
-    and_then (text_at (key.LinkName i) t) (λ name.
-    and_then (text_at (key.LinkSet i) t) (λ set.
+    and_then (name_at has_longer (key.LinkName i) t) (λ name.
+    and_then (name_at has_longer (key.LinkSet i) t) (λ set.
     and_then (integer_at (key.LinkSlc i) t) (λ slc.
     and_then (optional_integer_at has_share (key.LinkShare i) t) (λ share.
     Ok (record { name = name; set = set; slc = slc; share = share }))))))
 
 -- a destination: its point, the names of the sets that lead to it, and whether the first two are joined
-unfoldable pub destination_in : (has_joined has_texts : Bool) → ℕ → Data → Result WrittenDestination SettingsFault
-destination_in has_joined has_texts i d =
+unfoldable pub destination_in : (has_joined has_additions : Bool) → ℕ → Data → Result WrittenDestination SettingsFault
+destination_in has_joined has_additions i d =
     and_then (table_in (Kind (key.DestinationEntry i)) d) (λ t.
-    and_then (point_at has_texts (key.DestinationPoint i) t) (λ point.
-    and_then (texts_at (key.DestinationSets i) t) (λ sets.
+    and_then (point_at has_additions (key.DestinationPoint i) t) (λ point.
+    and_then (names_at has_additions (key.DestinationSets i) t) (λ sets.
     and_then (truth_at has_joined (key.DestinationJoined i) t) (λ joined.
     Ok (record { point = point; sets = sets; joined = joined })))))
 
@@ -85,15 +85,15 @@ title_in has_extensions has_texts i d =
     })))))))))))
 
 -- the arrays of a file, of which only that of translation rows may be left out or empty
-unfoldable pub sets_at : (has_texts : Bool) → Members → Result (List WrittenSet) SettingsFault
-sets_at has_texts t = and_then (entries_at key.Set t) (each (set_in has_texts) 0)
+unfoldable pub sets_at : (has_additions : Bool) → Members → Result (List WrittenSet) SettingsFault
+sets_at has_additions t = and_then (entries_at key.Set t) (each (set_in has_additions) 0)
 
-unfoldable pub links_at : (has_share : Bool) → Members → Result (List WrittenLink) SettingsFault
-links_at has_share t = and_then (entries_at key.Link t) (each (link_entry_in has_share) 0)
+unfoldable pub links_at : (has_share has_longer : Bool) → Members → Result (List WrittenLink) SettingsFault
+links_at has_share has_longer t = and_then (entries_at key.Link t) (each (link_entry_in has_share has_longer) 0)
 
-unfoldable pub destinations_at : (has_joined has_texts : Bool) → Members → Result (List WrittenDestination) SettingsFault
-destinations_at has_joined has_texts t =
-    and_then (entries_at key.Destination t) (each (destination_in has_joined has_texts) 0)
+unfoldable pub destinations_at : (has_joined has_additions : Bool) → Members → Result (List WrittenDestination) SettingsFault
+destinations_at has_joined has_additions t =
+    and_then (entries_at key.Destination t) (each (destination_in has_joined has_additions) 0)
 
 abbrev pub titles_in : (has_extensions has_texts : Bool) → Option Data → Result (List WrittenTitle) SettingsFault
 titles_in has_extensions has_texts None = Ok []

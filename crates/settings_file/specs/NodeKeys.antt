@@ -1,10 +1,12 @@
 -- The values of the node's keys: each is missing, of another type, or what is read.
 use Rattle.std.specs.Prelude.{ℕ, ℤ, Bool, false, List, [], ◌∷◌, Option, Some, None, Result, Ok, Err, if◌then◌else◌}
-use Rattle.std.specs.Prelude.{◌&&◌, not, is_some}
+use Rattle.std.specs.Prelude.{◌&&◌, ◌||◌, nat_eq, nat_le, length, not, is_some}
+use Rattle.std.specs.List.{list_all}
 use Rattle.toml.specs.Data.{Data, Members, get_member, as_str}
 use Rattle.settings_rows.specs.declared.key.Key.{Key}
 use Rattle.settings_file.specs.Places.{key_name}
 use Rattle.settings_file.specs.PointTexts.{point_said}
+use Rattle.settings_file.specs.declared.limits.TheConstants.{SHORT_NAME_OCTETS}
 use Rattle.settings_file.specs.Shapes.{and_then, each, value_at, integer_in, truth_in, text_in, array_in}
 use Rattle.settings_file.specs.declared.fault.SettingsFault.{SettingsFault}
 use Rattle.settings_file.specs.declared.fault.SettingsFault.TheVariants.{Missing, Kind}
@@ -67,6 +69,27 @@ optional_text_at has_key key t = if has_key then text_or_empty key (found_at key
 unfoldable pub text_at : Key → Members → Result (List ℕ) SettingsFault
 text_at key t = and_then (required_at key t) (text_in (Kind key))
 
+-- a small letter, a digit or a dash
+abbrev pub is_short_name_octet : ℕ → Bool
+is_short_name_octet octet =
+    (nat_le 97 octet && nat_le octet 122) || (nat_le 48 octet && nat_le octet 57) || nat_eq octet 45
+
+-- a name that is no longer than those of the first versions, and made of what they were made of
+abbrev pub is_short_name : List ℕ → Bool
+is_short_name text = nat_le (length text) SHORT_NAME_OCTETS && list_all is_short_name_octet text
+
+-- the name that a text says. In a file whose version has no longer names, one that is longer or has another octet is
+-- read as the empty text, which is no name
+abbrev pub name_said : (has_longer : Bool) → List ℕ → List ℕ
+name_said has_longer text = if has_longer || is_short_name text then text else []
+
+unfoldable pub name_in : (has_longer : Bool) → Key → Data → Result (List ℕ) SettingsFault
+name_in has_longer key d = and_then (text_in (Kind key) d) (λ text. Ok (name_said has_longer text))
+
+-- the name at a key
+unfoldable pub name_at : (has_longer : Bool) → Key → Members → Result (List ℕ) SettingsFault
+name_at has_longer key t = and_then (required_at key t) (name_in has_longer key)
+
 -- the list of integers at a key; the fault of an entry is one of the list
 unfoldable pub integers_at : Key → Members → Result (List ℤ) SettingsFault
 integers_at key t =
@@ -77,10 +100,10 @@ unfoldable pub integers_if_any_at : (may_miss : Bool) → Key → Members → Re
 integers_if_any_at may_miss key t =
     if may_miss && not (is_some (found_at key t)) then Ok [] else integers_at key t
 
--- the list of texts at a key; the fault of an entry is one of the list
-unfoldable pub texts_at : Key → Members → Result (List (List ℕ)) SettingsFault
-texts_at key t =
-    and_then (required_at key t) (λ d. and_then (array_in (Kind key) d) (each (λ _. text_in (Kind key)) 0))
+-- the list of names at a key; the fault of an entry is one of the list
+unfoldable pub names_at : (has_longer : Bool) → Key → Members → Result (List (List ℕ)) SettingsFault
+names_at has_longer key t =
+    and_then (required_at key t) (λ d. and_then (array_in (Kind key) d) (each (λ _. name_in has_longer key) 0))
 
 -- entries, at least one
 abbrev pub some_in : Key → List Data → Result (List Data) SettingsFault

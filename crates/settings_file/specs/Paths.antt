@@ -1,5 +1,5 @@
 -- The addresses of a link over SCTP: those of this end that it lists, and those of its peer, which version 4 brought.
-use Rattle.std.specs.Prelude.{ℕ, ◌+◌, ◌||◌, Bool, false, nat_lt, List, [], ◌∷◌, length, drop, replicate, slice_set}
+use Rattle.std.specs.Prelude.{ℕ, ◌+◌, ◌||◌, Bool, false, nat_lt, List, [], ◌∷◌, length, replicate, slice_set}
 use Rattle.std.specs.Prelude.{Option, Some, None, Result, Ok, Err, if◌then◌else◌}
 use Rattle.std.specs.List.{list_any}
 use Rattle.std.specs.Option.{ok_or, option_map}

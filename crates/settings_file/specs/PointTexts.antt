@@ -1,5 +1,5 @@
 -- Point codes as a text says them: `4237`, or in three parts, `2-17-5`.
-use Rattle.std.specs.Prelude.{ℕ, ℤ, pos, negsuc, ◌+◌, ◌*◌, ◌==◌, Bool, ◌&&◌, nat_le, nat_lt, if◌then◌else◌}
+use Rattle.std.specs.Prelude.{ℕ, ℤ, pos, negsuc, ◌+◌, ◌*◌, ◌==◌, Bool, nat_le, nat_lt, if◌then◌else◌}
 use Rattle.std.specs.Prelude.{List, length, Option, None, Some, option_and_then}
 use Rattle.std.specs.List.{position_or_len, before_first, after_first}
 use Rattle.settings_file.specs.Durations.{number_in}

@@ -31,7 +31,7 @@ abbrev pub has_extensions : ℤ → Bool
 has_extensions version = int_eq version THIRD_VERSION || int_eq version LAST_VERSION
 
 -- whether a file of this version may ask that an order to change over goes out by any route, and that a peer keeps its
--- UDP port; may have durations, and leave out timers, which then run as usual; and has longer timeouts of SCTP, unless
--- it says them
+-- UDP port; may have durations and longer names of sets and links, and leave out timers, which then run as usual; and
+-- has longer timeouts of SCTP, unless it says them
 abbrev pub has_additions : ℤ → Bool
 has_additions version = int_eq version LAST_VERSION

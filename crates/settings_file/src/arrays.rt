@@ -11,33 +11,44 @@ ghost use Rattle.settings_file.specs.Entries.{sets_at, links_at, destinations_at
 
 use crate::fault::SettingsFault;
 use crate::node_keys::{
-    entries, found_at, integer, optional_integer, optional_point, optional_text, point, text,
-    texts, truth,
+    entries, found_at, integer, name_at, names, optional_integer, optional_point, optional_text,
+    point, text, truth,
 };
 use crate::shapes::{array_in, integer_in, table_in};
 use settings::{ChangeDraft, DestinationDraft, Key, LinkDraft, SetDraft, TitleDraft};
 use std::alloc::Global;
 use toml::{Table, Value};
 
-/// A link set, in a file whose version has texts of points or doesn't have them.
+/// A link set, in a file whose version has longer names and texts of points or doesn't have them.
 #[tactic(auto, unfolding(crate::specs::Entries::set_in))]
-fn set(alloc: Global, has_texts: bool, i: usize, value: &Value) -> Result<SetDraft, SettingsFault>
-    ensures { AnswersOrNoMemory set_written (set_in has_texts i (view value.now)) result }
+fn set(
+    alloc: Global,
+    has_additions: bool,
+    i: usize,
+    value: &Value,
+) -> Result<SetDraft, SettingsFault>
+    ensures { AnswersOrNoMemory set_written (set_in has_additions i (view value.now)) result }
 {
     let table = table_in(value, SettingsFault::Kind(Key::SetEntry(i)))?;
-    let name = text(alloc, table, Key::SetName(i))?;
-    let adjacent = point(has_texts, table, Key::SetAdjacent(i))?;
+    let name = name_at(alloc, has_additions, table, Key::SetName(i))?;
+    let adjacent = point(has_additions, table, Key::SetAdjacent(i))?;
     Ok(SetDraft { name, adjacent })
 }
 
-/// A link, in a file whose version has the key `share` or doesn't have it.
+/// A link, in a file whose version has the key `share`, and longer names, or doesn't have them.
 #[tactic(auto, unfolding(crate::specs::Entries::link_entry_in))]
-fn link(alloc: Global, has_share: bool, i: usize, value: &Value) -> Result<LinkDraft, SettingsFault>
-    ensures { AnswersOrNoMemory link_written (link_entry_in has_share i (view value.now)) result }
+fn link(
+    alloc: Global,
+    has_share: bool,
+    has_longer: bool,
+    i: usize,
+    value: &Value,
+) -> Result<LinkDraft, SettingsFault>
+    ensures { AnswersOrNoMemory link_written (link_entry_in has_share has_longer i (view value.now)) result }
 {
     let table = table_in(value, SettingsFault::Kind(Key::LinkEntry(i)))?;
-    let name = text(alloc, table, Key::LinkName(i))?;
-    let set = text(alloc, table, Key::LinkSet(i))?;
+    let name = name_at(alloc, has_longer, table, Key::LinkName(i))?;
+    let set = name_at(alloc, has_longer, table, Key::LinkSet(i))?;
     let slc = integer(table, Key::LinkSlc(i))?;
     let share = optional_integer(has_share, table, Key::LinkShare(i))?;
     Ok(LinkDraft {
@@ -48,20 +59,22 @@ fn link(alloc: Global, has_share: bool, i: usize, value: &Value) -> Result<LinkD
     })
 }
 
-/// A destination, in a file whose version has the key `joined` and texts of points or doesn't have them.
+/// A destination, in a file whose version has the key `joined`, and longer names and texts of points, or doesn't have
+/// them.
 #[tactic(auto, unfolding(crate::specs::Entries::destination_in))]
 fn destination(
     alloc: Global,
     has_joined: bool,
-    has_texts: bool,
+    has_additions: bool,
     i: usize,
     value: &Value,
 ) -> Result<DestinationDraft, SettingsFault>
-    ensures { AnswersOrNoMemory destination_written (destination_in has_joined has_texts i (view value.now)) result }
+    ensures { AnswersOrNoMemory destination_written
+        (destination_in has_joined has_additions i (view value.now)) result }
 {
     let table = table_in(value, SettingsFault::Kind(Key::DestinationEntry(i)))?;
-    let point = point(has_texts, table, Key::DestinationPoint(i))?;
-    let sets = texts(alloc, table, Key::DestinationSets(i))?;
+    let point = point(has_additions, table, Key::DestinationPoint(i))?;
+    let sets = names(alloc, has_additions, table, Key::DestinationSets(i))?;
     let joined = truth(has_joined, table, Key::DestinationJoined(i))?;
     Ok(DestinationDraft {
         point,
@@ -143,15 +156,15 @@ fn title(
 /// The link sets that values are.
 fn each_set(
     alloc: Global,
-    has_texts: bool,
+    has_additions: bool,
     values: &[Value],
 ) -> Result<Vec<SetDraft>, SettingsFault>
     ensures { AnswersOrNoMemory (λ sets. map set_written sets.items)
-        (each (set_in has_texts) 0 (map view values.now)) result }
+        (each (set_in has_additions) 0 (map view values.now)) result }
 {
     let mut sets = Vec::with_capacity(alloc, values.len())?;
     for i in 0..values.len() {
-        let set = set(alloc, has_texts, i, &values[i])?;
+        let set = set(alloc, has_additions, i, &values[i])?;
         sets.push(set)?;
     }
     Ok(sets)
@@ -161,14 +174,15 @@ fn each_set(
 fn each_link(
     alloc: Global,
     has_share: bool,
+    has_longer: bool,
     values: &[Value],
 ) -> Result<Vec<LinkDraft>, SettingsFault>
     ensures { AnswersOrNoMemory (λ links. map link_written links.items)
-        (each (link_entry_in has_share) 0 (map view values.now)) result }
+        (each (link_entry_in has_share has_longer) 0 (map view values.now)) result }
 {
     let mut links = Vec::with_capacity(alloc, values.len())?;
     for i in 0..values.len() {
-        let link = link(alloc, has_share, i, &values[i])?;
+        let link = link(alloc, has_share, has_longer, i, &values[i])?;
         links.push(link)?;
     }
     Ok(links)
@@ -178,15 +192,15 @@ fn each_link(
 fn each_destination(
     alloc: Global,
     has_joined: bool,
-    has_texts: bool,
+    has_additions: bool,
     values: &[Value],
 ) -> Result<Vec<DestinationDraft>, SettingsFault>
     ensures { AnswersOrNoMemory (λ destinations. map destination_written destinations.items)
-        (each (destination_in has_joined has_texts) 0 (map view values.now)) result }
+        (each (destination_in has_joined has_additions) 0 (map view values.now)) result }
 {
     let mut destinations = Vec::with_capacity(alloc, values.len())?;
     for i in 0..values.len() {
-        let destination = destination(alloc, has_joined, has_texts, i, &values[i])?;
+        let destination = destination(alloc, has_joined, has_additions, i, &values[i])?;
         destinations.push(destination)?;
     }
     Ok(destinations)
@@ -210,47 +224,49 @@ fn each_title(
     Ok(titles)
 }
 
-/// The link sets of a file, whose version has texts of points or doesn't have them.
+/// The link sets of a file, whose version has longer names and texts of points or doesn't have them.
 #[tactic(auto, unfolding(crate::specs::Entries::sets_at))]
 pub(crate) fn sets(
     alloc: Global,
-    has_texts: bool,
+    has_additions: bool,
     table: &Table,
 ) -> Result<Vec<SetDraft>, SettingsFault>
     ensures { AnswersOrNoMemory (λ sets. map set_written sets.items)
-        (sets_at has_texts (table_view table.now)) result }
+        (sets_at has_additions (table_view table.now)) result }
 {
     let values = entries(table, Key::Set)?;
-    each_set(alloc, has_texts, values)
+    each_set(alloc, has_additions, values)
 }
 
-/// The links of a file, whose version has the key `share` or doesn't have it.
+/// The links of a file, whose version has the key `share`, and longer names, or doesn't have them.
 #[tactic(auto, unfolding(crate::specs::Entries::links_at))]
 pub(crate) fn links(
     alloc: Global,
     has_share: bool,
+    has_longer: bool,
     table: &Table,
 ) -> Result<Vec<LinkDraft>, SettingsFault>
     ensures { AnswersOrNoMemory (λ links. map link_written links.items)
-        (links_at has_share (table_view table.now)) result }
+        (links_at has_share has_longer (table_view table.now)) result }
 {
     let values = entries(table, Key::Link)?;
-    each_link(alloc, has_share, values)
+    each_link(alloc, has_share, has_longer, values)
 }
 
-/// The destinations of a file, whose version has the key `joined` and texts of points or doesn't have them.
+/// The destinations of a file, whose version has the key `joined`, and longer names and texts of points, or doesn't have
+/// them.
 #[tactic(auto, unfolding(crate::specs::Entries::destinations_at))]
 pub(crate) fn destinations(
     alloc: Global,
     has_joined: bool,
-    has_texts: bool,
+    has_additions: bool,
     table: &Table,
 ) -> Result<Vec<DestinationDraft>, SettingsFault>
     ensures { AnswersOrNoMemory (λ destinations. map destination_written destinations.items)
-        (destinations_at has_joined has_texts (table_view table.now)) result }
+        (destinations_at has_joined has_additions (table_view table.now)) result }
 {
     let values = entries(table, Key::Destination)?;
-    each_destination(alloc, has_joined, has_texts, values)
+    each_destination(alloc, has_joined, has_additions, values)
 }
 
 /// The translation rows of a file, which may have none, and whose version has the keys of changed titles, and texts of

@@ -145,7 +145,7 @@ fn contents(alloc: Global, table: &Table) -> Result<Document, SettingsFault>
     let clock = clock_of(additions, table);
     let timers = timers(numbers.has_extensions(), clock, table)?;
     let sets = sets(alloc, additions, table)?;
-    let links = links(alloc, numbers.has_extensions(), table)?;
+    let links = links(alloc, numbers.has_extensions(), additions, table)?;
     let destinations = destinations(alloc, numbers.has_joined(), additions, table)?;
     let titles = titles(alloc, numbers.has_extensions(), additions, table)?;
     Ok(Document {

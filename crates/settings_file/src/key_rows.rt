@@ -57,7 +57,10 @@ pub(crate) const TABLE: &str = "a table";
 
 const TABLES: &str = "an array of tables";
 
-const NAME: &str = "1 to 16 of a to z, 0 to 9 and -";
+const NAME: &str = "1 to 32 of a to z, A to Z, 0 to 9, -, _ and .";
+
+/// What a name must be in versions before 4.
+pub(crate) const SHORT_NAME: &str = "1 to 16 of a to z, 0 to 9 and -";
 
 /// What the value of a point is where there are texts of points.
 const POINT_KIND: &str = "a point, such as 4237 or \"2-17-5\"";

@@ -6,11 +6,13 @@ ghost use Rattle.toml.specs.View.{view, table_view};
 ghost use Rattle.settings_file.specs.Faults.{Answers, AnswersOrNoMemory};
 ghost use Rattle.settings_file.specs.Shapes.{integer_in, text_in, each};
 ghost use Rattle.settings_file.specs.NodeKeys.{found_at, required_at, integer_at, truth_at, text_at};
-ghost use Rattle.settings_file.specs.NodeKeys.{optional_integer_at, optional_text_at, integers_at, texts_at, entries_at};
+ghost use Rattle.settings_file.specs.NodeKeys.{optional_integer_at, optional_text_at, integers_at, entries_at};
+ghost use Rattle.settings_file.specs.NodeKeys.{name_in, name_at, names_at};
 ghost use Rattle.settings_file.specs.NodeKeys.{point_in, point_at, optional_point_at, integers_if_any_at};
 
 use crate::fault::SettingsFault;
 use crate::key_rows::key_name;
+use crate::names::name_said;
 use crate::point_texts::point_said;
 use crate::shapes::{array_in, found, integer_in, text_in, truth_in, value};
 use settings::Key;
@@ -148,6 +150,34 @@ pub(crate) fn text(alloc: Global, table: &Table, key: Key) -> Result<String, Set
     owned_text_in(alloc, value, key)
 }
 
+/// The name that a value says, owned, in a file whose version has longer names or doesn't have them.
+#[tactic(auto, unfolding(crate::specs::NodeKeys::name_in))]
+fn name_in(
+    alloc: Global,
+    has_longer: bool,
+    value: &Value,
+    key: Key,
+) -> Result<String, SettingsFault>
+    ensures { AnswersOrNoMemory string_bytes (name_in has_longer key (view value.now)) result }
+{
+    let text = text_in(value, SettingsFault::Kind(key))?;
+    Ok(String::from_str(alloc, name_said(has_longer, text))?)
+}
+
+/// The name at a key, in a file whose version has longer names or doesn't have them.
+#[tactic(auto, unfolding(crate::specs::NodeKeys::name_at))]
+pub(crate) fn name_at(
+    alloc: Global,
+    has_longer: bool,
+    table: &Table,
+    key: Key,
+) -> Result<String, SettingsFault>
+    ensures { AnswersOrNoMemory string_bytes (name_at has_longer key (table_view table.now)) result }
+{
+    let value = required(table, key)?;
+    name_in(alloc, has_longer, value, key)
+}
+
 fn each_integer(alloc: Global, values: &[Value], key: Key) -> Result<Vec<i64>, SettingsFault>
     ensures { AnswersOrNoMemory (λ integers. integers.items)
         (each (λ _. integer_in (SettingsFault.Kind key)) 0 (map view values.now)) result }
@@ -160,16 +190,21 @@ fn each_integer(alloc: Global, values: &[Value], key: Key) -> Result<Vec<i64>, S
     Ok(integers)
 }
 
-fn each_text(alloc: Global, values: &[Value], key: Key) -> Result<Vec<String>, SettingsFault>
-    ensures { AnswersOrNoMemory (λ texts. map (λ text. string_bytes text) texts.items)
-        (each (λ _. text_in (SettingsFault.Kind key)) 0 (map view values.now)) result }
+fn each_name(
+    alloc: Global,
+    has_longer: bool,
+    values: &[Value],
+    key: Key,
+) -> Result<Vec<String>, SettingsFault>
+    ensures { AnswersOrNoMemory (λ names. map (λ name. string_bytes name) names.items)
+        (each (λ _. name_in has_longer key) 0 (map view values.now)) result }
 {
-    let mut texts = Vec::with_capacity(alloc, values.len())?;
+    let mut names = Vec::with_capacity(alloc, values.len())?;
     for i in 0..values.len() {
-        let text = owned_text_in(alloc, &values[i], key)?;
-        texts.push(text)?;
+        let name = name_in(alloc, has_longer, &values[i], key)?;
+        names.push(name)?;
     }
-    Ok(texts)
+    Ok(names)
 }
 
 /// The list of integers at a key.
@@ -200,15 +235,20 @@ pub(crate) fn integers_if_any(
     integers(alloc, table, key)
 }
 
-/// The list of texts at a key.
-#[tactic(auto, unfolding(crate::specs::NodeKeys::texts_at))]
-pub(crate) fn texts(alloc: Global, table: &Table, key: Key) -> Result<Vec<String>, SettingsFault>
-    ensures { AnswersOrNoMemory (λ texts. map (λ text. string_bytes text) texts.items)
-        (texts_at key (table_view table.now)) result }
+/// The list of names at a key, in a file whose version has longer names or doesn't have them.
+#[tactic(auto, unfolding(crate::specs::NodeKeys::names_at))]
+pub(crate) fn names(
+    alloc: Global,
+    has_longer: bool,
+    table: &Table,
+    key: Key,
+) -> Result<Vec<String>, SettingsFault>
+    ensures { AnswersOrNoMemory (λ names. map (λ name. string_bytes name) names.items)
+        (names_at has_longer key (table_view table.now)) result }
 {
     let value = required(table, key)?;
     let values = array_in(value, SettingsFault::Kind(key))?;
-    each_text(alloc, values, key)
+    each_name(alloc, has_longer, values, key)
 }
 
 /// The entries of the array at a key, at least one.

@@ -4,7 +4,9 @@ ghost use Rattle.std.specs.Prelude.{◌≡◌, Some, IfOk, string_bytes};
 ghost use Rattle.settings_rows.specs.declared.key.Key.{Key};
 ghost use Rattle.settings_file.specs.Sentences.{IsAbout, Names, key_of};
 
-use crate::key_rows::{FAR_POINT_ALONE, INTEGER, KeyRow, POINT_ALONE, TICKS_ALONE, key_row};
+use crate::key_rows::{
+    FAR_POINT_ALONE, INTEGER, KeyRow, POINT_ALONE, SHORT_NAME, TICKS_ALONE, key_row,
+};
 use crate::known_keys::{has_since, version_of};
 use crate::phrases::{missing, must_be, value_is};
 use crate::places::{about, value_at};
@@ -77,6 +79,9 @@ fn demand(document: &Table, key: Key) -> &'static str {
         }
         Key::SetAdjacent(_) | Key::DestinationPoint(_) if !has_additions(document) => {
             FAR_POINT_ALONE
+        }
+        Key::SetName(_) | Key::LinkName(_) | Key::LinkSet(_) if !has_additions(document) => {
+            SHORT_NAME
         }
         _ => key_row(key).demand,
     }

@@ -15,8 +15,8 @@ const SECOND_VERSION: i64 = 2;
 /// changed titles, and timers of tests and of emergency proving.
 const THIRD_VERSION: i64 = 3;
 
-/// The version that brought orders to change over by any route, bars of T2, durations, usual times of timers, peers that
-/// keep their UDP port, and longer timeouts of SCTP.
+/// The version that brought orders to change over by any route, bars of T2, durations, usual times of timers, longer
+/// names, peers that keep their UDP port, and longer timeouts of SCTP.
 const LAST_VERSION: i64 = 4;
 
 /// The version that brought a key: the first, the second, the third or the last.
@@ -75,7 +75,8 @@ pub(crate) fn has_extensions(version: i64) -> bool
     version == THIRD_VERSION || version == LAST_VERSION
 }
 
-/// Whether a file of this version has what version 4 brought: its keys, durations, and usual times of timers.
+/// Whether a file of this version has what version 4 brought: its keys, durations, longer names, and usual times of
+/// timers.
 pub(crate) fn has_additions(version: i64) -> bool
     ensures { result ≡ has_additions version }
 {

@@ -7,13 +7,13 @@ loop-i-init c = rw c.in_ok-links.ensures.items (after-none _)
 
 pub loop-i-preserved : goal.loop-i-preserved
 loop-i-preserved c =
-    read-next view (link_entry_in c.args.has_share) c.args.values.now c.loop-i.i _ _ c.loop-i.invariant
+    read-next view (link_entry_in c.args.has_share c.args.has_longer) c.args.values.now c.loop-i.i _ _ c.loop-i.invariant
     c.index-values-i.result _ _ c.loop-i-test.true c.index-values-i.is c.in_ok-link.ensures (rw c.in_ok-push.ensures.items (map-append link_written _ _))
 
 pub returns-in_err-link : goal.returns-in_err-link
 returns-in_err-link c =
     let p = err_from_is_err_and c.from_residual-in_err-link.result c.from_residual-in_err-link.ensures.1 in
-    rw (p.1, p.2) (read-fault_or view (link_entry_in c.args.has_share) c.args.values.now c.loop-i.i _ _ c.loop-i.invariant
+    rw (p.1, p.2) (read-fault_or view (link_entry_in c.args.has_share c.args.has_longer) c.args.values.now c.loop-i.i _ _ c.loop-i.invariant
     c.index-values-i.result _ c.loop-i-test.true c.index-values-i.is c.in_err-link.ensures)
 
 pub returns-in_err-push : goal.returns-in_err-push
@@ -27,4 +27,4 @@ returns-in_err-links c =
     rw p.1 (inl p.2)
 
 pub returns : goal.returns
-returns c = read-all view (link_entry_in c.args.has_share) c.args.values.now c.loop-i.i _ _ c.loop-i.invariant c.loop-i-test.false
+returns c = read-all view (link_entry_in c.args.has_share c.args.has_longer) c.args.values.now c.loop-i.i _ _ c.loop-i.invariant c.loop-i-test.false

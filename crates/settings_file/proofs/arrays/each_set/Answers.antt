@@ -7,13 +7,13 @@ loop-i-init c = rw c.in_ok-sets.ensures.items (after-none _)
 
 pub loop-i-preserved : goal.loop-i-preserved
 loop-i-preserved c =
-    read-next view (set_in c.args.has_texts) c.args.values.now c.loop-i.i _ _ c.loop-i.invariant
+    read-next view (set_in c.args.has_additions) c.args.values.now c.loop-i.i _ _ c.loop-i.invariant
     c.index-values-i.result _ _ c.loop-i-test.true c.index-values-i.is c.in_ok-set.ensures (rw c.in_ok-push.ensures.items (map-append set_written _ _))
 
 pub returns-in_err-set : goal.returns-in_err-set
 returns-in_err-set c =
     let p = err_from_is_err_and c.from_residual-in_err-set.result c.from_residual-in_err-set.ensures.1 in
-    rw (p.1, p.2) (read-fault_or view (set_in c.args.has_texts) c.args.values.now c.loop-i.i _ _ c.loop-i.invariant
+    rw (p.1, p.2) (read-fault_or view (set_in c.args.has_additions) c.args.values.now c.loop-i.i _ _ c.loop-i.invariant
     c.index-values-i.result _ c.loop-i-test.true c.index-values-i.is c.in_err-set.ensures)
 
 pub returns-in_err-push : goal.returns-in_err-push
@@ -27,4 +27,4 @@ returns-in_err-sets c =
     rw p.1 (inl p.2)
 
 pub returns : goal.returns
-returns c = read-all view (set_in c.args.has_texts) c.args.values.now c.loop-i.i _ _ c.loop-i.invariant c.loop-i-test.false
+returns c = read-all view (set_in c.args.has_additions) c.args.values.now c.loop-i.i _ _ c.loop-i.invariant c.loop-i-test.false

@@ -1,4 +1,4 @@
-use Rattle.settings_file.proofs.Basics.{codes, string_bytes, ◌++◌, IfOk-weaker}
+use Rattle.settings_file.proofs.Basics.{codes, ◌++◌, IfOk-weaker}
 use Rattle.std.specs.Fmt.{decimal}
 use Rattle.settings_file.proofs.unknown.later_warning.Goals as goal
 
