@@ -117,7 +117,7 @@ booked-split shape p x test =
       at-added shape p x (λ z. count_by test (waiting z) + lost test z) (λ z. count_by test (waiting z)) (lost test) (λ z. refl),
     )
 
-ends-once : (shape : Shape) (read : Message → Saying) (p : Network) → Sound shape read p → (point : ℕ) → EndsOnce shape read p point
+pub ends-once : (shape : Shape) (read : Message → Saying) (p : Network) → Sound shape read p → (point : ℕ) → EndsOnce shape read p point
 ends-once shape read p h point = record {
   each = λ test. omega (arith, (h.books point).each test, booked-split shape p point (user read test));
   named = λ test. (h.books point).named test;

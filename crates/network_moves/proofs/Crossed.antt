@@ -1,8 +1,9 @@
 -- The runs of the mated pair are some.
-use Rattle.network_moves.proofs.Basics.{◌++◌, refl, arith}
+use Rattle.network_moves.proofs.Basics.{◌≡◌, ◌||◌, ◌++◌, Bool, true, false, not, refl, arith}
 use Rattle.network_moves.proofs.Definitions.{first_network}
 use Rattle.network_moves.specs.Crossing.{joining, failing, ordering, answering, changing_over, moving, run, end_of, Crosses}
 use Rattle.network_moves.specs.LateAnswer.{giving_up, opening_again, late_run, EndsTheBar}
+use Rattle.network_moves.specs.Beside.{breaking, between, mates_run, MatesDecide}
 use Rattle.network_moves.proofs.Running.{AllCan, all-done, can-append, idle-opens}
 
 -- one after another
@@ -22,36 +23,36 @@ joining-can =
 failing-can : AllCan (end_of first_network joining) failing
 failing-can =
     (omega arith, refl)
-    ▷ (refl, refl) ▷ (refl, refl) ▷ (refl, refl, refl)
-    ▷ (omega arith, refl, refl) ▷ (omega arith, refl) ▷ (refl, refl) ▷ (refl, refl)
+    ▷ (refl, refl, refl) ▷ (refl, refl) ▷ (refl, refl, refl)
+    ▷ (omega arith, refl, refl) ▷ (omega arith, refl) ▷ (refl, refl, refl) ▷ (refl, refl)
     ▷ refl ▷ refl ▷ refl ▷ refl ▷ (refl, refl)
     ▷ tt
 
 ordering-can : AllCan (end_of first_network (joining ++ failing)) ordering
 ordering-can =
     (refl, refl, refl)
-    ▷ (refl, refl) ▷ (refl, refl) ▷ (refl, refl, refl) ▷ (refl, refl) ▷ (refl, refl) ▷ (refl, refl, refl)
+    ▷ (refl, refl, refl) ▷ (refl, refl) ▷ (refl, refl, refl) ▷ (refl, refl, refl) ▷ (refl, refl) ▷ (refl, refl, refl)
     ▷ tt
 
 answering-can : AllCan (end_of first_network (joining ++ failing ++ ordering)) answering
 answering-can =
     (refl, refl, refl, refl, refl)
-    ▷ (refl, refl) ▷ (refl, refl) ▷ (refl, refl, refl) ▷ (refl, refl) ▷ (refl, refl) ▷ (refl, refl, refl)
+    ▷ (refl, refl, refl) ▷ (refl, refl) ▷ (refl, refl, refl) ▷ (refl, refl, refl) ▷ (refl, refl) ▷ (refl, refl, refl)
     ▷ (refl, refl, refl, refl, refl)
     ▷ tt
 
 changing_over-can : AllCan (end_of first_network (joining ++ failing ++ ordering ++ answering)) changing_over
 changing_over-can =
     (refl, refl, refl)
-    ▷ (refl, refl) ▷ (refl, refl) ▷ (refl, refl, refl) ▷ (refl, refl) ▷ (refl, refl) ▷ (refl, refl, refl)
+    ▷ (refl, refl, refl) ▷ (refl, refl) ▷ (refl, refl, refl) ▷ (refl, refl, refl) ▷ (refl, refl) ▷ (refl, refl, refl)
     ▷ (refl, refl, refl, refl, refl)
-    ▷ (refl, refl) ▷ (refl, refl) ▷ (refl, refl, refl) ▷ (refl, refl) ▷ (refl, refl) ▷ (refl, refl, refl)
+    ▷ (refl, refl, refl) ▷ (refl, refl) ▷ (refl, refl, refl) ▷ (refl, refl, refl) ▷ (refl, refl) ▷ (refl, refl, refl)
     ▷ (refl, refl, refl, refl, refl)
     ▷ tt
 
 moving-can : AllCan (end_of first_network (joining ++ failing ++ ordering ++ answering ++ changing_over)) moving
 moving-can =
-    (refl, refl) ▷ (refl, refl) ▷ (refl, refl, refl) ▷ (refl, refl) ▷ (refl, refl) ▷ (refl, refl, refl)
+    (refl, refl, refl) ▷ (refl, refl) ▷ (refl, refl, refl) ▷ (refl, refl, refl) ▷ (refl, refl) ▷ (refl, refl, refl)
     ▷ (omega arith, refl, refl)
     ▷ tt
 
@@ -81,19 +82,44 @@ crosses = record {
   };
 }
 
+-- ---- point 0 breaks
+
+apart-can : AllCan (end_of first_network joining) breaking
+apart-can = refl ▷ (refl, refl, refl) ▷ refl ▷ tt
+
+between-can : AllCan (end_of first_network (joining ++ breaking)) between
+between-can = (omega arith, refl) ▷ (refl, refl, refl) ▷ (refl, refl) ▷ (refl, refl, refl) ▷ (omega arith, refl, refl) ▷ tt
+
+-- a link that leads where it may, by what concerns the mates
+within-so : (a b : Bool) → (a || not b) ≡ true → b ≡ true → a ≡ true
+within-so true b e f = refl
+within-so false true e f = e
+within-so false false e f = f
+
+pub mates-decide : MatesDecide
+mates-decide = record {
+  closed = record { stays = λ place m inside leads of. within-so _ _ leads of; lasting = λ point out. out };
+  moves = all-done first_network mates_run (can-append first_network (joining ++ breaking) between (can-append first_network joining breaking joining-can apart-can) between-can);
+  broken = refl;
+  whole = (refl, refl);
+  left = (refl, refl);
+  accepted = refl;
+  ended = refl;
+}
+
 -- ---- the late answer
 
 giving_up-can : AllCan (end_of first_network joining) giving_up
 giving_up-can =
-    (omega arith, refl) ▷ (refl, refl) ▷ (refl, refl) ▷ refl ▷ refl ▷ (refl, refl) ▷ (refl, refl, refl)
-    ▷ (refl, refl) ▷ (refl, refl) ▷ (refl, refl, refl) ▷ (refl, refl) ▷ (refl, refl) ▷ (refl, refl, refl)
+    (omega arith, refl) ▷ (refl, refl, refl) ▷ (refl, refl) ▷ refl ▷ refl ▷ (refl, refl) ▷ (refl, refl, refl)
+    ▷ (refl, refl, refl) ▷ (refl, refl) ▷ (refl, refl, refl) ▷ (refl, refl, refl) ▷ (refl, refl) ▷ (refl, refl, refl)
     ▷ refl
     ▷ tt
 
 opening_again-can : AllCan (end_of first_network (joining ++ giving_up)) opening_again
 opening_again-can =
     (refl, refl, refl, refl, refl)
-    ▷ (refl, refl) ▷ (refl, refl) ▷ (refl, refl, refl) ▷ (refl, refl) ▷ (refl, refl) ▷ (refl, refl, refl)
+    ▷ (refl, refl, refl) ▷ (refl, refl) ▷ (refl, refl, refl) ▷ (refl, refl, refl) ▷ (refl, refl) ▷ (refl, refl, refl)
     ▷ (refl, refl, refl, refl) ▷ (refl, refl)
     ▷ tt
 

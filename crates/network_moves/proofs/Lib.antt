@@ -18,3 +18,11 @@ pub mod Keeping
 pub mod Concluded
 pub mod Running
 pub mod Crossed
+pub mod Masking
+pub mod Apart
+pub mod Following
+pub mod FollowedNodes
+pub mod FollowedFrames
+pub mod FollowedFailures
+pub mod FollowedReturns
+pub mod Grouped

@@ -269,7 +269,7 @@ line-heard z rest some up h = record {
 }
 
 -- what goes out is the first message that wasn't sent
-record IsNext (q : Queue) (window : ℕ) (sending : Sending) : Type 0 where
+pub record IsNext (q : Queue) (window : ℕ) (sending : Sending) : Type 0 where
   pub room : q.sent - q.confirmed < window
   pub number : forward_number q q.sent ≡ sending.number
   pub message : slice_get q.all q.sent ≡ Some sending.message
@@ -293,7 +293,7 @@ numbered-there false number o s e = grind arith
 below-window : (outstanding window : ℕ) → nat_lt outstanding window ≡ true → outstanding < window
 below-window outstanding window e = grind (arith, nat_tests)
 
-is-next : (q : Queue) (window : ℕ) (s : Sending) → to_send q window ≡ Some s → IsNext q window s
+pub is-next : (q : Queue) (window : ℕ) (s : Sending) → to_send q window ≡ Some s → IsNext q window s
 is-next q window s e =
     let n : numbered (forward_number q q.sent) (slice_get q.all q.sent) ≡ Some s =
     numbered-there (nat_lt (q.sent - q.confirmed) window) (forward_number q q.sent) (slice_get q.all q.sent) s e in

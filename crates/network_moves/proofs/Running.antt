@@ -1,6 +1,6 @@
 -- What is done in the run is a move, where it may be done.
 use Rattle.network_moves.proofs.Basics.{◌≡◌, ℕ, Bool, true, false, ◌<◌, ◌||◌, List, [], ◌∷◌, ◌++◌, count_by, refl, ap, arith, if◌then◌else◌, eq-eqb, ne_eqb, Some, Ok}
-use Rattle.network_moves.proofs.Definitions.{Message, opposite, Order, Answer, is_user_message, MessageFrame, LinkEnd, Line, Node, Network, seen, point_at, NodeBecomes, Becomes, IsTakenFrom, MayOpen, Move, Moves, last_accepted, named_count, accept_answer, to_send}
+use Rattle.network_moves.proofs.Definitions.{Message, opposite, Order, Answer, is_user_message, MessageFrame, LinkEnd, Line, Node, Network, seen, point_at, NodeBecomes, Becomes, IsTakenFrom, MayOpen, Move, Moves, with_wait, last_accepted, named_count, accept_answer, to_send}
 use Rattle.network_moves.specs.Moves as moves
 use Rattle.network_moves.specs.Crossing as run
 use Rattle.network_moves.specs.Crossing.{Doing, MatedEnd, place_of, mated, read_plainly, at, there, with_node, with_both, after, networks_of, end_of}
@@ -84,7 +84,8 @@ Can p (run.hears end) = ((at p end).near.up ≡ true) × ((at p end).told_near �
 Can p (run.enters end) = ((at p end).near.up ≡ true) × ((at p end).near.heard ≡ true)
 Can p (run.submits point message) = (point < 3) × (is_user_message (read_plainly message) ≡ true)
 Can p (run.ends point message) = (point < 3) × ((p.node point).bag ≡ message ∷ []) × (is_user_message (read_plainly message) ≡ true)
-Can p (run.places end message) = ((there p end).bag ≡ message ∷ []) × ((at p end).near.serving ≡ true)
+Can p (run.places end message) =
+    ((there p end).bag ≡ message ∷ []) × ((at p end).near.serving ≡ true) × (mated.leads (place_of end).link (place_of end).side message ≡ true)
 Can p (run.sends end number message) = ((at p end).near.serving ≡ true) × (to_send (at p end).near.queue 2 ≡ Some (record { number = number; message = message }))
 Can p (run.takes end fsn bsn message count) =
     ((at p end).to_near ≡ MessageFrame fsn bsn message ∷ []) × ((at p end).near.up ≡ true) × (accept_answer (at p end).near.queue fsn bsn true ≡ Ok count)
@@ -104,6 +105,7 @@ Can p (run.runs_out end) = (at p end).near.incomplete ≡ true
 Can p (run.ends_wait end answer number) =
     ((there p end).bag ≡ answer ∷ []) × (read_plainly answer ≡ Answer (place_of end).link (opposite (place_of end).side) number)
     × ((at p end).near.awaited ≡ true) × ((at p end).near.incomplete ≡ false)
+Can p (run.releases end) = (at p end).near.awaited ≡ true
 
 done : (p : Network) (d : Doing) → Can p d → Move mated read_plainly p (after p d)
 done p (run.opens end) c = moves.opens_first (record { place = place_of end; near_may = idle-opens (at p end).near c.0; far_may = idle-opens (at p end).far c.1; after = both-set p end _ _ })
@@ -115,7 +117,7 @@ done p (run.submits point message) c = moves.submits (record { point = point; me
 done p (run.ends point message) c =
     moves.ends (record { point = point; message = message; rest = []; taken = taken (p.node point).bag message c.1; user = c.2; after = node-set p point _ c.0 })
 done p (run.places end message) c =
-    moves.places (record { place = place_of end; message = message; rest = []; taken = taken (there p end).bag message c.0; serving = c.1; after = both-set p end _ _ })
+    moves.places (record { place = place_of end; message = message; rest = []; taken = taken (there p end).bag message c.0; serving = c.1; leads = c.2; after = both-set p end _ _ })
 done p (run.sends end number message) c =
     moves.sends_message (record {
       place = place_of end;
@@ -184,6 +186,22 @@ done p (run.ends_wait end answer number) c =
       awaited = c.2;
       complete = c.3;
       after = both-set p end _ _;
+    })
+done p (run.releases end) c =
+    let point : ℕ = point_at mated (place_of end) in
+    let z : Line = with_wait (at p end) false in
+    let set : Becomes mated p (with_both p end z (there p end)) (place_of end) z (there p end) = both-set p end z (there p end) in
+    moves.releases_bar (record {
+      place = place_of end;
+      awaited = c;
+      after = record {
+        inside = set.inside;
+        lines = record { inside = set.lines.inside; here = set.lines.here; others = set.lines.others };
+        here = set.here;
+        others = set.others;
+        broken = ap (λ (b : Bool). b || p.broken point) (eq-eqb point point refl);
+        others_broken = λ other d. ap (λ (b : Bool). b || p.broken other) (ne_eqb other point d);
+      };
     })
 
 -- ---- a list of them

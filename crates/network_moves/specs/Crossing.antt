@@ -1,7 +1,7 @@
 -- A run of the moves: points 1 and 2 are a mated pair, and point 0 is reached from 1 by two links, and by 2. Both links
 -- fail, one with a message on it that came, and one with a message that didn't. The orders and the answers go by point
 -- 2, and so does the second message.
-use Rattle.std.specs.Prelude.{◌≡◌, ℕ, true, false, List, [], ◌∷◌, ◌++◌, drop, slice_index, nat_eq}
+use Rattle.std.specs.Prelude.{◌≡◌, ◌||◌, ℕ, Bool, true, false, not, List, [], ◌∷◌, ◌++◌, drop, slice_index, nat_eq}
 use Rattle.std.specs.Prelude.{if◌then◌else◌}
 use Rattle.signalling_types.specs.Message.{Message, is_management}
 use Rattle.signalling_types.specs.Numbers.{number_of}
@@ -15,6 +15,7 @@ use Rattle.network_moves.specs.Failing.{with_failure, with_wait, with_completion
 use Rattle.network_moves.specs.Returning.{MayOpen, opened_first, opened_second, with_service}
 use Rattle.network_moves.specs.Moves.{Moves, last_of}
 use Rattle.network_moves.specs.Laws.{under_way}
+use Rattle.network_moves.specs.Groups.{concerns, is_within}
 use Rattle.network_moves.specs.Quiet.{first_network}
 
 -- how messages are read here: a management message has a heading, a link, which end of it made the message, and three
@@ -76,8 +77,31 @@ abbrev pub mated_point : ℕ → Side → ℕ
 mated_point link Near = if nat_eq link 3 then 2 else 1
 mated_point link Far = if nat_eq link 2 then 2 else 0
 
+-- the mates, and the user messages for point 2
+abbrev pub is_mate : ℕ → Bool
+is_mate point = nat_eq point 1 || nat_eq point 2
+
+abbrev pub is_for_mate : Message → Bool
+is_for_mate m = nat_eq (slice_index m.sif 0) 2
+
+-- any message may go by any link, and any node may start again
+abbrev pub mated_freely : Shape
+mated_freely = record {
+  nodes = 3;
+  links = 4;
+  point = mated_point;
+  leads = λ link side message. true;
+  restarts = λ point. true;
+}
+
+-- but what concerns the mates goes between them by the cross link alone, and point 0 doesn't start again
 abbrev pub mated : Shape
-mated = record { nodes = 3; links = 4; point = mated_point }
+mated = record mated_freely {
+  leads = λ link side m.
+      is_within mated_freely read_plainly is_mate is_for_mate link
+      || not (concerns mated_freely read_plainly is_mate is_for_mate m);
+  restarts = is_mate;
+}
 
 -- ---- what is done
 
@@ -99,6 +123,7 @@ pub data Doing : Type 0 where
   completes : MatedEnd → (answer : Message) (number : ℕ) (count : ℕ) → Doing
   runs_out : MatedEnd → Doing
   ends_wait : MatedEnd → (answer : Message) (number : ℕ) → Doing
+  releases : MatedEnd → Doing
 
 abbrev pub at : Network → MatedEnd → Line
 at p end = line_at p (place_of end)
@@ -157,6 +182,9 @@ after p (runs_out end) =
     (without_unconfirmed (there p end) (at p end).near.queue)
 after p (ends_wait end answer number) =
     with_both p end (with_wait (at p end) false) (record (there p end) { bag = [] })
+after p (releases end) = record (with_both p end (with_wait (at p end) false) (there p end)) {
+  broken = λ other. nat_eq other (point_at mated (place_of end)) || p.broken other;
+}
 
 -- ---- the run
 

@@ -9,5 +9,7 @@ pub mod Flowing
 pub mod Laws
 pub mod Quiet
 pub mod Theorems
+pub mod Groups
 pub mod Crossing
 pub mod LateAnswer
+pub mod Beside

@@ -69,11 +69,14 @@ pub record Network : Type 0 where
   -- the nodes of which nothing is promised any more
   pub broken : ℕ → Bool
 
--- which nodes and links there are, each by its number, and at which nodes the ends of a link are
+-- which nodes and links there are, each by its number; at which nodes the ends of a link are; which messages the node
+-- there may put on an end; and which nodes may start again
 pub record Shape : Type 0 where
   pub nodes : ℕ
   pub links : ℕ
   pub point : ℕ → Side → ℕ
+  pub leads : ℕ → Side → Message → Bool
+  pub restarts : ℕ → Bool
 
 -- ---- a link seen from either end
 

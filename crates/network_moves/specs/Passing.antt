@@ -63,13 +63,14 @@ module _ (shape : Shape) (read : Message → Saying) (p q : Network) where
     pub management : is_user_message (read message) ≡ false
     pub after : NodeBecomes shape p q point (record (p.node point) { bag = rest })
 
-  -- a message goes after those of a link in service, whatever link it is (Q.704 §2.3)
+  -- a message goes after those of a link in service, by whatever link it may go (Q.704 §2.3)
   pub record Places : Type 0 where
     pub place : Place
     pub message : Message
     pub rest : List Message
     pub taken : IsTakenFrom (node_at shape p place).bag message rest
     pub serving : (line_at p place).near.serving ≡ true
+    pub leads : shape.leads place.link place.side message ≡ true
     pub after : Becomes shape p q place
         (with_message (line_at p place) message)
         (record (node_at shape p place) { bag = rest })

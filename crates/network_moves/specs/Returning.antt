@@ -124,9 +124,10 @@ module _ (shape : Shape) (read : Message → Saying) (p q : Network) where
         (with_completion (line_at p place) Gone false)
         (without_unconfirmed (record (node_at shape p place) { bag = rest }) (line_at p place).near.queue)
 
-  -- a node starts again: whatever it and the ends of its links become, nothing else changes
+  -- a node starts again, if it may: whatever it and the ends of its links become, nothing else changes
   pub record StartsAgain : Type 0 where
     pub point : ℕ
+    pub may : shape.restarts point ≡ true
     pub others : (other : ℕ) → other ≢ point → q.node other ≡ p.node other
     pub lines : (link : ℕ) → shape.point link Near ≢ point → shape.point link Far ≢ point → q.line link ≡ p.line link
     pub broken : q.broken point ≡ true

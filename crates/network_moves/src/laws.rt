@@ -12,9 +12,11 @@ ghost use Rattle.network_moves.specs.Theorems.{OrdersMoveWhatIsLacked, AnswersMo
 ghost use Rattle.network_moves.specs.Theorems.{OrdersAreReasonable, AnswersAreReasonable};
 ghost use Rattle.network_moves.specs.Theorems.{EachMessageEntersOnce, EachMessageEndsOnce, EachMessageIsAccountedFor};
 ghost use Rattle.network_moves.specs.Laws.{WordsAreAwaited, WordsAreTrue};
+ghost use Rattle.network_moves.specs.Groups.{groups_decide_alone};
 ghost use Rattle.network_moves.specs.Quiet.{first_networks_are_quiet};
 ghost use Rattle.network_moves.specs.Crossing.{Crosses};
 ghost use Rattle.network_moves.specs.LateAnswer.{EndsTheBar};
+ghost use Rattle.network_moves.specs.Beside.{MatesDecide};
 
 /// Law (i), of one link and one direction. While either end is up, and until the near end's changeover is complete,
 /// unless an end may follow the other, the far end accepted the first messages of the near end's queue, as many as it
@@ -71,6 +73,16 @@ pub fn each_message_is_accounted_for()
     ensures { Always EachMessageIsAccountedFor }
 {}
 
+/// Of a closed group of nodes, its own nodes decide alone what becomes of the messages for it. A group is closed if its
+/// nodes put what concerns it (user messages for it, and orders and answers about the links between its nodes) on links
+/// between its nodes alone, and no other node starts again. After every list of moves from the first network on, while
+/// no node of the group is broken, whatever the others are: of any kind of user messages for the group, as many came in
+/// at each of its nodes as ended there; came from it to a node of the group by a link; wait, at the node or on such a
+/// link; or are gone. And no more are gone than its notices of loss name.
+pub fn closed_groups_decide_alone()
+    ensures { groups_decide_alone }
+{}
+
 /// The first network is quiet, whatever its shape.
 pub fn a_new_network_is_quiet()
     ensures { first_networks_are_quiet }
@@ -89,4 +101,10 @@ pub fn messages_cross_by_a_third_node()
 /// is broken.
 pub fn a_late_answer_ends_the_bar()
     ensures { EndsTheBar }
+{}
+
+/// Nor is the law of closed groups. In a run of 40 moves a point beside the mated pair breaks, whose order is still under
+/// way. The pair is a closed group, and a message from one to the other comes, once.
+pub fn a_closed_group_lasts()
+    ensures { MatesDecide }
 {}

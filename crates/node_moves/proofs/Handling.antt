@@ -318,6 +318,7 @@ module _ (shape : Shape) (o : IsShape shape) (c : Configuration) (well : IsWell 
           rest = bag_of w;
           taken = subst (λ (x : net.Node). IsTakenFrom x.bag m (bag_of w)) (sym here) (taken-loose p n m a l k s);
           serving = serving;
+          leads = o.leads its.link its.side m;
           after = end-set shape p its _ _ (link-inside shape o c well link) (own-inside shape o c well link);
         }));
   }

@@ -38,7 +38,7 @@ point_by Near link = link / 2 ^ 18
 point_by Far link = link / 2 ^ 4 % 2 ^ 14
 
 unfoldable pub all_points : Shape
-all_points = record { nodes = 2 ^ 14; links = 2 ^ 32; point = λ link side. point_by side link }
+all_points = record { nodes = 2 ^ 14; links = 2 ^ 32; point = λ link side. point_by side link; leads = λ link side m. true; restarts = λ point. false }
 
 line-within : (first : Bool) (own other slc : ℕ) → own < 2 ^ 14 → other < 2 ^ 14 → slc < 2 ^ 4 → (place_by first own other slc).link < 2 ^ 32
 line-within true own other slc a b d = omega (arith, a, b, d)
@@ -54,6 +54,7 @@ are-all = record {
   nodes = λ point l. l;
   links = λ own other slc a b d. line-within (nat_lt own other) own other slc a b d;
   points = λ own other slc a b d. point-back (nat_lt own other) own other slc a b d;
+  leads = λ link side m. refl;
 }
 
 -- ---- the next text in flight

@@ -1,0 +1,72 @@
+-- Of a group of nodes: what becomes of the messages for it is decided by its own nodes, whatever the others do.
+use Rattle.std.specs.Prelude.{◌≡◌, ◌+◌, ◌≤◌, ◌&&◌, ℕ, Bool, true, false, List, count_by, nat_eq, if◌then◌else◌}
+use Rattle.signalling_types.specs.Message.{Message}
+use Rattle.network_moves.specs.Sayings.{Near, Far, Saying, UserMessage, Order, Answer, Other, user}
+use Rattle.network_moves.specs.Networks.{Line, Network, Shape, Place, point_at, sum_of_ends, waiting, given_up}
+use Rattle.network_moves.specs.Moves.{Moves, last_of}
+use Rattle.network_moves.specs.Quiet.{first_network}
+
+module _ (shape : Shape) (read : Message → Saying) (group : ℕ → Bool) (for_group : Message → Bool) where
+  -- a link within the group: both its ends are at nodes of the group
+  abbrev pub is_within : (link : ℕ) → Bool
+  is_within link = group (shape.point link Near) && group (shape.point link Far)
+
+  -- what concerns the group: user messages for it, and orders and answers about links within
+  abbrev pub says_of_group : (for_it : Bool) → Saying → Bool
+  says_of_group for_it UserMessage = for_it
+  says_of_group for_it (Order link maker number) = is_within link
+  says_of_group for_it (Answer link maker number) = is_within link
+  says_of_group for_it Other = false
+
+  abbrev pub concerns : Message → Bool
+  concerns m = says_of_group (for_group m) (read m)
+
+  -- the group is closed: its nodes put what concerns it on no link but those within, and no other node starts again
+  pub record IsClosed : Type 0 where
+    pub stays : (place : Place) (m : Message) → group (point_at shape place) ≡ true →
+        shape.leads place.link place.side m ≡ true → concerns m ≡ true → is_within place.link ≡ true
+    pub lasting : (point : ℕ) → group point ≡ false → shape.restarts point ≡ false
+
+  -- ---- what became of the messages for the group, at one of its nodes
+
+  -- the sum over the ends at a node of the links within
+  abbrev pub sum_within : (Line → ℕ) → Network → (point : ℕ) → ℕ
+  sum_within f p point =
+      sum_of_ends shape (λ link side z. if is_within link && nat_eq (shape.point link side) point then f z else 0) p
+
+  module _ (test : Message → Bool) (p : Network) (point : ℕ) where
+    -- those that came to another node of the group by a link; those that wait; and those that were given up, and didn't
+    -- come
+    abbrev pub came_within : ℕ
+    came_within = sum_within (λ z. count_by test z.near.came) p point
+
+    abbrev pub waits_within : ℕ
+    waits_within = count_by test (p.node point).bag + sum_within (λ z. count_by test (waiting z)) p point
+
+    abbrev pub gone_within : ℕ
+    gone_within =
+        count_by test (p.node point).gone
+        + sum_within (λ z. count_by test z.near.gone + count_by test (given_up z)) p point
+
+  -- user messages for the group that pass a test
+  abbrev pub users_for : (Message → Bool) → Message → Bool
+  users_for test = user read (λ m. for_group m && test m)
+
+  -- of every kind of user message for the group that came in at a node, each ended there, came to a node of the group
+  -- once, waits, or is gone; and no more are gone than notices name
+  pub record EndsOnceWithin (p : Network) (point : ℕ) : Type 0 where
+    pub each : (test : Message → Bool) →
+        count_by (users_for test) (p.node point).accepted
+        ≡ count_by (users_for test) (p.node point).ended + came_within (users_for test) p point
+        + waits_within (users_for test) p point
+        + gone_within (users_for test) p point
+    pub named : (test : Message → Bool) →
+        gone_within (users_for test) p point ≤ count_by (users_for test) (p.node point).named
+
+-- so it is after every list of moves from the first network on, while no node of the group is broken
+abbrev pub groups_decide_alone : Type 0
+groups_decide_alone =
+    (shape : Shape) (read : Message → Saying) (group : ℕ → Bool) (for_group : Message → Bool) (networks : List Network)
+    (point : ℕ) → IsClosed shape read group for_group → Moves shape read first_network networks →
+    ((other : ℕ) → group other ≡ true → (last_of first_network networks).broken other ≡ false) →
+    group point ≡ true → EndsOnceWithin shape read group for_group (last_of first_network networks) point
