@@ -26,3 +26,4 @@ pub mod FollowedFrames
 pub mod FollowedFailures
 pub mod FollowedReturns
 pub mod Grouped
+pub mod Lasting

@@ -303,7 +303,7 @@ is-next q window s e =
       message = next-message (forward_number q q.sent) (slice_get q.all q.sent) s n;
     }
 
-queue-sent : (q : Queue) (window : ℕ) (s : Sending) → window ≤ WINDOW → IsQueue WINDOW q → IsNext q window s → IsQueue WINDOW (after_sending q (Some s))
+pub queue-sent : (q : Queue) (window : ℕ) (s : Sending) → window ≤ WINDOW → IsQueue WINDOW q → IsNext q window s → IsQueue WINDOW (after_sending q (Some s))
 queue-sent q window s small h n =
     let l : q.sent < length q.all = slice_get_within q.all q.sent s.message n.message in
     record { confirmed = omega (arith, h.confirmed); sent = omega (arith, l); window = omega (arith, n.room, small, h.confirmed); limit = h.limit }

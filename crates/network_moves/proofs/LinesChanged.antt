@@ -156,7 +156,7 @@ line-unawaited z h = record {
 
 -- ---- an opening
 
-opened : (came gone : List Message) → IsEnd (opened_end came gone)
+pub opened : (came gone : List Message) → IsEnd (opened_end came gone)
 opened came gone = record {
   queue = sound-first WINDOW (omega arith);
   base = refl;

@@ -35,7 +35,7 @@ line-left z frame rest first down h = record {
 }
 
 -- an end of which more has come
-end-came : (x : LinkEnd) (came : List Message) → IsEnd x → IsEnd (record x { came = came })
+pub end-came : (x : LinkEnd) (came : List Message) → IsEnd x → IsEnd (record x { came = came })
 end-came x came h = record {
   queue = h.queue;
   base = h.base;
@@ -47,7 +47,7 @@ end-came x came h = record {
   idle = h.idle;
 }
 
-queue-accepted : (q : Queue) (fsn bsn : ℕ) (carries : Bool) (count : ℕ) → accept_answer q fsn bsn carries ≡ Ok count → IsQueue WINDOW q →
+pub queue-accepted : (q : Queue) (fsn bsn : ℕ) (carries : Bool) (count : ℕ) → accept_answer q fsn bsn carries ≡ Ok count → IsQueue WINDOW q →
     IsQueue WINDOW (after_answer q carries (Ok count))
 queue-accepted q fsn bsn carries count e h = subst (λ r. IsQueue WINDOW (after_answer q carries r)) e (sound-accepted q fsn bsn carries h)
 

@@ -10,6 +10,7 @@ pub mod Laws
 pub mod Quiet
 pub mod Theorems
 pub mod Groups
+pub mod Lasting
 pub mod Crossing
 pub mod LateAnswer
 pub mod Beside

@@ -1,8 +1,8 @@
-//! What holds after every list of moves from every quiet network on, as the first is, while no node is broken. A
-//! network is quiet (`specs/Quiet.antt`) while all its links are closed at both ends, its nodes' books begin, and no
-//! node has a user message, an order or an answer. It may have any shape. The moves are those of `specs/Passing.antt`
-//! (Q.704 §2), `specs/Carrying.antt` (RFC 4165 §2), `specs/Failing.antt` (Q.704 §5) and `specs/Returning.antt` (Q.704
-//! §6).
+//! What holds after every list of moves from every quiet network on, as the first is, while no node is broken; two laws
+//! ask less of nodes, and begin with the first network. A network is quiet (`specs/Quiet.antt`) while all its links are
+//! closed at both ends, its nodes' books begin, and no node has a user message, an order or an answer. It may have any
+//! shape. The moves are those of `specs/Passing.antt` (Q.704 §2), `specs/Carrying.antt` (RFC 4165 §2),
+//! `specs/Failing.antt` (Q.704 §5) and `specs/Returning.antt` (Q.704 §6).
 
 ghost use Rattle.network_moves.specs.Theorems.{Always, LinesFlow, FirstEndsAreAlone, EndsAreSound, MovedEndsAreAlone};
 ghost use Rattle.network_moves.specs.Theorems.{MessagesComeInOrder};
@@ -13,6 +13,7 @@ ghost use Rattle.network_moves.specs.Theorems.{OrdersAreReasonable, AnswersAreRe
 ghost use Rattle.network_moves.specs.Theorems.{EachMessageEntersOnce, EachMessageEndsOnce, EachMessageIsAccountedFor};
 ghost use Rattle.network_moves.specs.Laws.{WordsAreAwaited, WordsAreTrue};
 ghost use Rattle.network_moves.specs.Groups.{groups_decide_alone};
+ghost use Rattle.network_moves.specs.Lasting.{ends_last};
 ghost use Rattle.network_moves.specs.Quiet.{first_networks_are_quiet};
 ghost use Rattle.network_moves.specs.Crossing.{Crosses};
 ghost use Rattle.network_moves.specs.LateAnswer.{EndsTheBar};
@@ -81,6 +82,14 @@ pub fn each_message_is_accounted_for()
 /// link; or are gone. And no more are gone than its notices of loss name.
 pub fn closed_groups_decide_alone()
     ensures { groups_decide_alone }
+{}
+
+/// So much holds whichever nodes are broken, while none starts again, after every list of moves from the first network
+/// on. Each end of a link is sound: its counts are in order and within the window, in service it is up, while a
+/// changeover goes on or an answer is awaited it is down, and it has no message but in service and until its changeover
+/// is complete. And no order or answer at a node or on an end has a number of more than 24 bits.
+pub fn ends_stay_sound()
+    ensures { ends_last }
 {}
 
 /// The first network is quiet, whatever its shape.
