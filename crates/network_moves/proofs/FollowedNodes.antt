@@ -2,7 +2,7 @@
 use Rattle.network_moves.proofs.Basics.{◌≡◌, ℕ, Bool, true, false, List, [], ◌∷◌, count_by, refl, ap, ◌∙◌, arith}
 use Rattle.network_moves.proofs.Definitions.{Message, Saying, UserMessage, Other, is_user_message, user, Line, Node, Network, Shape, line_at, point_at, node_at, one_if, IsTakenFrom, with_message, Submits, Makes, Ends, GivesUp, Discards, Places}
 use Rattle.network_moves.specs.Moves as moves
-use Rattle.network_moves.specs.Groups.{IsClosed}
+use Rattle.network_moves.specs.Groups.{KeepsToItself}
 use Rattle.network_moves.proofs.Counts.{count-cons, count-append, count-one}
 use Rattle.network_moves.proofs.Lines.{both}
 use Rattle.network_moves.proofs.Words.{only-user, one-no_user}
@@ -187,8 +187,8 @@ module _ (shape : Shape) (read : Message → Saying) (group : ℕ → Bool) (for
 
     -- ---- onto a link
 
-    -- what concerns a closed group goes by no link that isn't within
-    placed-none : (c : IsClosed shape read group for_group) (m : Places shape read p q) → within shape read group for_group m.place.link ≡ false → here shape read group for_group m.place ≡ true
+    -- what concerns a group that keeps to itself goes by no link that isn't within
+    placed-none : (c : KeepsToItself shape read group for_group) (m : Places shape read p q) → within shape read group for_group m.place.link ≡ false → here shape read group for_group m.place ≡ true
         → is_of shape read group for_group m.message ≡ false
     placed-none c m out inside = by (is_of shape read group for_group m.message) refl
       where
@@ -196,7 +196,7 @@ module _ (shape : Shape) (read : Message → Saying) (group : ℕ → Bool) (for
         by true e = both (c.stays m.place m.message inside m.leads e) out
         by false e = refl
 
-    placed-apart : (c : IsClosed shape read group for_group) (m : Places shape read p q) → within shape read group for_group m.place.link ≡ false
+    placed-apart : (c : KeepsToItself shape read group for_group) (m : Places shape read p q) → within shape read group for_group m.place.link ≡ false
         → one_if (stays shape read group for_group (here shape read group for_group m.place) m.message) ≡ 0
     placed-apart c m out = by (here shape read group for_group m.place) refl
       where
@@ -204,7 +204,7 @@ module _ (shape : Shape) (read : Message → Saying) (group : ℕ → Bool) (for
         by true e = ap one_if (placed-none c m out e)
         by false e = omega (arith, m.taken.counted (stays shape read group for_group false), a.bags (point_at shape m.place) e)
 
-    pub follows-places : IsClosed shape read group for_group → Places shape read p q → Follows shape read group for_group q k
+    pub follows-places : KeepsToItself shape read group for_group → Places shape read p q → Follows shape read group for_group q k
     follows-places c m =
         let y : Line = line_at p m.place in
         follows-line shape read group for_group p q k m.place (with_message y m.message) _ m.after.lines m.after.here m.after.others a h

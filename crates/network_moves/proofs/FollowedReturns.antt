@@ -3,7 +3,7 @@ use Rattle.network_moves.proofs.Basics.{◌≡◌, ℕ, Bool, true, false, [], �
 use Rattle.network_moves.proofs.Definitions.{Message, Saying, LinkEnd, Line, Node, Network, Shape, Place, line_at, point_at, node_at, Gone, MayOpen, with_wait, with_completion, opened_first, opened_second, with_service, OpensFirst, OpensSecond, Enters, Breaks, ReleasesBar, HearsUnreasonableOrder, HearsUnreasonableAnswer}
 use Rattle.network_moves.specs.Returning.{StartsAgain}
 use Rattle.network_moves.specs.Moves as moves
-use Rattle.network_moves.specs.Groups.{IsClosed}
+use Rattle.network_moves.specs.Groups.{KeepsToItself}
 use Rattle.network_moves.proofs.Counts.{count-cons, count-append}
 use Rattle.network_moves.proofs.Lines.{both}
 use Rattle.network_moves.proofs.Masking.{line-set, IsMask, mask-outside}
@@ -126,8 +126,8 @@ module _ (shape : Shape) (read : Message → Saying) (group : ℕ → Bool) (for
         left-none shape read group for_group p q k a h (node_at shape p m.place).bag m.rest m.answer m.taken none,
       )) a)
 
-  -- no node outside a closed group starts again
-  pub follows-starts_again : IsClosed shape read group for_group → StartsAgain shape read p q → Follows shape read group for_group q k
+  -- no node outside a group that keeps to itself starts again
+  pub follows-starts_again : KeepsToItself shape read group for_group → StartsAgain shape read p q → Follows shape read group for_group q k
   follows-starts_again c m = by (group m.point) refl
     where
       by : (b : Bool) → group m.point ≡ b → Follows shape read group for_group q k

@@ -1,8 +1,8 @@
--- What a closed group of nodes keeps of its messages, whatever the others do.
+-- What a group of nodes that keeps to itself does with its messages, whatever the others do.
 use Rattle.network_moves.proofs.Basics.{◌≡◌, ◌≢◌, ℕ, Bool, true, false, ◌+◌, ◌&&◌, List, [], ◌∷◌, ◌++◌, count_by, nat_eq, refl, ap, sym, ◌∙◌, subst, arith, if◌then◌else◌, ⊎_elim, cases_eq}
 use Rattle.network_moves.proofs.Definitions.{Message, Near, Far, Saying, user, Line, Network, Shape, turned, waiting, given_up, point_at, Move, Moves, last_of, closed_line, first_network, came_from, sum_at, EndsOnce}
 use Rattle.network_moves.specs.Moves as moves
-use Rattle.network_moves.specs.Groups.{IsClosed, sum_within, came_within, users_for, EndsOnceWithin, groups_decide_alone}
+use Rattle.network_moves.specs.Groups.{KeepsToItself, sum_within, came_within, users_for, EndsOnceWithin, groups_decide_alone}
 use Rattle.network_moves.proofs.Counts.{sum-alike}
 use Rattle.network_moves.proofs.Lines.{both}
 use Rattle.network_moves.proofs.First.{quiet-first}
@@ -20,7 +20,7 @@ use Rattle.network_moves.proofs.FollowedReturns.{follows-opens_first, follows-op
 module _ (shape : Shape) (read : Message → Saying) (group : ℕ → Bool) (for_group : Message → Bool) where
   -- ---- one move
 
-  follows : IsClosed shape read group for_group → (p q k : Network) → IsApart shape read group for_group p → IsMask shape read group for_group p k → Move shape read p q → Follows shape read group for_group q k
+  follows : KeepsToItself shape read group for_group → (p q k : Network) → IsApart shape read group for_group p → IsMask shape read group for_group p k → Move shape read p q → Follows shape read group for_group q k
   follows c p q k a h (moves.submits m) = follows-submits shape read group for_group p q k a h m
   follows c p q k a h (moves.makes m) = follows-makes shape read group for_group p q k a h m
   follows c p q k a h (moves.ends m) = follows-ends shape read group for_group p q k a h m
@@ -99,7 +99,7 @@ module _ (shape : Shape) (read : Message → Saying) (group : ℕ → Bool) (for
     followed : IsApart shape read group for_group p → (networks : List Network) → Moves shape (masked shape read group for_group) first_network networks
         → IsMask shape read group for_group p (last_of first_network networks) → IsFollowed p
 
-  one-more : IsClosed shape read group for_group → (p q : Network) → Move shape read p q → IsFollowed p → IsFollowed q
+  one-more : KeepsToItself shape read group for_group → (p q : Network) → Move shape read p q → IsFollowed p → IsFollowed q
   one-more c p q m (broken x inside e) = broken x inside (lasts p q m x e)
   one-more c p q m (followed a networks ms h) = by (follows c p q (last_of first_network networks) a h m)
     where
@@ -109,7 +109,7 @@ module _ (shape : Shape) (read : Message → Saying) (group : ℕ → Bool) (for
           followed b (networks ++ more) (moves-append shape read group for_group first_network networks more ms ns)
           (subst (IsMask shape read group for_group q) (sym (last-append shape read group for_group first_network networks more)) g)
 
-  all-more : IsClosed shape read group for_group → (p : Network) (networks : List Network) → Moves shape read p networks → IsFollowed p → IsFollowed (last_of p networks)
+  all-more : KeepsToItself shape read group for_group → (p : Network) (networks : List Network) → Moves shape read p networks → IsFollowed p → IsFollowed (last_of p networks)
   all-more c p [] ms f = f
   all-more c p (q ∷ rest) ms f = all-more c q rest ms.1 (one-more c p q ms.0 f)
 

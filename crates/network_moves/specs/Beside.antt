@@ -1,11 +1,11 @@
--- Another run of the same network: point 0 breaks, while its order is under way. The mates are a closed group, and a
+-- Another run of the same network: point 0 breaks, while its order is under way. The mates keep to themselves, and a
 -- message for point 2 comes from point 1, once.
 use Rattle.std.specs.Prelude.{◌≡◌, true, false, List, [], ◌∷◌, ◌++◌}
 use Rattle.signalling_types.specs.Message.{Message}
 use Rattle.network_moves.specs.Networks.{Network}
 use Rattle.network_moves.specs.Moves.{Moves}
 use Rattle.network_moves.specs.Quiet.{first_network}
-use Rattle.network_moves.specs.Groups.{IsClosed}
+use Rattle.network_moves.specs.Groups.{KeepsToItself}
 use Rattle.network_moves.specs.Crossing.{Doing, First0, Cross1, Cross2, falls, orders, releases, submits, ends, passes}
 use Rattle.network_moves.specs.Crossing.{is_mate, is_for_mate, mated, read_plainly, joining, networks_of, end_of, none_yet}
 
@@ -31,7 +31,7 @@ mates_after = end_of first_network mates_run
 -- point 0 is broken, and no mate: its order is left, though it is awaited no longer. The message was accepted at point
 -- 1, and ended at point 2
 pub record MatesDecide : Type 0 where
-  pub closed : IsClosed mated read_plainly is_mate is_for_mate
+  pub apart : KeepsToItself mated read_plainly is_mate is_for_mate
   pub moves : Moves mated read_plainly first_network (networks_of first_network mates_run)
   pub broken : mates_after.broken 0 ≡ true
   pub whole : (mates_after.broken 1 ≡ false) × (mates_after.broken 2 ≡ false)

@@ -21,8 +21,8 @@ module _ (shape : Shape) (read : Message → Saying) (group : ℕ → Bool) (for
   abbrev pub concerns : Message → Bool
   concerns m = says_of_group (for_group m) (read m)
 
-  -- the group is closed: its nodes put what concerns it on no link but those within, and no other node starts again
-  pub record IsClosed : Type 0 where
+  -- the group keeps to itself: its nodes put what concerns it on no link but those within, and no other node starts again
+  pub record KeepsToItself : Type 0 where
     pub stays : (place : Place) (m : Message) → group (point_at shape place) ≡ true →
         shape.leads place.link place.side m ≡ true → concerns m ≡ true → is_within place.link ≡ true
     pub lasting : (point : ℕ) → group point ≡ false → shape.restarts point ≡ false
@@ -67,6 +67,6 @@ module _ (shape : Shape) (read : Message → Saying) (group : ℕ → Bool) (for
 abbrev pub groups_decide_alone : Type 0
 groups_decide_alone =
     (shape : Shape) (read : Message → Saying) (group : ℕ → Bool) (for_group : Message → Bool) (networks : List Network)
-    (point : ℕ) → IsClosed shape read group for_group → Moves shape read first_network networks →
+    (point : ℕ) → KeepsToItself shape read group for_group → Moves shape read first_network networks →
     ((other : ℕ) → group other ≡ true → (last_of first_network networks).broken other ≡ false) →
     group point ≡ true → EndsOnceWithin shape read group for_group (last_of first_network networks) point

@@ -74,13 +74,13 @@ pub fn each_message_is_accounted_for()
     ensures { Always EachMessageIsAccountedFor }
 {}
 
-/// Of a closed group of nodes, its own nodes decide alone what becomes of the messages for it. A group is closed if its
-/// nodes put what concerns it (user messages for it, and orders and answers about the links between its nodes) on links
-/// between its nodes alone, and no other node starts again. After every list of moves from the first network on, while
-/// no node of the group is broken, whatever the others are: of any kind of user messages for the group, as many came in
-/// at each of its nodes as ended there; came from it to a node of the group by a link; wait, at the node or on such a
-/// link; or are gone. And no more are gone than its notices of loss name.
-pub fn closed_groups_decide_alone()
+/// Of a group of nodes that keeps to itself, its own nodes decide alone what becomes of the messages for it. It keeps to
+/// itself if its nodes put what concerns it (user messages for it, and orders and answers about the links between its
+/// nodes) on links between its nodes alone, and no other node starts again. After every list of moves from the first
+/// network on, while no node of the group is broken, whatever the others are: of any kind of user messages for the
+/// group, as many came in at each of its nodes as ended there; came from it to a node of the group by a link; wait, at
+/// the node or on such a link; or are gone. And no more are gone than its notices of loss name.
+pub fn groups_decide_alone()
     ensures { groups_decide_alone }
 {}
 
@@ -112,8 +112,8 @@ pub fn a_late_answer_ends_the_bar()
     ensures { EndsTheBar }
 {}
 
-/// Nor is the law of closed groups. In a run of 40 moves a point beside the mated pair breaks, whose order is still under
-/// way. The pair is a closed group, and a message from one to the other comes, once.
-pub fn a_closed_group_lasts()
+/// Nor is the law of groups. In a run of 40 moves a point beside the mated pair breaks, whose order is still under way.
+/// The pair keeps to itself, and a message from one to the other comes, once.
+pub fn mates_decide_alone()
     ensures { MatesDecide }
 {}

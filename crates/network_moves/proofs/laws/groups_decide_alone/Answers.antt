@@ -1,5 +1,5 @@
 use Rattle.network_moves.proofs.Grouped.{groups-decide}
-use Rattle.network_moves.proofs.laws.closed_groups_decide_alone.Goals as goal
+use Rattle.network_moves.proofs.laws.groups_decide_alone.Goals as goal
 
 pub returns : goal.returns
 returns c = groups-decide
