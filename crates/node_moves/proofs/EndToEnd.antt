@@ -4,7 +4,7 @@ use Rattle.node_moves.proofs.Machine.{Side, Near, Far, opposite, Line, Network, 
 use Rattle.node_moves.proofs.Definitions.{Message, Configuration, dpc_of}
 use Rattle.node_moves.proofs.Reading.{IsShape, says_of}
 use Rattle.node_moves.proofs.Shown.{at-own}
-use Rattle.node_moves.proofs.Going.{IsAt}
+use Rattle.network_moves.proofs.Sound.{Sound}
 use Rattle.node_moves.proofs.World.{Shown, IsUnused, place_at}
 use Rattle.node_moves.proofs.BothEnds.{IsOther, is-other}
 use Rattle.node_moves.proofs.FateCounts.{count-fate}
@@ -110,7 +110,7 @@ module _ (settings : (point : ℕ) → Configuration) (t : AreTheirs settings) (
       true≢false (sym h.within ∙ ap (is_node settings) is ∙ none))
       (same-or its.side side)
 
-  module _ (w : NetworkState) (p : Network) (at : IsAt shape p) (s : Shown settings t w p) where
+  module _ (w : NetworkState) (p : Network) (at : Sound shape says_of p) (s : Shown settings t w p) where
     none-there : (f : Line → ℕ) → f closed_line ≡ 0 → (x : ℕ) → is_node settings x ≡ false → sum_at shape x f p ≡ 0
     none-there f closed x none =
         sum-none (λ k. (if nat_eq (shape.point k Near) x then f (p.line k) else 0) + (if nat_eq (shape.point k Far) x then f (turned (p.line k)) else 0)) shape.links
@@ -315,7 +315,7 @@ all-nodes = refl
 pub come-end-to-end : messages_come_from_end_to_end
 come-end-to-end settings steps point t fx none =
     let w : NetworkState = after_steps settings steps (first_network settings) in
-    let r : (p : Network) × IsAt all_points p × Shown settings t w p = reached settings t all_points are-all steps none in
+    let r : (p : Network) × Sound all_points says_of p × Shown settings t w p = reached settings t all_points are-all steps none in
     let inside : point < points = (let l : nat_lt point points ≡ true = and-first (nat_lt point points) _ fx in grind (arith, nat_tests, l)) in
     end-to-end settings t w (λ x fy. ends settings t all_points are-all w r.0 r.1 r.2 x fy) (λ x. takes-each settings w x (all-in-order settings steps x))
     (λ test. across settings t all_points are-all w r.0 r.1 r.2 test are-joined all-nodes) point fx inside
@@ -323,6 +323,6 @@ come-end-to-end settings steps point t fx none =
 pub all-accounted : each_message_is_accounted_for
 all-accounted settings steps t none =
     let w : NetworkState = after_steps settings steps (first_network settings) in
-    let r : (p : Network) × IsAt all_points p × Shown settings t w p = reached settings t all_points are-all steps none in
+    let r : (p : Network) × Sound all_points says_of p × Shown settings t w p = reached settings t all_points are-all steps none in
     accounted settings t w (λ x fy. ends settings t all_points are-all w r.0 r.1 r.2 x fy) (λ x. takes-each settings w x (all-in-order settings steps x))
     (λ test. across settings t all_points are-all w r.0 r.1 r.2 test are-joined all-nodes)

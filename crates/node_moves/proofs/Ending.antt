@@ -4,7 +4,6 @@ use Rattle.node_moves.proofs.Machine.{Side, Near, Far, opposite, is_user_message
 use Rattle.node_moves.proofs.Definitions.{Message, is_management, Configuration, entry_of, peer_of, set_of, queue_at, Queue}
 use Rattle.node_moves.proofs.Reading.{IsShape, place_of, across, other-place, says_of, is_long, says-managing, says-user, says-long}
 use Rattle.node_moves.proofs.Shown.{IsShown, IsBooked, shown_in, users_that, any_message, links-apart, link-inside, at-own}
-use Rattle.node_moves.proofs.Going.{IsAt}
 use Rattle.node_moves.proofs.Heard.{own-apart}
 use Rattle.node_moves.proofs.World.{IsFlown, Shown, IsUnused, rests, place_at}
 use Rattle.node_moves.proofs.Relining.{across-line}
@@ -16,7 +15,7 @@ use Rattle.node_moves.specs.Laws.{AreTheirs, is_user, came_by, received_by, wait
 use Rattle.node_moves.specs.Laws as law
 use Rattle.exchange_rules.proofs.MadeManagement.{code-fits, adjacent-fits}
 use Rattle.network_moves.proofs.Counts.{count-cons, sum-alike, sum-but, sum-none, sum-added, if-true, if-false}
-use Rattle.network_moves.proofs.Sound.{Balances, booked, lost}
+use Rattle.network_moves.proofs.Sound.{Sound, Balances, booked, lost}
 use Rattle.network_moves.specs.Laws.{sum_at}
 use Rattle.network_moves.specs.Networks.{sum_to, waiting, waiting_in}
 use Rattle.network_moves.specs.Quiet.{closed_line}
@@ -166,7 +165,7 @@ waits-in Live q received = refl
 waits-in Moved q received = drop-nothing received
 waits-in Gone q received = drop-nothing received
 
-module _ (settings : (point : ℕ) → Configuration) (t : AreTheirs settings) (shape : Shape) (o : IsShape shape) (w : NetworkState) (p : Network) (h : IsAt shape p) (s : Shown settings t w p) (x : ℕ) (fx : IsNode settings x) where
+module _ (settings : (point : ℕ) → Configuration) (t : AreTheirs settings) (shape : Shape) (o : IsShape shape) (w : NetworkState) (p : Network) (h : Sound shape says_of p) (s : Shown settings t w p) (x : ℕ) (fx : IsNode settings x) where
   abbrev line_on : (link : ℕ) → Line
   line_on link = line_at p (place_at settings t x link)
 
@@ -248,7 +247,7 @@ module _ (settings : (point : ℕ) → Configuration) (t : AreTheirs settings) (
 
   whole : (test : Message → Bool) → accepted_at settings w test x ≡ came_from settings w test x + waits_at settings w test x + gone_of test
   whole test =
-      let balances : Balances shape says_of p x = h.sound.books x in
+      let balances : Balances shape says_of p x = h.books x in
       omega (
         arith,
         balances.each test,
@@ -261,17 +260,17 @@ module _ (settings : (point : ℕ) → Configuration) (t : AreTheirs settings) (
 
   few : (test : Message → Bool) → gone_of test ≤ users_that any_message (p.node x).named
   few test =
-      let balances : Balances shape says_of p x = h.sound.books x in
+      let balances : Balances shape says_of p x = h.books x in
       omega (arith, balances.named test, fewer (user says_of test) (user says_of any_message) (p.node x).named (λ m. any-by (is_user_message (says_of m)) (test m)))
 
   pub ends : EndsOnce settings w x
   ends = record {
     once = λ test. omega (arith, whole test);
-    named = λ test. omega (arith, whole test, (h.sound.books x).named test, node_books.within test, users-same test (w.node x).named);
+    named = λ test. omega (arith, whole test, (h.books x).named test, node_books.within test, users-same test (w.node x).named);
     counted = λ test. omega (arith, whole test, few test, node_books.named);
   }
 
 pub ends-once : each_message_ends_once
 ends-once settings steps x t fx none =
-    let r : (p : Network) × IsAt all_points p × Shown settings t (after_steps settings steps (first_network settings)) p = reached settings t all_points are-all steps none in
+    let r : (p : Network) × Sound all_points says_of p × Shown settings t (after_steps settings steps (first_network settings)) p = reached settings t all_points are-all steps none in
     ends settings t all_points are-all (after_steps settings steps (first_network settings)) r.0 r.1 r.2 x fx

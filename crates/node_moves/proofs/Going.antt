@@ -1,11 +1,11 @@
 -- A node at work goes to another by moves.
 use Rattle.node_moves.proofs.Basics.{◌≡◌, ◌≢◌, ℕ, Bool, false, ◌<◌, List, [], ◌∷◌, ◌++◌, length, refl, ap, sym, subst, ◌∙◌, ⊎_elim, cases_eq, ne_eqb, eq-eqb, if◌then◌else◌}
-use Rattle.node_moves.proofs.Machine.{seen, LinkEnd, Line, Network, Shape, Place, line_at, Move, Moves, last_of, Sound}
+use Rattle.node_moves.proofs.Machine.{seen, LinkEnd, Line, Network, Shape, Place, line_at, Move, Moves, last_of}
 use Rattle.node_moves.proofs.Definitions.{Configuration, IsWell}
 use Rattle.node_moves.proofs.Reading.{IsShape, says_of}
 use Rattle.node_moves.proofs.Sets.{StaysAround, around-none, around-both, around-node, around-end, with_end, with_node, with_near, line-here, line-other, node-here}
 use Rattle.node_moves.proofs.Shown.{Mid, Shows, IsShown, IsAlike, IsSized, IsBooked, shown-alike, place, links-apart, at-own}
-use Rattle.network_moves.proofs.Keeping.{sound-after}
+use Rattle.network_moves.proofs.Lasting.{Lasts, lasts-after}
 use Rattle.network_moves.specs.Networks as net
 
 module _ (shape : Shape) where
@@ -21,9 +21,10 @@ module _ (shape : Shape) where
 
   -- ---- where moves lead
 
-  -- all laws hold, and no node is broken
+  -- no node may start again, and what then holds whatever was broken does; and no node is broken
   pub record IsAt (p : Network) : Type 0 where
-    pub sound : Sound shape says_of p
+    pub lasting : (point : ℕ) → shape.restarts point ≡ false
+    pub lasts : Lasts shape says_of p
     pub whole : (point : ℕ) → p.broken point ≡ false
 
   -- a line that is none of the links of a node
@@ -48,7 +49,7 @@ module _ (shape : Shape) where
   pub at-last : (c : Configuration) (p : Network) (v : Mid) (a : Arrives c p v) → IsAt p → IsAt (last_of p a.networks)
   at-last c p v a h =
       let whole : (point : ℕ) → (last_of p a.networks).broken point ≡ false = λ point. a.around.broken point ∙ h.whole point in
-      record { sound = sound-after shape says_of p a.networks a.moves h.sound whole; whole = whole }
+      record { lasting = h.lasting; lasts = lasts-after shape says_of h.lasting p a.networks a.moves h.lasts; whole = whole }
 
   pub arrives-both : (c : Configuration) (p : Network) (v w : Mid) (a : Arrives c p v) → Arrives c (last_of p a.networks) w → Arrives c p w
   arrives-both c p v w a b = record {

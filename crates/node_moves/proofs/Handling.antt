@@ -9,7 +9,7 @@ use Rattle.node_moves.proofs.Going.{IsAt, Goes, goes-both, arrives-here, by-line
 use Rattle.exchange_rules.proofs.Moves.{serving-there}
 use Rattle.exchange_rules.specs.ChangingOver.{lose}
 use Rattle.network_moves.proofs.Counts.{count-cons, count-append, count-one}
-use Rattle.network_moves.proofs.Sound.{line-there}
+use Rattle.network_moves.proofs.Lasting.{lasts-at}
 use Rattle.network_moves.proofs.Words.{one-no_user}
 use Rattle.network_moves.specs.Moves as moves
 use Rattle.network_moves.specs.Networks as net
@@ -257,7 +257,7 @@ module _ (shape : Shape) (o : IsShape shape) (c : Configuration) (well : IsWell 
   there n link s e = subst (λ (k : ℕ). link < k) s.links (serving-there n.parts link e)
 
   pub end-at : (p : Network) (link : ℕ) → IsAt shape p → IsEnd (line_at p (place c link)).near
-  end-at p link h = (line-there shape says_of p h.sound (place c link)).near
+  end-at p link h = (lasts-at shape says_of p (place c link) h.lasts).near
 
   pub live-queue : (n : Node WholeQueues) (link : ℕ) (e : LinkEnd) → e.phase ≡ Live → IsShown n link e → queue_at n.queues link ≡ e.queue
   live-queue n link e live s = s.queue ∙ ap (λ x. shown_in x e.queue) live

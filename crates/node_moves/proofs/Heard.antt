@@ -1,12 +1,12 @@
 -- What a message that comes to a node is about: its link, by the point that sent it and the code; and what never comes.
 use Rattle.node_moves.proofs.Basics.{◌≡◌, ◌≢◌, ℕ, Bool, true, false, not, ◌&&◌, ◌^◌, ◌<◌, List, [], ◌∷◌, length, Option, Some, None, Ok, nat_eq, nat_lt, refl, ap, sym, ◌∙◌, arith, nat_tests, if◌then◌else◌, eqb-true, slice_index_or}
-use Rattle.node_moves.proofs.Machine.{Near, Network, Shape, is_untrue, saying, end_at}
-use Rattle.node_moves.proofs.Definitions.{Message, opc_of, dpc_of, is_management, service_indicator, Configuration, IsWell, IsSet, SetEntry, LinkEntry, WholeQueues, Node, entry_of, set_of, adjacent_of, peer_of, last_accepted, read_management, Management, SIF_OCTETS}
+use Rattle.node_moves.proofs.Machine.{Network, Shape, Saying, one_if}
+use Rattle.node_moves.proofs.Definitions.{Message, opc_of, dpc_of, is_management, service_indicator, Configuration, IsWell, IsSet, SetEntry, LinkEntry, WholeQueues, Node, entry_of, set_of, adjacent_of, peer_of, read_management, Management, SIF_OCTETS}
 use Rattle.node_moves.proofs.Reading.{IsShape, says_of, says-managed, read_says, never, is_long, place_of, across, other-place}
 use Rattle.node_moves.proofs.Shown.{Books, Shows, place}
 use Rattle.node_moves.proofs.Going.{IsAt}
-use Rattle.node_moves.proofs.Handling.{mid, bag_of, taken-arrived}
-use Rattle.node_moves.proofs.Failures.{number-fits}
+use Rattle.network_moves.specs.Lasting.{is_odd, odd}
+use Rattle.node_moves.proofs.Handling.{mid, taken-arrived}
 use Rattle.std.specs.Option.{option_and_then}
 use Rattle.exchange_rules.proofs.Onward.{link-set}
 use Rattle.exchange_rules.specs.Messages.{link_in_set, link_with_code, whither_goes}
@@ -14,7 +14,6 @@ use Rattle.mtp3_codec.specs.Headings.{label_at, fault_or_destination}
 use Rattle.mtp3_codec.specs.declared.discrimination.Discrimination.{Discrimination}
 use Rattle.mtp3_codec.specs.declared.discrimination.Discrimination.TheVariants as whither
 use Rattle.mtp3_codec.specs.declared.label.Label.{Label}
-use Rattle.network_moves.proofs.Words.{taken-not}
 use Rattle.settings.specs.Readings.{set_place}
 use Rattle.signalling_types.specs.declared.cause.Cause.TheVariants as causes
 use Rattle.std.proofs.lemmas.List.Quantifiers.{position-Some}
@@ -129,16 +128,11 @@ heard-says c m label word here managing plain e =
 
 -- ---- what is never under way
 
-pub never-true : (up : Bool) (last : ℕ) → last < 2 ^ 24 → is_untrue 0 Near up last never ≡ true
-never-true true last l = refl
-never-true false last l = (let other : nat_eq (2 ^ 24) last ≡ false = grind (arith, nat_tests, l) in ap not other)
+pub never-odd : is_odd never ≡ true
+never-odd = (let none : nat_lt (2 ^ 24) (2 ^ 24) ≡ false = grind (arith, nat_tests) in ap not none)
 
 pub never-arrived : (shape : Shape) (o : IsShape shape) (c : Configuration) (well : IsWell c) (p : Network) (n : Node WholeQueues) (m : Message) (a l : List Message) (k : Books) → IsAt shape p → Shows c p (mid n (m ∷ a) l k)
     → says_of m ≡ never → ⊥
 never-arrived shape o c well p n m a l k h s e =
-    let up : Bool = (end_at p 0 Near).up in
-    let last : ℕ = last_accepted (end_at p 0 Near).queue in
-    let is : is_untrue 0 Near up last (says_of m) ≡ false =
-    taken-not shape (saying says_of (is_untrue 0 Near up last)) p c.own m (bag_of (mid n a l k)) (o.nodes c.own well.own) (taken-arrived shape o c well p n m a l k s) (h.sound.truth 0 Near) in
-    let no : true ≡ false = sym (never-true up last (number-fits _)) ∙ ap (is_untrue 0 Near up last) (sym e) ∙ is in
-    absurd cc
+    let one : one_if (odd says_of m) ≡ 1 = ap (λ (s : Saying). one_if (is_odd s)) e ∙ ap one_if never-odd in
+    absurd (omega (arith, one, (taken-arrived shape o c well p n m a l k s).counted (odd says_of), h.lasts.bags c.own))

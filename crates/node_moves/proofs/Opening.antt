@@ -23,8 +23,8 @@ use Rattle.exchange_rules.specs.Exchange.{handle_event}
 use Rattle.exchange_rules.specs.Opening.{may_open, wanted_down, wanted, opened_by, period_of, open_link, association_up}
 use Rattle.exchange_rules.specs.State.{CameUp}
 use Rattle.exchange_rules.specs.declared.wants.Wants.TheVariants.{Nothing, Open, Close}
-use Rattle.network_moves.proofs.Lines.{IsLine, not-without, none-of_two}
-use Rattle.network_moves.proofs.Sound.{line-there}
+use Rattle.network_moves.proofs.Lines.{not-without, none-of_two}
+use Rattle.network_moves.proofs.Lasting.{LastsLine, lasts-at}
 use Rattle.network_moves.specs.Moves as moves
 use Rattle.network_moves.specs.Networks as net
 use Rattle.network_moves.specs.Networks.{given_up}
@@ -288,7 +288,7 @@ module _ (settings : (point : ℕ) → Configuration) (t : AreTheirs settings) (
               let parts : (down (w.node there.point).node.parts there.link ≡ true) × (may_restart (changeover_of (w.node there.point).node.parts there.link) ≡ true) =
               two-true (down (w.node there.point).node.parts there.link) (may_restart (changeover_of (w.node there.point).node.parts there.link)) may in
               let far_may : MayOpen y.far = may-shown (w.node there.point).node there.link y.far far_shown parts.0 parts.1 in
-              let line : IsLine y = line-there shape says_of p h.sound its in
+              let line : LastsLine shape says_of y = lasts-at shape says_of p its h.lasts in
               let l : Leads settings t shape o p one x (mid now [] [] k) =
               leads-one settings t shape o p (with_line shape p its z (node_at shape p its)) one x (mid now [] [] k)
               (moves.opens_first (record {

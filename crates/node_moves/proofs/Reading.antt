@@ -15,12 +15,14 @@ place_by false own other slc = record { link = (other * 2 ^ 14 + own) * 2 ^ 4 + 
 abbrev pub place_of : (own other slc : ℕ) → Place
 place_of own other slc = place_by (nat_lt own other) own other slc
 
--- a network with a node at each point, and each link that points and codes name; any message may go by any of them
+-- a network with a node at each point, and each link that points and codes name; any message may go by any of them, and
+-- no node starts again
 pub record IsShape (shape : Shape) : Type 0 where
   pub nodes : (point : ℕ) → point < 2 ^ 14 → point < shape.nodes
   pub links : (own other slc : ℕ) → own < 2 ^ 14 → other < 2 ^ 14 → slc < 2 ^ 4 → (place_of own other slc).link < shape.links
   pub points : (own other slc : ℕ) → own < 2 ^ 14 → other < 2 ^ 14 → slc < 2 ^ 4 → point_at shape (place_of own other slc) ≡ own
   pub leads : (link : ℕ) (side : Side) (m : Message) → shape.leads link side m ≡ true
+  pub lasting : (point : ℕ) → shape.restarts point ≡ false
 
 same-link : (first second : Bool) (own one other slc code : ℕ) → nat_lt own one ≡ first → nat_lt own other ≡ second → own < 2 ^ 14 → one < 2 ^ 14 → other < 2 ^ 14 → slc < 2 ^ 4 → code < 2 ^ 4
     → (place_by first own one slc).link ≡ (place_by second own other code).link → (one ≡ other) × (slc ≡ code)

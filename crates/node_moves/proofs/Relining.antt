@@ -8,7 +8,7 @@ use Rattle.node_moves.proofs.Going.{IsAt, Arrives, Goes, is_broken, last-append,
 use Rattle.node_moves.proofs.World.{IsFlown, ShownAt, place_at, rests, same-line, goes-on}
 use Rattle.node_moves.specs.Networks.{NetworkState, IsNode}
 use Rattle.node_moves.specs.Laws.{AreTheirs}
-use Rattle.network_moves.proofs.Keeping.{sound-after}
+use Rattle.network_moves.proofs.Lasting.{lasts-after}
 use Rattle.network_moves.specs.Networks as net
 
 abbrev pub with_line : Shape → Network → Place → Line → net.Node → Network
@@ -146,7 +146,7 @@ module _ (settings : (point : ℕ) → Configuration) (t : AreTheirs settings) (
   pub leads-at : (p : Network) (w : NetworkState) (x : ℕ) (u : Mid) (l : Leads p w x u) → IsAt shape p → IsAt shape (last_of p l.networks)
   leads-at p w x u l h =
       let whole : (point : ℕ) → (last_of p l.networks).broken point ≡ false = λ point. l.broken point ∙ h.whole point in
-      record { sound = sound-after shape says_of p l.networks l.moves h.sound whole; whole = whole }
+      record { lasting = h.lasting; lasts = lasts-after shape says_of h.lasting p l.networks l.moves h.lasts; whole = whole }
 
   pub leads-both : (p : Network) (w v : NetworkState) (x : ℕ) (u g : Mid) (l : Leads p w x u) → Leads (last_of p l.networks) v x g → Leads p v x g
   leads-both p w v x u g l m = record {

@@ -1,6 +1,6 @@
 -- Each step of a network is a list of moves, and so is each list of steps from the first network on.
 use Rattle.node_moves.proofs.Basics.{◌≡◌, ◌≢◌, ℕ, Bool, true, false, not, ◌/◌, ◌%◌, ◌^◌, ◌<◌, List, [], ◌∷◌, ◌++◌, length, drop, take, Option, Some, None, nat_lt, slice_get, refl, ap, sym, subst, ◌∙◌, arith, nat_tests, if◌then◌else◌, length-replicate, ⊎_elim, cases_eq}
-use Rattle.node_moves.proofs.Machine.{Side, Near, Far, LinkEnd, Network, Shape, seen, last_of}
+use Rattle.node_moves.proofs.Machine.{Side, Near, Far, LinkEnd, Network, Shape, seen, last_of, Sound}
 use Rattle.node_moves.proofs.Definitions.{Configuration, Node, WholeQueues, whole, answer, refuse, is_link, link_at, changeover_of, first_queue, Link, down_link, Standing, no_changeover, is_down, is_in_service}
 use Rattle.node_moves.proofs.Reading.{IsShape, says_of, place_by}
 use Rattle.node_moves.proofs.Shown.{no_books, IsShown, IsSilent, is_heard}
@@ -24,8 +24,9 @@ use Rattle.exchange_rules.specs.declared.wants.Wants.{Wants}
 use Rattle.exchange_rules.specs.declared.wants.Wants.TheVariants.{Nothing, Open, Close}
 use Rattle.exchange_rules.proofs.Lists.{each-replicate}
 use Rattle.changeover.specs.Changeover.{may_restart}
-use Rattle.network_moves.proofs.First.{sound-quiet, quiet-first}
-use Rattle.network_moves.proofs.Keeping.{sound-after}
+use Rattle.network_moves.proofs.First.{quiet-first}
+use Rattle.network_moves.proofs.Keeping.{sound-always}
+use Rattle.network_moves.proofs.Lasting.{lasts-after, lasts-first}
 use Rattle.network_moves.specs.Quiet as quiet
 use Rattle.signalling_types.specs.declared.cause.Cause.TheVariants as causes
 use Rattle.signalling_types.specs.declared.outcome.Outcome.TheVariants.{Handled}
@@ -55,6 +56,7 @@ are-all = record {
   links = λ own other slc a b d. line-within (nat_lt own other) own other slc a b d;
   points = λ own other slc a b d. point-back (nat_lt own other) own other slc a b d;
   leads = λ link side m. refl;
+  lasting = λ point. refl;
 }
 
 -- ---- the next text in flight
@@ -237,7 +239,7 @@ module _ (settings : (point : ℕ) → Configuration) (t : AreTheirs settings) (
         let a : Reaches settings t shape o p v = f.goes (g.unbroken none) p h s in
         let whole_then : (point : ℕ) → (last_of p a.networks).broken point ≡ false = λ point. a.broken point ∙ h.whole point in
         let b : Reaches settings t shape o (last_of p a.networks) u =
-        g.goes none (last_of p a.networks) (record { sound = sound-after shape says_of p a.networks a.moves h.sound whole_then; whole = whole_then }) a.shown in
+        g.goes none (last_of p a.networks) (record { lasting = h.lasting; lasts = lasts-after shape says_of h.lasting p a.networks a.moves h.lasts; whole = whole_then }) a.shown in
         record {
           networks = a.networks ++ b.networks;
           moves = moves-append shape p a.networks b.networks a.moves b.moves;
@@ -299,16 +301,16 @@ module _ (settings : (point : ℕ) → Configuration) (t : AreTheirs settings) (
           }
 
   pub first-at : IsAt shape quiet.first_network
-  first-at = record { sound = sound-quiet shape says_of quiet.first_network (quiet-first says_of); whole = λ point. refl }
+  first-at = record { lasting = o.lasting; lasts = lasts-first shape says_of; whole = λ point. refl }
 
   -- so each network that steps reach while no node is broken shows as one that moves reach
   pub reached : (steps : List Step) → IsUnbroken settings (after_steps settings steps (first_network settings))
-      → (p : Network) × IsAt shape p × Shown settings t (after_steps settings steps (first_network settings)) p
+      → (p : Network) × Sound shape says_of p × Shown settings t (after_steps settings steps (first_network settings)) p
   reached steps none =
       let r : Reaches settings t shape o quiet.first_network (after_steps settings steps (first_network settings)) =
       (all-steps steps (first_network settings)).goes none quiet.first_network first-at first-shown in
       let whole_then : (point : ℕ) → (last_of quiet.first_network r.networks).broken point ≡ false = λ point. r.broken point in (
         last_of quiet.first_network r.networks,
-        record { sound = sound-after shape says_of quiet.first_network r.networks r.moves first-at.sound whole_then; whole = whole_then },
+        sound-always shape says_of quiet.first_network r.networks (quiet-first says_of) r.moves whole_then,
         r.shown,
       )

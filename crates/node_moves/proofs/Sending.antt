@@ -1,6 +1,6 @@
 -- A frame is fetched at a node, and is in flight to the other end of its link: by one move.
 use Rattle.node_moves.proofs.Basics.{◌≡◌, ◌≢◌, ℕ, zero, suc, Bool, true, false, not, ◌+◌, ◌^◌, ◌≤◌, ◌<◌, List, [], ◌∷◌, ◌++◌, length, drop, Option, Some, None, count_by, slice_get, refl, ap, sym, subst, ◌∙◌, arith, nat_tests, if◌then◌else◌, get_or-set_same, get_or-set_other, get_or_past, length-set, ⊎_elim, cases_eq, cases_lt, true≢false, is_some}
-use Rattle.node_moves.proofs.Machine.{Side, Near, Far, Frame, LinkEnd, Live, Line, Network, Shape, Place, turned, seen, line_at, node_at, end_at, is_untrue, saying, one_if, IsEnd}
+use Rattle.node_moves.proofs.Machine.{Side, Near, Far, Frame, LinkEnd, Live, Line, Network, Shape, Place, turned, seen, line_at, node_at, end_at, is_untrue, saying, one_if, IsEnd, Saying}
 use Rattle.node_moves.proofs.Machine as machine
 use Rattle.node_moves.proofs.Definitions.{Message, Configuration, IsWell, Node, WholeQueues, whole, link_at, links_with, queue_at, with_queue, in_service, down, changeover_of, Queue, first_queue, last_accepted, Link, down_link, is_down, is_in_service, Alignment, SIF_OCTETS}
 use Rattle.node_moves.proofs.Reading.{IsShape, says_of, says-long, is_long, across}
@@ -8,7 +8,7 @@ use Rattle.node_moves.proofs.Shown.{Books, Mid, Shows, IsShown, IsAlike, IsSized
 use Rattle.node_moves.proofs.Going.{IsAt}
 use Rattle.node_moves.proofs.Handling.{mid, end-at, live-queue}
 use Rattle.node_moves.proofs.Failures.{node-there, number-fits, booked-alike}
-use Rattle.node_moves.proofs.Heard.{never-true}
+use Rattle.node_moves.proofs.Heard.{never-odd}
 use Rattle.node_moves.proofs.World.{books_of, IsFlown, IsData, IsStatus, AreData, AreStatuses, data_of, ShownAt, rests, place_at, at-work}
 use Rattle.node_moves.proofs.Relining.{reline, Leads, leads-one, with_line, line-set}
 use Rattle.node_moves.proofs.Flights.{IsSameFlight, same-flight, changed-here, changed-other, updated-here, updated-other}
@@ -25,13 +25,12 @@ use Rattle.node_links.specs.NodeLinks.{link_in}
 use Rattle.m2pa_codec.proofs.FrameTexts.{read_frame-spelled}
 use Rattle.m2pa_codec.specs.Frames.{FrameValue, EmptyFrame, MessageFrame, StatusFrame, IsSayable, spelled}
 use Rattle.m2pa_codec.specs.declared.status.LinkStatus.{LinkStatus}
-use Rattle.network_moves.proofs.Counts.{count-cons, sum-holds}
-use Rattle.network_moves.proofs.Lines.{IsLine, serving-flows}
-use Rattle.network_moves.proofs.Sound.{line-there}
-use Rattle.network_moves.proofs.Waiting.{drop-first, drop-fewer, waiting-live}
+use Rattle.network_moves.proofs.Counts.{count-cons}
+use Rattle.network_moves.proofs.Apart.{drop-within}
+use Rattle.network_moves.proofs.Lasting.{lasts-at}
+use Rattle.network_moves.specs.Lasting.{is_odd, odd}
+use Rattle.network_moves.proofs.Waiting.{drop-first}
 use Rattle.network_moves.specs.Carrying.{with_status, with_frame, with_sent, acknowledgement}
-use Rattle.network_moves.specs.Flowing.{Flows}
-use Rattle.network_moves.specs.Laws.{on_its_way, under_way}
 use Rattle.network_moves.specs.Moves as moves
 use Rattle.network_moves.specs.Networks as net
 use Rattle.network_moves.specs.Networks.{waiting}
@@ -364,60 +363,28 @@ module _ (settings : (point : ℕ) → Configuration) (t : AreTheirs settings) (
 
   -- ---- a message
 
-  -- the messages of a line are under way
-  line-holds : (test : Message → Bool) (p : Network) (place : Place) → place.link < shape.links → on_its_way test (line_at p place) ≤ under_way shape test p
-  line-holds test p place l = by place.side
-    where
-      both : ℕ → ℕ
-      both i = on_its_way test (p.line i) + on_its_way test (turned (p.line i))
-
-      by : (side : Side) → on_its_way test (seen side (p.line place.link)) ≤ under_way shape test p
-      by Near = omega (arith, sum-holds (λ i. on_its_way test (p.line i) + on_its_way test (turned (p.line i))) shape.links place.link l)
-      by Far = omega (arith, sum-holds (λ i. on_its_way test (p.line i) + on_its_way test (turned (p.line i))) shape.links place.link l)
-
-  -- so the next that goes out isn't too long
+  -- the next that goes out isn't too long
   brief-next : (p : Network) (next : Sending) → IsAt shape p → (line_at p its).near.serving ≡ true → IsNext (line_at p its).near.queue c.window next → is_long next.message ≡ false
   brief-next p next h serving is = by (is_long next.message) refl
     where
-      y : Line
-      y = line_at p its
+      q : Queue
+      q = (line_at p its).near.queue
 
-      up : Bool
-      up = (end_at p 0 Near).up
-
-      last : ℕ
-      last = last_accepted (end_at p 0 Near).queue
-
-      test : Message → Bool
-      test = saying says_of (is_untrue 0 Near up last)
-
-      line : IsLine y
-      line = line-there shape says_of p h.sound its
-
-      flows : Flows y
-      flows = serving-flows y line serving
-
-      live : y.near.phase ≡ Live
-      live = line.near.live_up (line.near.serving serving)
-
-      -- it is the first that wasn't sent
-      none : one_if (test next.message) ≤ 0
+      -- it stands in the queue
+      none : one_if (odd says_of next.message) ≤ 0
       none =
           omega (
             arith,
-            line-holds test p its (link-inside shape o c well link),
-            h.sound.truth 0 Near,
-            ap (count_by test) (waiting-live y.near.phase y.near.queue y.far.queue.received live),
-            drop-fewer test y.near.queue.all y.far.queue.received y.near.queue.sent flows.received,
-            ap (count_by test) (drop-first y.near.queue.all y.near.queue.sent next.message is.stands),
-            count-cons test next.message (drop (y.near.queue.sent + 1) y.near.queue.all),
+            (lasts-at shape says_of p its h.lasts).near_plain,
+            drop-within (odd says_of) q.sent q.all,
+            ap (count_by (odd says_of)) (drop-first q.all q.sent next.message is.stands),
+            count-cons (odd says_of) next.message (drop (q.sent + 1) q.all),
           )
 
       by : (b : Bool) → is_long next.message ≡ b → is_long next.message ≡ false
       by false e = e
       by true e =
-          let says : test next.message ≡ true = ap (is_untrue 0 Near up last) (says-long next.message e) ∙ never-true up last (number-fits _) in
-          let one : one_if (test next.message) ≡ 1 = ap (λ (b : Bool). one_if b) says in
+          let one : one_if (odd says_of next.message) ≡ 1 = ap (λ (s : Saying). one_if (is_odd s)) (says-long next.message e) ∙ ap one_if never-odd in
           absurd (omega (arith, none, one))
 
   brief-so : (m : Message) → is_long m ≡ false → length m.sif ≤ SIF_OCTETS
