@@ -1,4 +1,5 @@
--- Of a group of nodes: what becomes of the messages for it is decided by its own nodes, whatever the others do.
+-- Of a group of nodes that keeps to itself: what became of the messages for it is told by the books of its own nodes,
+-- whatever else the others do.
 use Rattle.std.specs.Prelude.{◌≡◌, ◌+◌, ◌≤◌, ◌&&◌, ℕ, Bool, true, false, List, count_by, nat_eq, if◌then◌else◌}
 use Rattle.signalling_types.specs.Message.{Message}
 use Rattle.network_moves.specs.Sayings.{Near, Far, Saying, UserMessage, Order, Answer, Other, user}
@@ -35,7 +36,7 @@ module _ (shape : Shape) (read : Message → Saying) (group : ℕ → Bool) (for
       sum_of_ends shape (λ link side z. if is_within link && nat_eq (shape.point link side) point then f z else 0) p
 
   module _ (test : Message → Bool) (p : Network) (point : ℕ) where
-    -- those that came to another node of the group by a link; those that wait; and those that were given up, and didn't
+    -- those that came to a node of the group by a link; those that wait; and those that were given up, and didn't
     -- come
     abbrev pub came_within : ℕ
     came_within = sum_within (λ z. count_by test z.near.came) p point

@@ -66,7 +66,7 @@ pub record Node : Type 0 where
 pub record Network : Type 0 where
   pub node : ℕ → Node
   pub line : ℕ → Line
-  -- the nodes of which nothing is promised any more
+  -- the nodes after which only laws that say so promise anything
   pub broken : ℕ → Bool
 
 -- which nodes and links there are, each by its number; at which nodes the ends of a link are; which messages the node

@@ -1,4 +1,4 @@
--- Moves of a link that opens and enters service (Q.704 §6), and those after which nothing is promised.
+-- Moves of a link that opens and enters service (Q.704 §6), and those by which a node breaks.
 use Rattle.std.specs.Prelude.{◌≡◌, ◌≢◌, ℕ, true, false, ◌<◌, [], ◌++◌, ◌∷◌, List, None}
 use Rattle.signalling_types.specs.Message.{Message}
 use Rattle.link.specs.Queue.{first_queue, emptied, named_count}
@@ -75,7 +75,7 @@ module _ (shape : Shape) (p q : Network) where
     pub heard : (line_at p place).near.heard ≡ true
     pub after : Becomes shape p q place (with_service (line_at p place)) (node_at shape p place)
 
--- ---- a node breaks: from then on nothing is promised
+-- ---- a node breaks: from then on only laws that say so promise anything
 
 -- one link becomes z, as seen from one end; the node there becomes n, and is broken
 pub record Breaks (shape : Shape) (p q : Network) (place : Place) (z : Line) (n : Node) : Type 0 where

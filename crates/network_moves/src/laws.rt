@@ -74,20 +74,20 @@ pub fn each_message_is_accounted_for()
     ensures { Always EachMessageIsAccountedFor }
 {}
 
-/// Of a group of nodes that keeps to itself, its own nodes decide alone what becomes of the messages for it. It keeps to
+/// The second half of the node law, of a group of nodes that keeps to itself, whatever else the others do. It keeps to
 /// itself if its nodes put what concerns it (user messages for it, and orders and answers about the links between its
 /// nodes) on links between its nodes alone, and no other node starts again. After every list of moves from the first
-/// network on, while no node of the group is broken, whatever the others are: of any kind of user messages for the
-/// group, as many came in at each of its nodes as ended there; came from it to a node of the group by a link; wait, at
-/// the node or on such a link; or are gone. And no more are gone than its notices of loss name.
+/// network on, while no node of the group is broken, though others may be: of any kind of user messages for the group,
+/// as many came in at each of its nodes as ended there; came from it to a node of the group by a link; wait, at the node
+/// or on such a link; or are gone. And no more are gone than its notices of loss name.
 pub fn groups_decide_alone()
     ensures { groups_decide_alone }
 {}
 
 /// So much holds whichever nodes are broken, while none starts again, after every list of moves from the first network
 /// on. Each end of a link is sound: its counts are in order and within the window, in service it is up, while a
-/// changeover goes on or an answer is awaited it is down, and it has no message but in service and until its changeover
-/// is complete. And no order or answer at a node or on an end has a number of more than 24 bits.
+/// changeover goes on or an answer is awaited it is down, and until its changeover is complete it has a message only in
+/// service or while that goes on. And no order or answer at a node or on an end has a number of more than 24 bits.
 pub fn ends_stay_sound()
     ensures { ends_last }
 {}
