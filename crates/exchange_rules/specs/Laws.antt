@@ -46,11 +46,12 @@ accept_frame None link c node = node
 accept_frame (Some d) link c node =
     accept_data (acts_on (link_at node.parts link) UserData) link d c node
 
--- the node after the frame of this text was accepted; a text that isn't User Data isn't
+-- the node after what was read of a text was accepted; what isn't User Data isn't
 abbrev pub accept_read : ℕ → Result FrameValue FrameFault → Configuration → Node WholeQueues → Node WholeQueues
 accept_read link (Ok frame) c node = accept_frame (data_of frame) link c node
 accept_read link (Err fault) c node = node
 
+-- the node of a state after the frame of a text that was read so was accepted; a text that isn't User Data isn't
 abbrev pub accept_text : ℕ → Result FrameValue FrameFault → Abstract → Node WholeQueues
 accept_text link read a = accept_read link read a.settings a.node
 
