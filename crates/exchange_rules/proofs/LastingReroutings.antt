@@ -1,19 +1,18 @@
--- Which flows keep their link set while none that changes it is counted.
-use Rattle.exchange_rules.proofs.Basics.{◌≡◌, ◌≤◌, ◌<◌, ◌-◌, ◌^◌, inl, inr, ℕ, Bool, true, false, ◌&&◌, not, nat_eq, eqb-true, List, [], ◌∷◌, length, slice_index_or, Option, Some, None, refl, ap, sym, subst, ◌∙◌, arith}
-use Rattle.exchange_rules.proofs.Definitions.{Configuration, Facts, facts, Abstract, first_state, Asking, Happens, Takes, AsksWants, after_asking, after_each, whole, apply, SELECTIONS}
+-- Which flows are counted as rerouted, and that each keeps its link set while none is.
+use Rattle.exchange_rules.proofs.Basics.{◌≡◌, ◌≤◌, ◌<◌, ◌+◌, inl, inr, ℕ, Bool, true, false, ◌&&◌, not, nat_eq, eq-eqb, eqb-true, false_from_ne_true, List, [], ◌∷◌, length, slice_index_or, slice_get, Option, Some, None, refl, ap, sym, subst, ◌∙◌, arith, min}
+use Rattle.std.specs.Option.{option_map_or}
+use Rattle.exchange_rules.proofs.Definitions.{Configuration, SetEntry, Facts, facts, point_of, Abstract, first_state, Asking, Happening, Happens, Takes, AsksWants, after_asking, after_each, whole, apply, SELECTIONS}
 use Rattle.exchange_rules.specs.State.{Reroutings}
 use Rattle.exchange_rules.specs.Exchange.{after, taken}
 use Rattle.exchange_rules.specs.Reroutings.{set_taken, last_set, is_direct, is_rerouted, counted, set_before}
-use Rattle.exchange_rules.specs.LawsOfReroutings.{set_in, KeepsItsSet, no_flow_went_at_first, events_count_what_they_reroute, takes_reroute_nothing, reroutings_stay_counted, uncounted_events_keep_sets, flows_go_by_their_last_set, flows_keep_their_last_set}
-use Rattle.exchange_rules.proofs.Reroutings.{counted-again, set-at, flow-kept, never-falls, HasFlows, counted-flows, set-there, take-facts, take-rerouting, first-rerouting, first-flows, none-before}
+use Rattle.exchange_rules.specs.LawsOfReroutings.{set_in, most_times, IsOwnSet, KeepsItsSet, is_rerouted_by, CountsRerouted, no_flow_went_at_first, events_count_what_they_reroute, events_that_keep_sets_count_none, takes_reroute_nothing, reroutings_stay_counted, uncounted_events_keep_sets, flows_go_by_their_last_set, flows_keep_their_last_set}
+use Rattle.exchange_rules.proofs.CountedFlows.{all-counted, none-counted}
+use Rattle.exchange_rules.proofs.Reroutings.{stays, counted-again, set-at, flow-kept, never-falls, HasFlows, counted-flows, set-there, take-facts, take-rerouting, first-rerouting, first-flows, none-before}
 
 -- ---- the count
 
 pub none-first : no_flow_went_at_first
 none-first c destination sls = (refl, none-before c destination sls)
-
-pub events-count : events_count_what_they_reroute
-events-count what a = refl
 
 pub takes-reroute : takes_reroute_nothing
 takes-reroute a link destination sls =
@@ -34,12 +33,28 @@ stay-counted (Happens what ∷ others) a l =
 stay-counted (Takes link ∷ others) a l = stay-counted others (taken whole a link) l
 stay-counted (AsksWants link ∷ others) a l = stay-counted others a l
 
+-- ---- a destination's own set
+
+is-own : (c : Configuration) (set destination : ℕ) → is_direct c set destination ≡ true → IsOwnSet c set destination
+is-own c set destination = by (slice_get c.sets set) refl
+  where
+    by : (row : Option SetEntry) → slice_get c.sets set ≡ row → option_map_or (λ (s : SetEntry). nat_eq s.adjacent (point_of c destination)) row false ≡ true → IsOwnSet c set destination
+    by None at e = absurd cc
+    by (Some s) at e = (s, at, eqb-true s.adjacent (point_of c destination) e)
+
+not-own : (c : Configuration) (set destination : ℕ) → (IsOwnSet c set destination → ⊥) → is_direct c set destination ≡ false
+not-own c set destination apart = false_from_ne_true (is_direct c set destination) (λ e. apart (is-own c set destination e))
+
+own-is : (c : Configuration) (set destination : ℕ) → IsOwnSet c set destination → is_direct c set destination ≡ true
+own-is c set destination (s, at, e) =
+    ap (λ (row : Option SetEntry). option_map_or (λ (t : SetEntry). nat_eq t.adjacent (point_of c destination)) row false) at ∙ eq-eqb s.adjacent (point_of c destination) e
+
 -- ---- one event
 
-keeps-by : (same direct : Bool) (c : Configuration) (destination set now : ℕ) → nat_eq set now ≡ same → is_direct c set destination ≡ direct → (not same && not direct) ≡ false
+keeps-by : (same own : Bool) (c : Configuration) (destination set now : ℕ) → nat_eq set now ≡ same → is_direct c set destination ≡ own → (not same && not own) ≡ false
     → KeepsItsSet c destination (Some set) now
-keeps-by true direct c destination set now e d f = inr (inl (ap (λ (s : ℕ). Some s) (eqb-true set now e)))
-keeps-by false true c destination set now e d f = inr (inr (set, refl, d))
+keeps-by true own c destination set now e d f = inr (inl (ap (λ (s : ℕ). Some s) (eqb-true set now e)))
+keeps-by false true c destination set now e d f = inr (inr (set, refl, is-own c set destination d))
 keeps-by false false c destination set now e d f = absurd cc
 
 keeps : (c : Configuration) (destination : ℕ) (before : Option ℕ) (now : ℕ) → is_rerouted c destination before (Some now) ≡ false → KeepsItsSet c destination before now
@@ -52,6 +67,36 @@ uncounted-keep what a destination sls now few same takes =
     keeps a.settings destination (set_before a.reroutings destination sls) now
     (subst (λ (o : Option ℕ). is_rerouted a.settings destination (set_before a.reroutings destination sls) o ≡ false) takes
     (flow-kept a.settings (facts a.settings b.node.parts) a.reroutings destination sls few same))
+
+-- and the other way round
+leaves-own : (same own : Bool) → own ≡ true → (not same && not own) ≡ false
+leaves-own true own e = refl
+leaves-own false true e = refl
+leaves-own false false e = absurd cc
+
+kept-stays : (c : Configuration) (destination : ℕ) (before : Option ℕ) (now : ℕ) → KeepsItsSet c destination before now → is_rerouted c destination before (Some now) ≡ false
+kept-stays c destination None now k = refl
+kept-stays c destination (Some set) now (inl e) = absurd cc
+kept-stays c destination (Some set) now (inr (inl e)) = stays c destination (Some set) (Some now) (sym e)
+kept-stays c destination (Some set) now (inr (inr (own, e, is))) =
+    subst (λ (o : Option ℕ). is_rerouted c destination o (Some now) ≡ false) (sym e)
+    (leaves-own (nat_eq own now) (is_direct c own destination) (own-is c own destination is))
+
+flow-stays : (c : Configuration) (destination : ℕ) (before now : Option ℕ) → ((set : ℕ) → now ≡ Some set → KeepsItsSet c destination before set) → is_rerouted c destination before now ≡ false
+flow-stays c destination None None k = refl
+flow-stays c destination (Some set) None k = refl
+flow-stays c destination before (Some now) k = kept-stays c destination before now (k now refl)
+
+no-more : (times more limit : ℕ) → more ≡ 0 → times ≤ limit → min (times + more) limit ≡ times
+no-more times more limit e l = omega (arith, e, l)
+
+pub kept-uncounted : events_that_keep_sets_count_none
+kept-uncounted what a l keep =
+    let f : Facts = facts a.settings (after whole what a).node.parts in
+    no-more a.reroutings.times _ most_times
+    (none-counted a.settings f a.reroutings
+    (λ destination sls. flow-stays a.settings destination (set_before a.reroutings destination sls) (set_taken a.settings f destination sls) (keep destination sls)))
+    l
 
 -- ---- each state reached from the first
 
@@ -86,6 +131,15 @@ reach-first c = record {
   rerouting = first-rerouting c;
 }
 
+events-count : (c : Configuration) (what : Happening) (a : Abstract) → Reached c a → CountsRerouted what a
+events-count c what a h =
+    let f : Facts = facts a.settings (after whole what a).node.parts in
+    ap (λ (n : ℕ). min (a.reroutings.times + n) most_times)
+    (all-counted a.settings f (is_rerouted_by what a) a.reroutings h.flows (λ destination sls. refl))
+
+pub reached-count : events_count_what_they_reroute
+reached-count c asked what = events-count c what (after_each asked (first_state c)) (reach c asked (first_state c) (reach-first c))
+
 goes-by : (c : Configuration) (a : Abstract) (destination sls now : ℕ) → Reached c a → destination < length c.destinations → sls < SELECTIONS
     → set_in a destination sls ≡ Some now → set_before a.reroutings destination sls ≡ Some now
 goes-by c a destination sls now h there few takes =
@@ -114,7 +168,7 @@ last-kept c destination set (Some other) e d = ap (λ (s : ℕ). Some s) (sym (e
     by false true e d = absurd cc
     by false false e d = absurd cc
 
-event-kept : (c : Configuration) (f : Facts) (r : Reroutings) (destination sls set : ℕ) → r.times < 2 ^ 64 - 1 → (counted c f r).times ≡ r.times
+event-kept : (c : Configuration) (f : Facts) (r : Reroutings) (destination sls set : ℕ) → r.times < most_times → (counted c f r).times ≡ r.times
     → set_before r destination sls ≡ Some set → is_direct c set destination ≡ false → set_before (counted c f r) destination sls ≡ Some set
 event-kept c f r destination sls set few same e d =
     let now : Option ℕ = set_taken c f destination sls in
@@ -130,15 +184,19 @@ between first next last l m e = omega (arith, l, m, e)
 at-most-so : (n limit : ℕ) → n < limit → n ≤ limit
 at-most-so n limit l = omega (arith, l)
 
-pub last-sets-kept : flows_keep_their_last_set
-last-sets-kept [] a destination sls set few same e d = e
-last-sets-kept (Happens what ∷ others) a destination sls set few same e d =
+sets-kept : (asked : List Asking) (a : Abstract) (destination sls set : ℕ) → a.reroutings.times < most_times → (after_each asked a).reroutings.times ≡ a.reroutings.times
+    → set_before a.reroutings destination sls ≡ Some set → is_direct a.settings set destination ≡ false → set_before (after_each asked a).reroutings destination sls ≡ Some set
+sets-kept [] a destination sls set few same e d = e
+sets-kept (Happens what ∷ others) a destination sls set few same e d =
     let b : Abstract = after whole what a in
     let f : Facts = facts a.settings b.node.parts in
-    let grows = never-falls a.settings f a.reroutings (at-most-so a.reroutings.times (2 ^ 64 - 1) few) in
+    let grows = never-falls a.settings f a.reroutings (at-most-so a.reroutings.times most_times few) in
     let now : b.reroutings.times ≡ a.reroutings.times =
     between a.reroutings.times b.reroutings.times (after_each others b).reroutings.times grows.0 (stay-counted others b grows.1) same in
-    last-sets-kept others b destination sls set (subst (λ (n : ℕ). n < 2 ^ 64 - 1) (sym now) few) (same ∙ sym now)
+    sets-kept others b destination sls set (subst (λ (n : ℕ). n < most_times) (sym now) few) (same ∙ sym now)
     (event-kept a.settings f a.reroutings destination sls set few now e d) d
-last-sets-kept (Takes link ∷ others) a destination sls set few same e d = last-sets-kept others (taken whole a link) destination sls set few same e d
-last-sets-kept (AsksWants link ∷ others) a destination sls set few same e d = last-sets-kept others a destination sls set few same e d
+sets-kept (Takes link ∷ others) a destination sls set few same e d = sets-kept others (taken whole a link) destination sls set few same e d
+sets-kept (AsksWants link ∷ others) a destination sls set few same e d = sets-kept others a destination sls set few same e d
+
+pub last-sets-kept : flows_keep_their_last_set
+last-sets-kept asked a destination sls set few same e apart = sets-kept asked a destination sls set few same e (not-own a.settings set destination apart)

@@ -175,5 +175,6 @@ pub mod OrdersByAnyRoute
 pub mod AnsweredOrders
 pub mod ReroutedFlows
 pub mod Reroutings
+pub mod CountedFlows
 pub mod LastingReroutings
 pub mod ReroutingExamples

@@ -140,7 +140,7 @@ apply q c what node = node ▷ handle_event q c what ▷ settled q c
 abbrev pub outcome_of : {Q : Type 0} → QueueKind Q → Happening → State Q → Outcome
 outcome_of q what s = (apply q s.settings what s.node).outcome
 
--- the state with the node that an event leaves: at its end the flows that changed their sets are counted
+-- the state with the node that an event leaves: at its end the flows that were rerouted are counted
 abbrev pub leaving : {Q : Type 0} → State Q → Node Q → State Q
 leaving s node =
     record s { node = node; reroutings = counted s.settings (facts s.settings node.parts) s.reroutings }

@@ -26,7 +26,7 @@ pub record AreQueues (window : ℕ) (qs : WholeQueues) : Type 0 where
   pub each : (link : ℕ) → IsQueue window (queue_at qs link)
 
 -- the states that an exchange can stand for: between two events each message of Held has a hold, adjacent points are
--- owed only what finds no room, and each flow that changed its set is counted
+-- owed only what finds no room, and each flow that was rerouted is counted
 pub record IsSound (a : Abstract) : Type 0 where
   pub queues : AreQueues a.settings.window a.node.queues
   pub waiting : all_wait a.settings a.node.parts.holds a.node.queues.held ≡ true

@@ -1,10 +1,11 @@
--- Which flows keep their link set while none that changes it is counted: laws.
-use Rattle.std.specs.Prelude.{◌≡◌, ◌≤◌, ◌<◌, ◌⊎◌, ◌+◌, ◌-◌, ◌^◌, min, ℕ, true, false, length, List, Option, None, Some}
+-- Which flows are counted as rerouted, and that each flow keeps its link set while none is: laws.
+use Rattle.std.specs.Prelude.{◌≡◌, ◌≤◌, ◌<◌, ◌⊎◌, ◌+◌, ◌-◌, ◌^◌, min, ℕ, Bool, length, count_by, slice_get, List, Option, None, Some}
 use Rattle.signalling_types.specs.declared.limits.TheConstants.Limits.{SELECTIONS}
-use Rattle.settings_rows.specs.Configuration.{Configuration}
+use Rattle.settings_rows.specs.Configuration.{Configuration, SetEntry}
+use Rattle.flow_hold.specs.Holds.{flows, passes}
 use Rattle.exchange_rules.specs.State.{Asking, Happening}
-use Rattle.exchange_rules.specs.Routing.{facts}
-use Rattle.exchange_rules.specs.Reroutings.{set_taken, is_direct, set_before, all_changes_from}
+use Rattle.exchange_rules.specs.Routing.{facts, point_of}
+use Rattle.exchange_rules.specs.Reroutings.{set_taken, is_rerouted, set_before}
 use Rattle.exchange_rules.specs.Exchange.{after, taken}
 use Rattle.exchange_rules.specs.Queues.{whole}
 use Rattle.exchange_rules.specs.Lasting.{after_each}
@@ -18,6 +19,18 @@ set_in a destination sls = set_taken a.settings (facts a.settings a.node.parts) 
 abbrev pub most_times : ℕ
 most_times = 2 ^ 64 - 1
 
+-- a set is a destination's own: its adjacent point is the destination's point
+abbrev pub IsOwnSet : Configuration → (set destination : ℕ) → Type 0
+IsOwnSet c set destination =
+    (s : SetEntry) × (slice_get c.sets set ≡ Some s) × (s.adjacent ≡ point_of c destination)
+
+-- a flow went by no set yet, or by the one that it takes now, or it has left its destination's own set
+abbrev pub KeepsItsSet : Configuration → (destination : ℕ) → (before : Option ℕ) → (now : ℕ) → Type 0
+KeepsItsSet c destination before now =
+    (before ≡ None)
+    ⊎ ((before ≡ Some now)
+    ⊎ ((own : ℕ) × (before ≡ Some own) × IsOwnSet c own destination))
+
 -- ---- the count
 
 -- at first no flow went by any set, and none is counted
@@ -26,14 +39,31 @@ no_flow_went_at_first =
     (c : Configuration) (destination sls : ℕ) →
     ((first_state c).reroutings.times ≡ 0) × (set_before (first_state c).reroutings destination sls ≡ None)
 
--- an event counts each flow that it reroutes once, as far as can be counted
+-- whether an event reroutes a flow
+abbrev pub is_rerouted_by : Happening → Abstract → (destination sls : ℕ) → Bool
+is_rerouted_by what a destination sls =
+    is_rerouted a.settings destination (set_before a.reroutings destination sls)
+    (set_in (after whole what a) destination sls)
+
+-- an event counts each flow to each destination once that it reroutes, as far as can be counted
+abbrev pub CountsRerouted : Happening → Abstract → Type 0
+CountsRerouted what a =
+    (after whole what a).reroutings.times
+    ≡ min (a.reroutings.times + count_by (passes (is_rerouted_by what a)) (flows (length a.settings.destinations)))
+    most_times
+
+-- so does each event in each state reached from the first
 abbrev pub events_count_what_they_reroute : Type 0
 events_count_what_they_reroute =
-    (what : Happening) (a : Abstract) →
-    (after whole what a).reroutings.times
-    ≡ min (a.reroutings.times
-    + all_changes_from a.settings (facts a.settings (after whole what a).node.parts) 0 a.reroutings.last_sets)
-    most_times
+    (c : Configuration) (asked : List Asking) (what : Happening) → CountsRerouted what (after_each asked (first_state c))
+
+-- an event that lets each flow that has a link after it keep its set counts none
+abbrev pub events_that_keep_sets_count_none : Type 0
+events_that_keep_sets_count_none =
+    (what : Happening) (a : Abstract) → a.reroutings.times ≤ most_times →
+    ((destination sls now : ℕ) → set_in (after whole what a) destination sls ≡ Some now →
+    KeepsItsSet a.settings destination (set_before a.reroutings destination sls) now) →
+    (after whole what a).reroutings.times ≡ a.reroutings.times
 
 -- a take counts none, and no flow goes by another set for it
 abbrev pub takes_reroute_nothing : Type 0
@@ -50,14 +80,7 @@ reroutings_stay_counted =
 
 -- ---- what a flow does while none is counted
 
--- a flow went by no set yet, or by the one that it takes now, or it has left the direct set of its destination
-abbrev pub KeepsItsSet : Configuration → (destination : ℕ) → (before : Option ℕ) → (now : ℕ) → Type 0
-KeepsItsSet c destination before now =
-    (before ≡ None)
-    ⊎ ((before ≡ Some now)
-    ⊎ ((direct : ℕ) × (before ≡ Some direct) × (is_direct c direct destination ≡ true)))
-
--- an event that counts none lets each flow that has a link after it keep its set so
+-- an event that counts none lets each flow that has a link after it keep its set
 abbrev pub uncounted_events_keep_sets : Type 0
 uncounted_events_keep_sets =
     (what : Happening) (a : Abstract) (destination sls now : ℕ) → a.reroutings.times < most_times →
@@ -72,10 +95,10 @@ flows_go_by_their_last_set =
     sls < SELECTIONS → set_in (after_each asked (first_state c)) destination sls ≡ Some now →
     set_before (after_each asked (first_state c)).reroutings destination sls ≡ Some now
 
--- and while none is counted that stays so, but for the direct set of its destination
+-- and while none is counted that stays so, but for its destination's own set
 abbrev pub flows_keep_their_last_set : Type 0
 flows_keep_their_last_set =
     (asked : List Asking) (a : Abstract) (destination sls set : ℕ) → a.reroutings.times < most_times →
     (after_each asked a).reroutings.times ≡ a.reroutings.times →
-    set_before a.reroutings destination sls ≡ Some set → is_direct a.settings set destination ≡ false →
+    set_before a.reroutings destination sls ≡ Some set → (IsOwnSet a.settings set destination → ⊥) →
     set_before (after_each asked a).reroutings destination sls ≡ Some set

@@ -1,4 +1,4 @@
--- Which flows change their link set: what is counted at the end of each event.
+-- Which flows are rerouted: what is counted at the end of each event.
 use Rattle.std.specs.Prelude.{ℕ, Bool, true, false, not, ◌&&◌, ◌+◌, ◌-◌, ◌^◌, min, nat_eq, List, [], ◌∷◌, length, replicate, slice_get, slice_index_or, Option, Some, None}
 use Rattle.std.specs.Option.{option_map, option_map_or, option_or}
 use Rattle.signalling_types.specs.declared.limits.TheConstants.Limits.{SELECTIONS}
@@ -15,13 +15,13 @@ set_taken c f destination sls = option_map (set_of c) (chosen_link f destination
 abbrev pub last_set : (before now : Option ℕ) → Option ℕ
 last_set before now = option_or now before
 
--- whether the links of a set lead to a destination itself
+-- whether a set is a destination's own: its links lead to that point itself
 abbrev pub is_direct : Configuration → (set destination : ℕ) → Bool
 is_direct c set destination =
     option_map_or (λ s. nat_eq s.adjacent (point_of c destination)) (slice_get c.sets set) false
 
--- whether a flow went by one set before, and goes by another now. One that leaves the set that leads to its destination
--- itself isn't counted, since the changeover of its link moves its messages in order (Q.704 §5)
+-- whether a flow went by one set before, and goes by another now. One that leaves its destination's own set isn't
+-- counted, since the changeover of its link moves its messages in order (Q.704 §5)
 abbrev pub is_rerouted : Configuration → (destination : ℕ) → (before now : Option ℕ) → Bool
 is_rerouted c destination None now = false
 is_rerouted c destination (Some before) None = false

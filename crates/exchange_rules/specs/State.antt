@@ -91,8 +91,8 @@ pub record Node (Q : Type 0) : Type 0 where
   pub parts : Parts
 
 -- By which sets flows went: for each destination and each of its selections the set by which the flow went last, if it
--- went by one; and how often a flow changed its set since the node was booted, 2 ^ 64 - 1 at most. Nothing that the node
--- does depends on it.
+-- went by one; and how often a flow was rerouted since the node was booted, 2 ^ 64 - 1 at most: it changed its set, but
+-- away from its destination's own. Nothing that the node does depends on it.
 pub record Reroutings : Type 0 where
   pub last_sets : List (List (Option ℕ))
   pub times : ℕ
