@@ -1,9 +1,10 @@
 //! The text of the flags.
 
-ghost use Rattle.std.specs.Prelude.{◌≡◌};
+ghost use Rattle.std.specs.Prelude.{◌≡◌, nat_lt};
 ghost use Rattle.exchange_rules.specs.First.{Abstract};
 ghost use Rattle.exchange.specs.Calls.{StandsFor};
 ghost use Rattle.console.specs.Texts.{Shows, flag_line};
+ghost use Rattle.console.specs.declared.flags.TheConstants.{FLAGS};
 
 use crate::line::{LINE_OCTETS, write_count};
 use arrayvec::ArrayString;
@@ -23,6 +24,9 @@ pub fn show_flags(exchange: &Exchange, k: usize, out: &mut ArrayString<LINE_OCTE
 
     // The same on what is kept.
     ensures kept_line { Shows (flag_line exchange.now k) result out.old.bytes out.new.bytes }
+
+    // Each of its lines is written, and no other.
+    ensures count { result ≡ nat_lt k FLAGS }
 {
     match k {
         0 => write_count("flag lost_any ", exchange.times_lost(), out),

@@ -1,9 +1,10 @@
 //! The text of the losses.
 
-ghost use Rattle.std.specs.Prelude.{◌≡◌};
+ghost use Rattle.std.specs.Prelude.{◌≡◌, nat_lt};
 ghost use Rattle.exchange_rules.specs.First.{Abstract};
 ghost use Rattle.exchange.specs.Calls.{StandsFor};
 ghost use Rattle.console.specs.Texts.{Shows, loss_line};
+ghost use Rattle.console.specs.declared.losses.TheConstants.{LOSSES};
 
 use crate::line::{LINE_OCTETS, write_count};
 use arrayvec::ArrayString;
@@ -24,6 +25,9 @@ pub fn show_losses(exchange: &Exchange, k: usize, out: &mut ArrayString<LINE_OCT
 
     // The same on what is kept.
     ensures kept_line { Shows (loss_line exchange.now k) result out.old.bytes out.new.bytes }
+
+    // Each of its lines is written, and no other.
+    ensures count { result ≡ nat_lt k LOSSES }
 {
     match k {
         0 => write_count("loss messages_lost ", exchange.messages_lost(), out),

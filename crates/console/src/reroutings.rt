@@ -1,19 +1,20 @@
-//! The text of the flows that changed their link set.
+//! The text of the reroutings.
 
-ghost use Rattle.std.specs.Prelude.{◌≡◌};
+ghost use Rattle.std.specs.Prelude.{◌≡◌, nat_lt};
 ghost use Rattle.exchange_rules.specs.First.{Abstract};
 ghost use Rattle.exchange.specs.Calls.{StandsFor};
 ghost use Rattle.console.specs.Texts.{Shows, rerouting_line};
+ghost use Rattle.console.specs.declared.reroutings.TheConstants.{REROUTINGS};
 
 use crate::line::{LINE_OCTETS, write_count};
 use arrayvec::ArrayString;
 use exchange::Exchange;
 
-/// Lines of the text of the flows that changed their link set.
+/// Lines of the text of the reroutings.
 pub const REROUTINGS: usize = 1;
 
-/// Writes line `k`, from 0, of the text of the flows that changed their link set: `rerouting times_rerouted N`, how
-/// often one did since the node was booted, otherwise than away from the set that leads to its destination itself.
+/// Writes line `k`, from 0, of the text of the reroutings: `rerouting times_rerouted N`, how often a flow changed its
+/// link set since the node was booted, but away from its destination's own.
 ///
 /// False past the last line, and then nothing is written.
 pub fn show_reroutings(exchange: &Exchange, k: usize, out: &mut ArrayString<LINE_OCTETS>) -> bool
@@ -23,6 +24,9 @@ pub fn show_reroutings(exchange: &Exchange, k: usize, out: &mut ArrayString<LINE
 
     // The same on what is kept.
     ensures kept_line { Shows (rerouting_line exchange.now k) result out.old.bytes out.new.bytes }
+
+    // Each of its lines is written, and no other.
+    ensures count { result ≡ nat_lt k REROUTINGS }
 {
     match k {
         0 => write_count("rerouting times_rerouted ", exchange.times_rerouted(), out),
