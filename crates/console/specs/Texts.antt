@@ -144,7 +144,7 @@ loss_line s zero = Some (count_text (codes "loss messages_lost ") s.node.parts.m
 loss_line s (suc zero) = Some (count_text (codes "loss times_broken ") s.node.parts.times_broken)
 loss_line s (suc (suc k)) = None
 
--- the line of count k of the flows that changed their link set
+-- the line of count k: how often a flow changed its link set, but away from its destination's own
 abbrev pub rerouting_line : {Q : Type 0} → State Q → ℕ → Option (List ℕ)
 rerouting_line s zero = Some (count_text (codes "rerouting times_rerouted ") s.reroutings.times)
 rerouting_line s (suc k) = None

@@ -86,7 +86,7 @@ pub struct Exchange {
     messages_lost: u64,
     times_broken: u64,
     times_late: u64,
-    // by which sets flows went last, and how often one changed its set
+    // by which sets flows went last, and how often one was rerouted
     flow_sets: FlowSets,
     times_rerouted: u64,
     // whether a hold changed since the messages of Held were last walked
@@ -190,7 +190,7 @@ impl Exchange {
 }
 
 impl Exchange {
-    /// Applies an event; then counts the flows that changed their set by it.
+    /// Applies an event; then counts the flows that were rerouted by it.
     #[inline(always)]
     fn happen(&mut self, event: &Event<'_>) -> Outcome
         ensures outcome { result ≡ outcome_of kept (happened event.now result) self.old }

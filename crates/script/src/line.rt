@@ -37,7 +37,7 @@ pub enum Show {
     Flags,
     /// The counts of losses.
     Losses,
-    /// How often flows changed their link set.
+    /// How often a flow changed its link set, but away from its destination's own.
     Reroutings,
 }
 

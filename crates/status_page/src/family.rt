@@ -58,7 +58,7 @@ pub enum Family {
     Lost,
     /// How often it wasn't known for sure what the other end has of a link.
     Broken,
-    /// How often a flow changed its link set.
+    /// How often a flow changed its link set, but away from its destination's own.
     Rerouted,
     /// Whether each link is in service.
     InService,
@@ -178,7 +178,7 @@ impl Family {
             Family::Broken =>
                 "Changeovers of which it isn't known for sure what the peer has of the link.",
             Family::Rerouted =>
-                "Flows that changed their link set, but away from the one to their destination.",
+                "How often a flow changed its link set, but away from its destination's own.",
             Family::InService => "1 if the link is in service, else 0.",
             Family::ChangingOver => "1 if the link is down and its changeover isn't over, else 0.",
             Family::Barred =>

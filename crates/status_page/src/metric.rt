@@ -39,7 +39,7 @@ pub enum NodeMetric {
     MessagesLost,
     /// How often it wasn't known for sure what the other end has of a link.
     TimesBroken,
-    /// How often a flow changed its link set.
+    /// How often a flow changed its link set, but away from its destination's own.
     TimesRerouted,
 }
 

@@ -17,14 +17,14 @@ use settings::{Limits, SetId, Sls};
 struct Recount {
     // the sets by which they went last
     sets: LastSets,
-    // how many of them changed their set
+    // how many of them were rerouted
     changes: u64,
 }
 
 impl Exchange {
-    /// Counts the flows that changed their set. An event that changes no route and no link costs one comparison; one
-    /// that changes the routes to a destination looks at the 16 flows there; and one that begins or ends the traffic of
-    /// a link looks at all flows.
+    /// Counts the flows that were rerouted. An event that changes no route and no link costs one comparison; one that
+    /// changes the routes to a destination looks at the 16 flows there; and one that begins or ends the traffic of a
+    /// link looks at all flows.
     #[inline(always)]
     pub(super) fn count_flows(&mut self)
         ensures { self.new ≡ leaving self.old self.old.node }
@@ -123,7 +123,7 @@ impl Exchange {
         Some(self.set_of(link))
     }
 
-    /// 1 if a flow to a destination changed its set so that this counts, else 0.
+    /// 1 if a flow to a destination was rerouted, else 0.
     fn changes_by(&self, destination: usize, last: &Option<SetId>, now: &Option<SetId>) -> u64
         requires { destination < length self.now.settings.destinations }
         ensures { result ≡ one_if (is_rerouted self.now.settings destination last.now now.now) }
@@ -140,7 +140,7 @@ impl Exchange {
         }
     }
 
-    /// Whether the links of a set lead to a destination itself.
+    /// Whether a set is a destination's own.
     fn is_direct(&self, set: SetId, destination: usize) -> bool
         requires { destination < length self.now.settings.destinations }
         ensures { result ≡ is_direct self.now.settings set destination }

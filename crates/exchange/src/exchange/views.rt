@@ -62,9 +62,8 @@ impl Exchange {
         self.times_broken
     }
 
-    /// How often since `boot` a flow changed its link set otherwise than away from the set that leads to its destination
-    /// itself: at the end of an event it went by another set than the last time that it had a link. It stays at
-    /// 2^64 - 1.
+    /// How often since `boot` a flow changed its link set, but away from its destination's own: at the end of an event
+    /// it went by another set than the last time that it had a link. It stays at 2^64 - 1.
     pub fn times_rerouted(&self) -> u64
         ensures times { (a : Abstract) → StandsFor self.now a → result ≡ a.reroutings.times }
         ensures kept_times { result ≡ self.now.reroutings.times }

@@ -10,7 +10,7 @@ show subsystems           the subsystems at other points that are prohibited
 show notices              the last 64 notices
 show flags                how often a message may have been lost, or flows gone out of order
 show losses               the messages named as lost, and how often that wasn't known for sure
-show reroutings           how often a flow changed its link set
+show reroutings           how often a flow changed its link set, but away from its destination's own
 show counters             what passed on each link since the start: counter NAME LINK VALUE
 show capture              each link: whether it is captured
 submit HEX                a user part submits a message: its SIO, then its SIF
