@@ -39,7 +39,7 @@ module _ (k : List KeptNode) (w : NetworkState) (s : NetworkStandsFor k w) (all 
   shared-by : (point link : ℕ) → link < length (w.node point).exchange.settings.links → AreSharing (r.settings point) (r.settings (peer_of (w.node point).exchange.settings link))
   shared-by point link less = sharing k w s point (peer_of (w.node point).exchange.settings link) (all point link less)
 
-  joined : IsJoined r.settings (points_of k)
+  pub joined : IsJoined r.settings (points_of k)
   joined = record {
     placed = r.placed;
     shared = λ point link less.

@@ -11,5 +11,6 @@ pub mod KeptNetworks
 pub mod KeptOutside
 pub mod NetworkStands
 pub mod NetworkPromised
+pub mod NodesHold
 pub mod KeptAnew
 pub mod NetworkAnew

@@ -2,6 +2,7 @@
 
 mod anew;
 mod booting;
+mod node_laws;
 mod outside;
 
 ghost use Rattle.std.specs.Prelude.{◌≡◌, ℕ, List, is_some, IfOk, IfSome, OnErr, OnOk, count_by};

@@ -1,0 +1,13 @@
+pub mod Lists
+pub mod Streams
+pub mod Frames
+pub mod Same
+pub mod Doings
+pub mod Places
+pub mod Steps
+pub mod Runs
+pub mod Points
+pub mod Counting
+pub mod Ending
+pub mod Summing
+pub mod ToPoint
