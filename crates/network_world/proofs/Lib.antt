@@ -19,6 +19,7 @@ pub mod ChangedFits
 pub mod BooksAside
 pub mod NetworkSteps
 pub mod NetworkTurns
+pub mod Linked
 pub mod NodeLaws
 pub mod Shown
 pub mod NetworkLaws

@@ -159,6 +159,14 @@ module _ (k : List KeptNode) (w : NetworkState) (s : IsKept k w) where
         subst (λ (o : Option KeptNode). AreEndsOf (kept_other_end k o link) (other_end w point link)) (sym got)
         (ends-of link (slice_get c.links link) refl)
 
+    some-alike : (o : Option KeptPlace) (there : Option Place) → AreEndsOf o there → is_some o ≡ is_some there
+    some-alike o there (neither e f) = ap (λ (p : Option KeptPlace). is_some p) e ∙ sym (ap (λ (p : Option Place). is_some p) f)
+    some-alike o there (between far other away g apart inside at f) = ap (λ (p : Option KeptPlace). is_some p) at ∙ sym (ap (λ (p : Option Place). is_some p) f)
+
+    -- there is one in what is kept, if there is one
+    pub ends-there : (link : ℕ) → is_some (kept_other_end k (slice_get k place) link) ≡ is_some (other_end w point link)
+    ends-there link = some-alike (kept_other_end k (slice_get k place) link) (other_end w point link) (other-ends link)
+
     -- ---- whatever is done there
 
     did-turn : (what : Doing) → IsTurn (points_of k) (kept_did what place k) (did_outcome what point w) (did what point w)

@@ -1,5 +1,5 @@
 -- What holds of each node, and of all together, of a network of which no link leads out.
-use Rattle.std.proofs.Common.{◌≡◌, ◌<◌, ℕ, true, List, length, refl, ap, sym, subst, ◌∙◌}
+use Rattle.std.proofs.Common.{◌≡◌, ◌<◌, ℕ, List, length, refl, ap, sym, subst, ◌∙◌}
 use Rattle.std.specs.Prelude.{is_some}
 use Rattle.settings_rows.specs.Configuration.{Configuration}
 use Rattle.network_rules.specs.Networks.{NetworkState, first_network}

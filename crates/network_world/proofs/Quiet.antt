@@ -61,7 +61,7 @@ or-true : (b : Bool) → (b || true) ≡ true
 or-true true = refl
 or-true false = refl
 
-listed : (k : List KeptNode) (place : ℕ) (n : KeptNode) → slice_get k place ≡ Some n → is_listed (points_of k) (own n) ≡ true
+pub listed : (k : List KeptNode) (place : ℕ) (n : KeptNode) → slice_get k place ≡ Some n → is_listed (points_of k) (own n) ≡ true
 listed [] place n e = absurd (none-some n e)
 listed (m ∷ k) zero n e = ap (λ (b : Bool). b || is_listed (points_of k) (own n)) (itself-first m n e)
 listed (m ∷ k) (suc place) n e =
@@ -121,7 +121,7 @@ module _ (k : List KeptNode) (w : NetworkState) (s : IsKept k w) where
   pub all-quiet : AreQuiet k → IsQuietNetwork (points_of k) w
   all-quiet all = λ point there. one-quiet all point (place_at point k) refl there
 
-  node-of : (place : ℕ) (n : KeptNode) → slice_get k place ≡ Some n → IsNodeOf n (w.node (own n))
+  pub node-of : (place : ℕ) (n : KeptNode) → slice_get k place ≡ Some n → IsNodeOf n (w.node (own n))
   node-of place n e =
       subst (λ (o : Option KeptNode). IsNodeAt (own n) o (w.node (own n)))
       (found k place n e (s.placed.once (own n) (listed k place n e)))

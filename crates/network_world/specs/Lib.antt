@@ -8,6 +8,7 @@ pub mod Waiting
 pub mod Joined
 pub mod KeptNodes
 pub mod KeptNetworks
+pub mod KeptLinks
 pub mod KeptOutside
 pub mod NetworkStands
 pub mod NetworkPromised

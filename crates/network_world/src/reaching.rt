@@ -1,6 +1,7 @@
 //! The nodes of a network by their points, and what is done at one of them and reaches another.
 
-ghost use Rattle.std.specs.Prelude.{◌≡◌, ◌<◌, ◌≢◌, length, slice_get, IfOk, IfSome, OnOk, OnErr};
+ghost use Rattle.std.specs.Prelude.{◌≡◌, ◌<◌, ◌≢◌, ◌↔◌, length, slice_get, IsTrue, IfOk, IfSome, OnOk, OnErr};
+ghost use Rattle.network_world.specs.KeptLinks.{AreAllLinked, IsLinkedAt};
 ghost use Rattle.network_world.specs.KeptNetworks.{KeptPlace, kept_other_end, kept_reaches, one_turned, place_at, reached_at};
 ghost use Rattle.network_world.specs.KeptNodes.{node_did, node_takes};
 ghost use Rattle.network_world.specs.Told.{doing_told};
@@ -45,6 +46,32 @@ fn other_end(nodes: &[Node], near: usize, link: LinkId) -> Option<There>
     let place = place_of(nodes, adjacent_of(settings, row))?;
     let other = far_end(settings, nodes[place].settings(), link)?;
     Some(There { place, link: other })
+}
+
+/// Whether no link of these nodes leads out: each has its other end at one of them.
+pub(crate) fn are_linked(nodes: &[Node]) -> bool
+    ensures { IsTrue result ↔ AreAllLinked nodes.now }
+{
+    for place in 0..nodes.len() {
+        if !is_linked(nodes, place) {
+            return false;
+        }
+    }
+    true
+}
+
+/// Whether none of the node at a place does. Requires that the node is there.
+fn is_linked(nodes: &[Node], near: usize) -> bool
+    requires { near < length nodes.now }
+    ensures { IsTrue result ↔ IsLinkedAt nodes.now near }
+{
+    let links = nodes[near].settings().link_count() as u8;
+    for link in 0..links {
+        if other_end(nodes, near, LinkId::new(link)).is_none() {
+            return false;
+        }
+    }
+    true
 }
 
 /// Does what is done at the node at a place alone. Requires that it is there. After NoMemory nothing has changed.

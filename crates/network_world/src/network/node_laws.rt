@@ -1,21 +1,23 @@
 //! What holds of a network whatever the routes, and however many ways lead to a point.
 
-ghost use Rattle.std.specs.Prelude.{ℕ};
+ghost use Rattle.std.specs.Prelude.{◌↔◌, ℕ, IsTrue};
 ghost use Rattle.network_rules.specs.Networks.{NetworkState};
 ghost use Rattle.network_rules.specs.Outside.{Move, after_move};
 ghost use Rattle.node_law.specs.Alike.{AreLinked, IsRunOfNodes};
 ghost use Rattle.node_law.specs.Ends.{EndsOnce, EndsWhole, TakesEachIn};
 ghost use Rattle.node_law.specs.Sums.{ComeToPoint, ComeWhole, IsAccounted, IsWhole, ToEach};
+ghost use Rattle.network_world.specs.KeptLinks.{AreAllLinked};
 ghost use Rattle.network_world.specs.KeptNetworks.{points_of};
 ghost use Rattle.network_world.specs.NetworkPromised.{ShareAll};
 ghost use Rattle.network_world.specs.NetworkStands.{NetworkStandsFor};
 ghost use Rattle.network_world.specs.NodesHold.{AtEach, HoldsLinked, HoldsLossless, HoldsUnbroken};
 
 use crate::network::Network;
+use crate::reaching::are_linked;
 
 impl Network {
     /// What holds between any two steps, whatever the routes, and however many ways lead to a point, mated pairs
-    /// included, where no link leads out (`AreLinked`): so it is of each network from `new`, and of one from `new_part`
+    /// included, where no link leads out (`is_linked`): so it is of each network from `new`, and of one from `new_part`
     /// if the other end of each link is there. Nothing changes that.
     ///
     /// Whatever was lost, what a node accepted, and what it refused of the messages for other points, is what entered
@@ -48,4 +50,20 @@ impl Network {
         // nor ever after, since settings never change.
         ensures linked { (w : NetworkState) → AreLinked w → (move : Move) → AreLinked (after_move move w) }
     {}
+
+    /// Whether no link leads out: the other end of each is a link of a node of the network, with its signalling link
+    /// code, that leads back. It looks through all links of all nodes.
+    pub fn is_linked(&self) -> bool
+        ensures linked { (w : NetworkState) → NetworkStandsFor self.now w → IsTrue result ↔ AreLinked w }
+        ensures kept { IsTrue result ↔ AreAllLinked self.now }
+    {
+        self.are_linked()
+    }
+
+    /// Whether none does, by what is kept.
+    fn are_linked(&self) -> bool
+        ensures { IsTrue result ↔ AreAllLinked self.now }
+    {
+        are_linked(&self.nodes)
+    }
 }

@@ -1,5 +1,4 @@
-use Rattle.std.proofs.Common.{◌≡◌, ℕ, true, List}
-use Rattle.network_rules.specs.Networks.{NetworkState}
+use Rattle.std.proofs.Common.{◌≡◌, ℕ, true}
 use Rattle.network_rules.specs.Totals.{HaveLostNothing, is_listed}
 use Rattle.node_law.specs.Ends.{AreUnbroken, EndsOnce, EndsWhole, TakesEachIn}
 use Rattle.node_law.specs.Sums.{ComeToPoint, ComeWhole, IsAccounted, IsWhole, ToEach}
