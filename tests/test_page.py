@@ -63,7 +63,7 @@ def parse_metrics(text: str) -> tuple[dict[Series, float], dict[str, str]]:
 
 def parse_sample(line: str) -> tuple[Series, float]:
     """Reads the line of a sample."""
-    found = re.fullmatch(r"([a-zA-Z_:][a-zA-Z0-9_:]*)(?:\{(.*)\})? ([0-9]+)", line)
+    found = re.fullmatch(r"([a-zA-Z_:][a-zA-Z0-9_:]*)(?:\{(.*)\})? ([0-9]+(?:e-6)?)", line)
     assert found, f"no sample: {line!r}"
     pairs = [*parse_labels(found[2] or "")]
     assert len(dict(pairs)) == len(pairs), f"a label comes twice: {line!r}"

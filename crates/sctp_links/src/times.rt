@@ -1,7 +1,7 @@
-//! Times in whole milliseconds.
+//! Times in whole milliseconds and microseconds.
 
 ghost use Rattle.std.specs.Prelude.{◌≡◌};
-ghost use Rattle.sctp_links.specs.Times.{millis_of};
+ghost use Rattle.sctp_links.specs.Times.{micros_of, millis_of};
 
 use std::time::Duration;
 
@@ -10,4 +10,11 @@ pub fn millis(time: Duration) -> u64
     ensures { result ≡ millis_of time }
 {
     u64::try_from(time.as_millis()).unwrap_or(u64::MAX)
+}
+
+/// The whole microseconds of a time.
+pub fn micros(time: Duration) -> u64
+    ensures { result ≡ micros_of time }
+{
+    u64::try_from(time.as_micros()).unwrap_or(u64::MAX)
 }

@@ -10,11 +10,12 @@ use Rattle.status_page.specs.declared.noticed.NoticeLog.{NoticeLog}
 use Rattle.status_page.specs.declared.text.TheConstants.{PAGE}
 use Rattle.status_page.specs.Metrics.{metrics_text}
 use Rattle.status_page.specs.States.{state_tokens}
+use Rattle.status_page.specs.declared.times.Times.{Times}
 
--- the octets of each page, this many milliseconds after the start: `/` never changes, `/state.json` is the print of its
+-- the octets of each page, at these times: `/` never changes, `/state.json` is the print of its
 -- tokens, and `/metrics` has a line for each sample
 abbrev pub page_text :
-    {Q : Type 0} → QueueKind Q → PointFormat → State Q → List LinkCounters → NoticeLog → (uptime : ℕ) → Page → List ℕ
-page_text q points s rows log uptime page.Status = PAGE.now
-page_text q points s rows log uptime page.State = print (state_tokens q points s rows log uptime)
-page_text q points s rows log uptime page.Metrics = metrics_text q s rows log uptime
+    {Q : Type 0} → QueueKind Q → PointFormat → State Q → List LinkCounters → NoticeLog → (times : Times) → Page → List ℕ
+page_text q points s rows log times page.Status = PAGE.now
+page_text q points s rows log times page.State = print (state_tokens q points s rows log times)
+page_text q points s rows log times page.Metrics = metrics_text q s rows log times

@@ -21,10 +21,11 @@ use Rattle.served_link.specs.declared.setback.Setback.TheVariants.{OtherPort, To
 use Rattle.served_link.specs.declared.setback.Setback.TheVariants.{FewStreams, Unwanted, NoTagLeft, ShuttingDown}
 use Rattle.served_link.specs.declared.setback.Setback.TheVariants.{WithoutCookie, LongCookie, EndedByPeer}
 use Rattle.served_link.specs.declared.setback.Setback.TheVariants.{Unanswered, BadAnswer, EndedByNode}
-use Rattle.status_page.specs.declared.family.Kind.{Kind}
-use Rattle.status_page.specs.declared.family.Kind.TheVariants.{Counter as Growing, Gauge}
+use Rattle.status_page.specs.declared.kind.Kind.{Kind}
+use Rattle.status_page.specs.declared.kind.Kind.TheVariants.{Counter as Growing, Gauge}
 use Rattle.status_page.specs.declared.family.Family.{Family}
-use Rattle.status_page.specs.declared.family.Family.TheVariants.{Build, Uptime, PoolLimit, Pool, Held, Notices, Flags}
+use Rattle.status_page.specs.declared.family.Family.TheVariants.{Build, Uptime, LongestTurn, PoolLimit, Pool}
+use Rattle.status_page.specs.declared.family.Family.TheVariants.{Held, Notices, Flags}
 use Rattle.status_page.specs.declared.family.Family.TheVariants.{Raised, Lost, Broken, Rerouted, InService}
 use Rattle.status_page.specs.declared.family.Family.TheVariants.{ChangingOver, Barred, Queue}
 use Rattle.status_page.specs.declared.family.Family.TheVariants.{FramesReceived, OctetsReceived, FramesSent}
@@ -40,7 +41,7 @@ use Rattle.status_page.specs.declared.noticed.NoticeKind.TheVariants as noticed
 -- all families, in the order in which they are shown
 abbrev pub families : List Family
 families =
-    Build ∷ Uptime ∷ PoolLimit ∷ Pool ∷ Held ∷ Notices ∷ Flags ∷ Raised ∷ Lost ∷ Broken ∷ Rerouted ∷
+    Build ∷ Uptime ∷ LongestTurn ∷ PoolLimit ∷ Pool ∷ Held ∷ Notices ∷ Flags ∷ Raised ∷ Lost ∷ Broken ∷ Rerouted ∷
     InService ∷ ChangingOver ∷ Barred ∷ Queue ∷ FramesReceived ∷ OctetsReceived ∷ FramesSent ∷ OctetsSent ∷
     Forwarded ∷ Delivered ∷ Refused ∷ Failures ∷ Retries ∷ InitsRefused ∷ TriesFailed ∷ []
 
@@ -48,6 +49,7 @@ families =
 abbrev pub family_name : Family → List ℕ
 family_name Build = codes "stp_build_info"
 family_name Uptime = codes "stp_uptime_seconds"
+family_name LongestTurn = codes "stp_longest_turn_seconds"
 family_name PoolLimit = codes "stp_pool_limit_messages"
 family_name Pool = codes "stp_pool_messages"
 family_name Held = codes "stp_held_messages"
@@ -77,6 +79,7 @@ family_name TriesFailed = codes "stp_tries_failed_total"
 abbrev pub family_help : Family → List ℕ
 family_help Build = codes "The version of the program; the value is always 1."
 family_help Uptime = codes "Whole seconds since the start of the node."
+family_help LongestTurn = codes "How long the longest turn of the node's loop took; what comes meanwhile waits."
 family_help PoolLimit = codes "User messages that the node may keep."
 family_help Pool = codes "User messages that the node keeps: of links those that aren't confirmed, and those held."
 family_help Held = codes "User messages that are held until a flow may go on."
@@ -106,6 +109,7 @@ family_help TriesFailed = codes "Tries to open the link's association over SCTP 
 abbrev pub kind_of : Family → Kind
 kind_of Build = Gauge
 kind_of Uptime = Gauge
+kind_of LongestTurn = Gauge
 kind_of PoolLimit = Gauge
 kind_of Pool = Gauge
 kind_of Held = Gauge
@@ -130,6 +134,36 @@ kind_of Failures = Growing
 kind_of Retries = Growing
 kind_of InitsRefused = Growing
 kind_of TriesFailed = Growing
+
+-- what is behind each value: nothing, or the exponent of one that is in smaller units than its name says
+abbrev pub exponent_of : Family → List ℕ
+exponent_of Build = []
+exponent_of Uptime = []
+exponent_of LongestTurn = codes "e-6"
+exponent_of PoolLimit = []
+exponent_of Pool = []
+exponent_of Held = []
+exponent_of Notices = []
+exponent_of Flags = []
+exponent_of Raised = []
+exponent_of Lost = []
+exponent_of Broken = []
+exponent_of Rerouted = []
+exponent_of InService = []
+exponent_of ChangingOver = []
+exponent_of Barred = []
+exponent_of Queue = []
+exponent_of FramesReceived = []
+exponent_of OctetsReceived = []
+exponent_of FramesSent = []
+exponent_of OctetsSent = []
+exponent_of Forwarded = []
+exponent_of Delivered = []
+exponent_of Refused = []
+exponent_of Failures = []
+exponent_of Retries = []
+exponent_of InitsRefused = []
+exponent_of TriesFailed = []
 
 abbrev pub kind_name : Kind → List ℕ
 kind_name Growing = codes "counter"
@@ -169,6 +203,7 @@ counted what = Link (of_link.Counted what)
 abbrev pub metrics_of : Family → List Metric
 metrics_of Build = Node of_node.Build ∷ []
 metrics_of Uptime = Node of_node.Uptime ∷ []
+metrics_of LongestTurn = Node of_node.LongestTurn ∷ []
 metrics_of PoolLimit = Node of_node.PoolLimit ∷ []
 metrics_of Pool = Node of_node.Pool ∷ []
 metrics_of Held = Node of_node.Held ∷ []

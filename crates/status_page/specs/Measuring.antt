@@ -18,6 +18,7 @@ use Rattle.status_page.specs.declared.metric.LinkMetric.{LinkMetric}
 use Rattle.status_page.specs.declared.metric.LinkMetric.TheVariants as of_link
 use Rattle.status_page.specs.declared.noticed.NoticeLog.{NoticeLog}
 use Rattle.status_page.specs.Noticed.{kind_seen}
+use Rattle.status_page.specs.declared.times.Times.{Times}
 
 abbrev pub bit : Bool → ℕ
 bit true = 1
@@ -98,18 +99,19 @@ users_on_links q s = users_on_first q s (length s.settings.links)
 abbrev pub kept_messages : {Q : Type 0} → QueueKind Q → State Q → ℕ
 kept_messages q s = saturated (held_users q s + users_on_links q s)
 
--- the value of a metric of the node, this many milliseconds after its start
-abbrev pub node_value : {Q : Type 0} → QueueKind Q → NodeMetric → State Q → NoticeLog → (uptime : ℕ) → ℕ
-node_value q of_node.Build s log uptime = 1
-node_value q of_node.Uptime s log uptime = uptime / 1000
-node_value q of_node.PoolLimit s log uptime = s.settings.pool
-node_value q of_node.Pool s log uptime = kept_messages q s
-node_value q of_node.Held s log uptime = held_users q s
-node_value q (of_node.Notices kind) s log uptime = kind_seen kind log
-node_value q of_node.LostAny s log uptime = bit (lost_any s.node.parts)
-node_value q of_node.LateAny s log uptime = bit (late_any s.node.parts)
-node_value q of_node.TimesLost s log uptime = s.node.parts.times_lost
-node_value q of_node.TimesLate s log uptime = s.node.parts.times_late
-node_value q of_node.MessagesLost s log uptime = s.node.parts.messages_lost
-node_value q of_node.TimesBroken s log uptime = s.node.parts.times_broken
-node_value q of_node.TimesRerouted s log uptime = s.reroutings.times
+-- the value of a metric of the node, at these times
+abbrev pub node_value : {Q : Type 0} → QueueKind Q → NodeMetric → State Q → NoticeLog → (times : Times) → ℕ
+node_value q of_node.Build s log times = 1
+node_value q of_node.Uptime s log times = times.uptime_ms / 1000
+node_value q of_node.LongestTurn s log times = times.longest_turn_us
+node_value q of_node.PoolLimit s log times = s.settings.pool
+node_value q of_node.Pool s log times = kept_messages q s
+node_value q of_node.Held s log times = held_users q s
+node_value q (of_node.Notices kind) s log times = kind_seen kind log
+node_value q of_node.LostAny s log times = bit (lost_any s.node.parts)
+node_value q of_node.LateAny s log times = bit (late_any s.node.parts)
+node_value q of_node.TimesLost s log times = s.node.parts.times_lost
+node_value q of_node.TimesLate s log times = s.node.parts.times_late
+node_value q of_node.MessagesLost s log times = s.node.parts.messages_lost
+node_value q of_node.TimesBroken s log times = s.node.parts.times_broken
+node_value q of_node.TimesRerouted s log times = s.reroutings.times

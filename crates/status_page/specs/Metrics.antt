@@ -12,6 +12,7 @@ use Rattle.status_page.specs.Each.{each}
 use Rattle.status_page.specs.Families.{families, metrics_of}
 use Rattle.status_page.specs.Measuring.{link_value, node_value}
 use Rattle.status_page.specs.Samples.{head_text, link_labels, node_labels, sample_text}
+use Rattle.status_page.specs.declared.times.Times.{Times}
 
 unfoldable pub link_sample :
     {Q : Type 0} → QueueKind Q → State Q → List LinkCounters → Family → LinkMetric → ℕ → List ℕ
@@ -24,22 +25,22 @@ link_samples q s rows family metric = each (link_sample q s rows family metric) 
 
 -- the samples of a metric
 unfoldable pub metric_text :
-    {Q : Type 0} → QueueKind Q → State Q → List LinkCounters → NoticeLog → (uptime : ℕ) → Family → Metric → List ℕ
-metric_text q s rows log uptime family (Node metric) =
-    sample_text family (node_labels metric) (node_value q metric s log uptime)
-metric_text q s rows log uptime family (Link metric) = link_samples q s rows family metric
+    {Q : Type 0} → QueueKind Q → State Q → List LinkCounters → NoticeLog → (times : Times) → Family → Metric → List ℕ
+metric_text q s rows log times family (Node metric) =
+    sample_text family (node_labels metric) (node_value q metric s log times)
+metric_text q s rows log times family (Link metric) = link_samples q s rows family metric
 
 -- a family: its head, and then its metrics
 unfoldable pub family_text :
-    {Q : Type 0} → QueueKind Q → State Q → List LinkCounters → NoticeLog → (uptime : ℕ) → Family → List ℕ
-family_text q s rows log uptime family =
-    head_text family ++ flat_map (metric_text q s rows log uptime family) (metrics_of family)
+    {Q : Type 0} → QueueKind Q → State Q → List LinkCounters → NoticeLog → (times : Times) → Family → List ℕ
+family_text q s rows log times family =
+    head_text family ++ flat_map (metric_text q s rows log times family) (metrics_of family)
 
 abbrev pub families_text :
-    {Q : Type 0} → QueueKind Q → State Q → List LinkCounters → NoticeLog → (uptime : ℕ) → List Family → List ℕ
-families_text q s rows log uptime fs = flat_map (family_text q s rows log uptime) fs
+    {Q : Type 0} → QueueKind Q → State Q → List LinkCounters → NoticeLog → (times : Times) → List Family → List ℕ
+families_text q s rows log times fs = flat_map (family_text q s rows log times) fs
 
--- all metrics, this many milliseconds after the start
+-- all metrics, at these times
 unfoldable pub metrics_text :
-    {Q : Type 0} → QueueKind Q → State Q → List LinkCounters → NoticeLog → (uptime : ℕ) → List ℕ
-metrics_text q s rows log uptime = families_text q s rows log uptime families
+    {Q : Type 0} → QueueKind Q → State Q → List LinkCounters → NoticeLog → (times : Times) → List ℕ
+metrics_text q s rows log times = families_text q s rows log times families

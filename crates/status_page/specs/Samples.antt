@@ -15,7 +15,7 @@ use Rattle.status_page.specs.declared.metric.LinkMetric.{LinkMetric}
 use Rattle.status_page.specs.declared.metric.LinkMetric.TheVariants as of_link
 use Rattle.status_page.specs.declared.noticed.NoticeKind.{NoticeKind}
 use Rattle.status_page.specs.declared.noticed.NoticeKind.TheVariants as noticed
-use Rattle.status_page.specs.Families.{family_name, family_help, kind_name, kind_of}
+use Rattle.status_page.specs.Families.{exponent_of, family_name, family_help, kind_name, kind_of}
 
 -- the two lines before a family
 abbrev pub head_text : Family → List ℕ
@@ -25,7 +25,8 @@ head_text family =
 
 -- the line of a sample
 abbrev pub sample_text : Family → (labels : List ℕ) → (value : ℕ) → List ℕ
-sample_text family labels value = family_name family ++ labels ++ codes " " ++ decimal value ++ codes "\n"
+sample_text family labels value =
+    family_name family ++ labels ++ codes " " ++ decimal value ++ exponent_of family ++ codes "\n"
 
 -- ---- labels
 
@@ -44,6 +45,7 @@ kind_labels noticed.Missed = codes "{kind=\"missed\"}"
 abbrev pub node_labels : NodeMetric → List ℕ
 node_labels of_node.Build = codes "{version=\"" ++ VERSION.now ++ codes "\"}"
 node_labels of_node.Uptime = []
+node_labels of_node.LongestTurn = []
 node_labels of_node.PoolLimit = []
 node_labels of_node.Pool = []
 node_labels of_node.Held = []

@@ -30,6 +30,7 @@ use Rattle.status_page.specs.Families.{causes, init_reasons, notice_kinds, reaso
 use Rattle.status_page.specs.Measuring.{counters_at, held_users, is_changing_over, kept_messages}
 use Rattle.status_page.specs.Noticed.{kind_seen, time_of}
 use Rattle.status_page.specs.Members.{object, text_member, number_member, bool_member, object_member, array_member}
+use Rattle.status_page.specs.declared.times.Times.{Times}
 
 -- ---- counters
 
@@ -162,9 +163,10 @@ kind_members log kinds = flat_map (kind_member log) kinds
 -- ---- the node
 
 -- the version, and the time since the start in milliseconds
-abbrev pub program_members : (uptime : ℕ) → List Token
-program_members uptime =
-    text_member (codes "version") VERSION.now ++ number_member (codes "uptime_ms") uptime
+abbrev pub program_members : (times : Times) → List Token
+program_members times =
+    text_member (codes "version") VERSION.now ++ number_member (codes "uptime_ms") times.uptime_ms
+    ++ number_member (codes "longest_turn_us") times.longest_turn_us
 
 -- the node's own point, its network, and the user messages that it may keep
 abbrev pub place_members : PointFormat → Configuration → List Token
@@ -186,14 +188,14 @@ count_members q s =
     ++ number_member (codes "times_rerouted") s.reroutings.times
     ++ number_member (codes "notice_count") s.node.parts.notices.count
 
-unfoldable pub node_members : {Q : Type 0} → QueueKind Q → PointFormat → State Q → (uptime : ℕ) → List Token
-node_members q points s uptime = program_members uptime ++ place_members points s.settings ++ count_members q s
+unfoldable pub node_members : {Q : Type 0} → QueueKind Q → PointFormat → State Q → (times : Times) → List Token
+node_members q points s times = program_members times ++ place_members points s.settings ++ count_members q s
 
 -- the node, and its sets, links, destinations and notices
 unfoldable pub state_members :
-    {Q : Type 0} → QueueKind Q → PointFormat → State Q → List LinkCounters → NoticeLog → (uptime : ℕ) → List Token
-state_members q points s rows log uptime =
-    node_members q points s uptime
+    {Q : Type 0} → QueueKind Q → PointFormat → State Q → List LinkCounters → NoticeLog → (times : Times) → List Token
+state_members q points s rows log times =
+    node_members q points s times
     ++ array_member (codes "sets") (flat_map (set_tokens points) s.settings.sets)
     ++ array_member (codes "links") (each (link_tokens q s rows) (length s.settings.links))
     ++ array_member (codes "routes") (each (route_tokens points s) (length s.settings.destinations))
@@ -202,5 +204,5 @@ state_members q points s rows log uptime =
 
 -- the whole state
 abbrev pub state_tokens :
-    {Q : Type 0} → QueueKind Q → PointFormat → State Q → List LinkCounters → NoticeLog → (uptime : ℕ) → List Token
-state_tokens q points s rows log uptime = object (state_members q points s rows log uptime)
+    {Q : Type 0} → QueueKind Q → PointFormat → State Q → List LinkCounters → NoticeLog → (times : Times) → List Token
+state_tokens q points s rows log times = object (state_members q points s rows log times)

@@ -11,6 +11,7 @@ use crate::noticed::NoticeLog;
 use crate::page::{Content, Page};
 use crate::state::state_text;
 use crate::text::PAGE;
+use crate::times::Times;
 use bytes::BufMut;
 use exchange::Exchange;
 use http_server::Rope;
@@ -31,25 +32,19 @@ pub struct StatusPage<'a> {
     pub notices: &'a NoticeLog,
     /// How point codes are shown.
     pub points: PointFormat,
-    /// Milliseconds since the start of the node.
-    pub uptime_ms: u64,
+    /// How long it has run, and how long it was busy at once.
+    pub times: Times,
 }
 
 impl Content for StatusPage<'_> {
-    ghost content = { λ shown page. page_text kept shown.points shown.exchange.now shown.counters.now.links shown.notices.now shown.uptime_ms page };
+    ghost content = { λ shown page. page_text kept shown.points shown.exchange.now shown.counters.now.links shown.notices.now shown.times page };
 
     fn write(&self, page: Page, body: &mut Rope) -> Result<(), AllocError> {
         match page {
             Page::Status => body.put_slice(PAGE.as_bytes()),
             Page::State => self.write_state(body),
             Page::Metrics => {
-                put_metrics(
-                    self.exchange,
-                    self.counters,
-                    self.notices,
-                    self.uptime_ms,
-                    body,
-                )
+                put_metrics(self.exchange, self.counters, self.notices, self.times, body)
             }
         }
     }
@@ -59,7 +54,7 @@ impl StatusPage<'_> {
     /// Appends the state of the node to a body.
     fn write_state(&self, body: &mut Rope) -> Result<(), AllocError>
         ensures { OnOk result (body.new.items ≡ body.old.items ++ print (state_tokens kept self.now.points
-            self.now.exchange.now self.now.counters.now.links self.now.notices.now self.now.uptime_ms)) }
+            self.now.exchange.now self.now.counters.now.links self.now.notices.now self.now.times)) }
     {
         let text = state_text(
             self.alloc,
@@ -67,7 +62,7 @@ impl StatusPage<'_> {
             self.counters,
             self.notices,
             self.points,
-            self.uptime_ms,
+            self.times,
         )?;
         body.put_slice(text.as_slice())
     }

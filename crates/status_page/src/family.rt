@@ -1,33 +1,12 @@
 //! The families of metrics.
 
 ghost use Rattle.std.specs.Prelude.{◌≡◌, ◌≤◌, length};
-ghost use Rattle.status_page.specs.Families.{family_help, family_name, kind_name, kind_of, metrics_of};
+ghost use Rattle.status_page.specs.Families.{exponent_of, family_help, family_name, kind_of, metrics_of};
 
+use crate::kind::Kind;
 use crate::metric::{LinkMetric, Metric, NodeMetric};
 use crate::reasons::{FAILURES, INITS_REFUSED, NOTICES, REFUSED, TRIES_FAILED};
 use served_link::Counter;
-
-/// What a metric does over time.
-#[derive(Clone, Copy)]
-pub enum Kind {
-    /// It only grows, until the node starts again.
-    Counter,
-    /// It goes up and down.
-    Gauge,
-}
-
-impl Kind {
-    /// The kind's name in a TYPE line.
-    pub fn name(self) -> &'static str
-        ensures name { result.now ≡ kind_name self }
-        ensures fits { length result.now ≤ 7 }
-    {
-        match self {
-            Kind::Counter => "counter",
-            Kind::Gauge => "gauge",
-        }
-    }
-}
 
 /// Octets of a family's name, at most.
 pub const NAME_OCTETS: usize = 40;
@@ -42,6 +21,8 @@ pub enum Family {
     Build,
     /// How long the node has run.
     Uptime,
+    /// How long the longest turn of its loop took so far.
+    LongestTurn,
     /// How many user messages the node may keep.
     PoolLimit,
     /// How many user messages it keeps.
@@ -94,9 +75,10 @@ pub enum Family {
 
 impl Family {
     /// All families, in the order in which they are shown.
-    pub const ALL: [Family; 26] = [
+    pub const ALL: [Family; 27] = [
         Family::Build,
         Family::Uptime,
+        Family::LongestTurn,
         Family::PoolLimit,
         Family::Pool,
         Family::Held,
@@ -131,6 +113,7 @@ impl Family {
         match self {
             Family::Build => "stp_build_info",
             Family::Uptime => "stp_uptime_seconds",
+            Family::LongestTurn => "stp_longest_turn_seconds",
             Family::PoolLimit => "stp_pool_limit_messages",
             Family::Pool => "stp_pool_messages",
             Family::Held => "stp_held_messages",
@@ -166,6 +149,8 @@ impl Family {
         match self {
             Family::Build => "The version of the program; the value is always 1.",
             Family::Uptime => "Whole seconds since the start of the node.",
+            Family::LongestTurn =>
+                "How long the longest turn of the node's loop took; what comes meanwhile waits.",
             Family::PoolLimit => "User messages that the node may keep.",
             Family::Pool =>
                 "User messages that the node keeps: of links those that aren't confirmed, and those held.",
@@ -207,6 +192,7 @@ impl Family {
         match self {
             Family::Build
             | Family::Uptime
+            | Family::LongestTurn
             | Family::PoolLimit
             | Family::Pool
             | Family::Held
@@ -234,6 +220,43 @@ impl Family {
         }
     }
 
+    /// What is written behind each value of the family: nothing, or the exponent of one that is in smaller units than its
+    /// name says.
+    pub fn exponent(self) -> &'static str
+        ensures exponent { result.now ≡ exponent_of self }
+        ensures fits { length result.now ≤ 3 }
+    {
+        match self {
+            Family::LongestTurn => "e-6",
+            Family::Build
+            | Family::Uptime
+            | Family::PoolLimit
+            | Family::Pool
+            | Family::Held
+            | Family::Notices
+            | Family::Flags
+            | Family::Raised
+            | Family::Lost
+            | Family::Broken
+            | Family::Rerouted
+            | Family::InService
+            | Family::ChangingOver
+            | Family::Barred
+            | Family::Queue
+            | Family::FramesReceived
+            | Family::OctetsReceived
+            | Family::FramesSent
+            | Family::OctetsSent
+            | Family::Forwarded
+            | Family::Delivered
+            | Family::Refused
+            | Family::Failures
+            | Family::Retries
+            | Family::InitsRefused
+            | Family::TriesFailed => "",
+        }
+    }
+
     /// The metrics of the family, in the order in which they are shown.
     pub fn metrics(self) -> &'static [Metric]
         ensures { result.now ≡ metrics_of self }
@@ -241,6 +264,7 @@ impl Family {
         match self {
             Family::Build => &[Metric::Node(NodeMetric::Build)],
             Family::Uptime => &[Metric::Node(NodeMetric::Uptime)],
+            Family::LongestTurn => &[Metric::Node(NodeMetric::LongestTurn)],
             Family::PoolLimit => &[Metric::Node(NodeMetric::PoolLimit)],
             Family::Pool => &[Metric::Node(NodeMetric::Pool)],
             Family::Held => &[Metric::Node(NodeMetric::Held)],

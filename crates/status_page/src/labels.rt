@@ -29,6 +29,7 @@ pub(crate) fn node_labels(metric: NodeMetric) -> ArrayString<LABELS_OCTETS>
         NodeMetric::LateAny | NodeMetric::TimesLate => labels.push_str("{name=\"late_any\"}"),
         NodeMetric::Notices(kind) => labels.push_str(kind_labels(kind)),
         NodeMetric::Uptime
+        | NodeMetric::LongestTurn
         | NodeMetric::PoolLimit
         | NodeMetric::Pool
         | NodeMetric::Held

@@ -7,6 +7,7 @@ ghost use Rattle.status_page.specs.Measuring.{bit, held_users, is_changing_over,
 use crate::counted::counters_of;
 use crate::metric::{LinkMetric, NodeMetric};
 use crate::noticed::NoticeLog;
+use crate::times::Times;
 use cell_pool::UserMessages;
 use exchange::{Exchange, LinkStanding};
 use served_link::Counters;
@@ -16,18 +17,19 @@ use signalling_types::number::next;
 /// Milliseconds in a second.
 const SECOND_MS: u64 = 1_000;
 
-/// The value of a metric of the node, this many milliseconds after its start.
+/// The value of a metric of the node, at these times.
 pub(crate) fn node_value(
     metric: NodeMetric,
     exchange: &Exchange,
     notices: &NoticeLog,
-    uptime_ms: u64,
+    times: Times,
 ) -> u64
-    ensures { result ≡ node_value kept metric exchange.now notices.now uptime_ms }
+    ensures { result ≡ node_value kept metric exchange.now notices.now times }
 {
     match metric {
         NodeMetric::Build => 1,
-        NodeMetric::Uptime => uptime_ms / SECOND_MS,
+        NodeMetric::Uptime => times.uptime_ms / SECOND_MS,
+        NodeMetric::LongestTurn => times.longest_turn_us,
         NodeMetric::PoolLimit => exchange.settings().pool() as u64,
         NodeMetric::Pool => kept_messages(exchange),
         NodeMetric::Held => held_users(exchange),

@@ -19,6 +19,8 @@ pub enum NodeMetric {
     Build,
     /// Whole seconds since its start.
     Uptime,
+    /// How many microseconds the longest turn of its loop took so far.
+    LongestTurn,
     /// User messages that it may keep.
     PoolLimit,
     /// User messages that it keeps.

@@ -10,6 +10,7 @@ use crate::measuring::{link_value, node_value};
 use crate::metric::{LinkMetric, Metric};
 use crate::noticed::NoticeLog;
 use crate::sample::{put_head, put_sample};
+use crate::times::Times;
 use console::link_name;
 use exchange::Exchange;
 use http_server::Rope;
@@ -17,18 +18,18 @@ use served_link::Counters;
 use signalling_types::LinkId;
 use std::alloc::AllocError;
 
-/// Appends all metrics, this many milliseconds after the start of the node.
+/// Appends all metrics, at these times.
 pub(crate) fn put_metrics(
     exchange: &Exchange,
     counters: &Counters,
     notices: &NoticeLog,
-    uptime_ms: u64,
+    times: Times,
     body: &mut Rope,
 ) -> Result<(), AllocError>
     ensures { OnOk result (body.new.items
-        ≡ body.old.items ++ metrics_text kept exchange.now counters.now.links notices.now uptime_ms) }
+        ≡ body.old.items ++ metrics_text kept exchange.now counters.now.links notices.now times) }
 {
-    put_families(&Family::ALL, exchange, counters, notices, uptime_ms, body)
+    put_families(&Family::ALL, exchange, counters, notices, times, body)
 }
 
 /// Appends these families.
@@ -37,14 +38,14 @@ fn put_families(
     exchange: &Exchange,
     counters: &Counters,
     notices: &NoticeLog,
-    uptime_ms: u64,
+    times: Times,
     body: &mut Rope,
 ) -> Result<(), AllocError>
     ensures { OnOk result (body.new.items
-        ≡ body.old.items ++ families_text kept exchange.now counters.now.links notices.now uptime_ms families.now) }
+        ≡ body.old.items ++ families_text kept exchange.now counters.now.links notices.now times families.now) }
 {
     for family in families {
-        put_family(*family, exchange, counters, notices, uptime_ms, body)?;
+        put_family(*family, exchange, counters, notices, times, body)?;
     }
     Ok(())
 }
@@ -55,11 +56,11 @@ fn put_family(
     exchange: &Exchange,
     counters: &Counters,
     notices: &NoticeLog,
-    uptime_ms: u64,
+    times: Times,
     body: &mut Rope,
 ) -> Result<(), AllocError>
     ensures { OnOk result (body.new.items
-        ≡ body.old.items ++ family_text kept exchange.now counters.now.links notices.now uptime_ms family) }
+        ≡ body.old.items ++ family_text kept exchange.now counters.now.links notices.now times family) }
 {
     put_head(family, body)?;
     put_each(
@@ -68,7 +69,7 @@ fn put_family(
         exchange,
         counters,
         notices,
-        uptime_ms,
+        times,
         body,
     )
 }
@@ -80,14 +81,14 @@ fn put_each(
     exchange: &Exchange,
     counters: &Counters,
     notices: &NoticeLog,
-    uptime_ms: u64,
+    times: Times,
     body: &mut Rope,
 ) -> Result<(), AllocError>
     ensures { OnOk result (body.new.items ≡ body.old.items
-        ++ flat_map (metric_text kept exchange.now counters.now.links notices.now uptime_ms family) metrics.now) }
+        ++ flat_map (metric_text kept exchange.now counters.now.links notices.now times family) metrics.now) }
 {
     for metric in metrics {
-        put_metric(family, metric, exchange, counters, notices, uptime_ms, body)?;
+        put_metric(family, metric, exchange, counters, notices, times, body)?;
     }
     Ok(())
 }
@@ -100,17 +101,17 @@ fn put_metric(
     exchange: &Exchange,
     counters: &Counters,
     notices: &NoticeLog,
-    uptime_ms: u64,
+    times: Times,
     body: &mut Rope,
 ) -> Result<(), AllocError>
     ensures { OnOk result (body.new.items
-        ≡ body.old.items ++ metric_text kept exchange.now counters.now.links notices.now uptime_ms family metric.now) }
+        ≡ body.old.items ++ metric_text kept exchange.now counters.now.links notices.now times family metric.now) }
 {
     match metric {
         Metric::Node(metric) => put_sample(
             family,
             node_labels(*metric).as_str(),
-            node_value(*metric, exchange, notices, uptime_ms),
+            node_value(*metric, exchange, notices, times),
             body,
         ),
         Metric::Link(metric) => put_link_samples(family, *metric, exchange, counters, body),

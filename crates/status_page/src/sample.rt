@@ -15,7 +15,7 @@ use std::alloc::AllocError;
 const HEAD_OCTETS: usize = 256;
 
 /// Octets of the line of a sample, at most.
-const SAMPLE_OCTETS: usize = 144;
+const SAMPLE_OCTETS: usize = 148;
 
 /// Appends the HELP and the TYPE line of a family.
 pub(crate) fn put_head(family: Family, body: &mut Rope) -> Result<(), AllocError>
@@ -68,5 +68,6 @@ fn write_sample(family: Family, labels: &str, value: u64, out: &mut ArrayString<
     out.push_str(labels);
     out.push_str(" ");
     out.push_str(digits.format(value));
+    out.push_str(family.exponent());
     out.push_str("\n");
 }

@@ -13,6 +13,7 @@ use crate::link_state::{put_link, set_name};
 use crate::measuring::{held_users, kept_messages};
 use crate::members::{put_number, put_text};
 use crate::noticed::{NoticeKind, NoticeLog};
+use crate::times::Times;
 use arrayvec::ArrayString;
 use console::{LINE_OCTETS, show_notices};
 use exchange::{Exchange, RouteView};
@@ -23,20 +24,20 @@ use settings::{SetRow, Settings};
 use signalling_types::{LinkId, SetId};
 use std::alloc::{AllocError, Global};
 
-/// The state of a node, this many milliseconds after its start. The error means that memory ran out.
+/// The state of a node, at these times. The error means that memory ran out.
 pub(crate) fn state_text(
     alloc: Global,
     exchange: &Exchange,
     counters: &Counters,
     notices: &NoticeLog,
     points: PointFormat,
-    uptime_ms: u64,
+    times: Times,
 ) -> Result<Vec<u8>, AllocError>
     ensures { IfOk result (λ text. text.items
-        ≡ print (state_tokens kept points exchange.now counters.now.links notices.now uptime_ms)) }
+        ≡ print (state_tokens kept points exchange.now counters.now.links notices.now times)) }
 {
     let mut out = Writer::new(Vec::new(alloc));
-    put_state(exchange, counters, notices, points, uptime_ms, &mut out)?;
+    put_state(exchange, counters, notices, points, times, &mut out)?;
     Ok(out.into_inner())
 }
 
@@ -46,14 +47,14 @@ fn put_state(
     counters: &Counters,
     notices: &NoticeLog,
     points: PointFormat,
-    uptime_ms: u64,
+    times: Times,
     out: &mut Writer,
 ) -> Result<(), AllocError>
     ensures { Adds result out.old out.new
-        (state_tokens kept points exchange.now counters.now.links notices.now uptime_ms) }
+        (state_tokens kept points exchange.now counters.now.links notices.now times) }
 {
     out.begin_object()?;
-    put_members(exchange, counters, notices, points, uptime_ms, out)?;
+    put_members(exchange, counters, notices, points, times, out)?;
     out.end_object()
 }
 
@@ -63,13 +64,13 @@ fn put_members(
     counters: &Counters,
     notices: &NoticeLog,
     points: PointFormat,
-    uptime_ms: u64,
+    times: Times,
     out: &mut Writer,
 ) -> Result<(), AllocError>
     ensures { Adds result out.old out.new
-        (state_members kept points exchange.now counters.now.links notices.now uptime_ms) }
+        (state_members kept points exchange.now counters.now.links notices.now times) }
 {
-    put_node(exchange, points, uptime_ms, out)?;
+    put_node(exchange, points, times, out)?;
     put_sets(exchange, points, out)?;
     put_links(exchange, counters, out)?;
     put_routes(exchange, points, out)?;
@@ -81,22 +82,23 @@ fn put_members(
 fn put_node(
     exchange: &Exchange,
     points: PointFormat,
-    uptime_ms: u64,
+    times: Times,
     out: &mut Writer,
 ) -> Result<(), AllocError>
-    ensures { Adds result out.old out.new (node_members kept points exchange.now uptime_ms) }
+    ensures { Adds result out.old out.new (node_members kept points exchange.now times) }
 {
-    put_program(uptime_ms, out)?;
+    put_program(times, out)?;
     put_place(exchange.settings(), points, out)?;
     put_counts(exchange, out)
 }
 
-/// Appends the version and the time since the start.
-fn put_program(uptime_ms: u64, out: &mut Writer) -> Result<(), AllocError>
-    ensures { Adds result out.old out.new (program_members uptime_ms) }
+/// Appends the version, the time since the start, and the longest turn.
+fn put_program(times: Times, out: &mut Writer) -> Result<(), AllocError>
+    ensures { Adds result out.old out.new (program_members times) }
 {
     put_text(out, "version", VERSION)?;
-    put_number(out, "uptime_ms", uptime_ms)
+    put_number(out, "uptime_ms", times.uptime_ms)?;
+    put_number(out, "longest_turn_us", times.longest_turn_us)
 }
 
 /// Appends the node's own point, its network and its limit of user messages.

@@ -54,6 +54,7 @@ pub struct Server {
     events: Events,
     is_busy: bool,
     is_stopping: bool,
+    longest_turn: Duration,
 }
 
 // By hand, so that no proof above has what a server owns.
@@ -68,6 +69,7 @@ impl Drop for Server {
             events: _,
             is_busy: _,
             is_stopping: _,
+            longest_turn: _,
         } = self;
     }
 }
@@ -118,6 +120,11 @@ impl Server {
         drop(self);
     }
 
+    /// A turn took so long, with the tick behind it. The page shows the longest.
+    pub fn note_turn(&mut self, turn: Duration) {
+        self.longest_turn = self.longest_turn.max(turn);
+    }
+
     /// Does what there is to do on each socket, once or a few times, and returns. It hands in what came, takes, opens
     /// and closes connections as the links want, and takes frames and writes them while the sockets take them. Then
     /// what was captured goes out, as far as its file takes it.
@@ -139,7 +146,9 @@ impl Server {
             &mut log,
             user,
         );
-        let is_page_busy = self.page.show(self.alloc, registry, &self.node, now);
+        let is_page_busy = self
+            .page
+            .show(self.alloc, registry, &self.node, now, self.longest_turn);
         self.is_busy = round.is_busy || is_page_busy;
         self.is_stopping |= round.stops;
         self.node.observers.flush_capture(&mut log);

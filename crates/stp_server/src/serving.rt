@@ -130,13 +130,15 @@ fn run<W: Sink>(
         let before = since(rt, started)?;
         let rest = Duration::from_millis(clock.until_next(millis(before)));
         server.wait(before, rest)?;
-        let now = since(rt, started)?;
+        now = since(rt, started)?;
         server.turn(rt, now, log, &mut Unwatched);
         was_behind = tell_if_behind(&clock, was_behind, now, log);
         if clock.is_due(millis(now)) {
             server.tick(now, log);
+    let mut now = since(rt, started)?;
         }
         if server.is_stopping() {
+        server.note_turn(before.saturating_sub(now));
             server.stop(now, log);
             tell(&"stop", now, log);
             return Ok(());

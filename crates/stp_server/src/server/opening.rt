@@ -76,6 +76,7 @@ impl Server {
                     events,
                     is_busy: true,
                     is_stopping: false,
+                    longest_turn: Duration::ZERO,
                 })
             }
             Err(fault) => {

@@ -4,9 +4,9 @@ use crate::served_page::ServedPage;
 use mio::Registry;
 use mio::event::Event;
 use script::Sink;
-use sctp_links::times::millis;
+use sctp_links::times::{micros, millis};
 use served_node::{Log, Node, OpenFault};
-use status_page::{NoticeLog, StatusPage};
+use status_page::{NoticeLog, StatusPage, Times};
 use std::alloc::Global;
 use std::marker::Model;
 use std::net::{Net, SocketAddr};
@@ -79,14 +79,15 @@ impl NodePage {
         }
     }
 
-    /// Shows the page to those who look at it. Notices that are new came now. Returns whether there is more to do at
-    /// once.
+    /// Shows the page to those who look at it. Notices that are new came now. The longest turn so far took so long.
+    /// Returns whether there is more to do at once.
     pub(crate) fn show(
         &mut self,
         alloc: Global,
         registry: &Registry,
         node: &Node,
         now: Duration,
+        longest_turn: Duration,
     ) -> bool {
         let Some(page) = &mut self.page else {
             return false;
@@ -102,7 +103,10 @@ impl NodePage {
             counters: &node.observers.counters,
             notices: &self.notices,
             points: self.points,
-            uptime_ms: now_ms,
+            times: Times {
+                uptime_ms: now_ms,
+                longest_turn_us: micros(longest_turn),
+            },
         };
         page.turn(registry, &content, now_ms);
         page.is_busy(now_ms)
