@@ -22,8 +22,11 @@ use std::time::Duration;
 /// Octets of a datagram, at most.
 const DATAGRAM_OCTETS: usize = 65_535;
 
-/// Datagrams that are received in one round, at most.
-const DATAGRAMS: usize = 64;
+/// Once so many octets were received in a round, no further datagram is: one read of a link over TCP brings as many.
+const ROUND_OCTETS: usize = 65_536;
+
+/// Datagrams that are received in one round, at most. Short ones take time, too.
+const DATAGRAMS: usize = 512;
 
 /// The links of a node over SCTP, and the one socket through which their datagrams come and go.
 #[derive(Drop)]
@@ -104,9 +107,14 @@ impl SctpSockets {
     /// Receives datagrams, and hands them in. After each of them what is new in the node is told; a failure whose
     /// notice was dropped for later ones is counted as one by a changeover.
     pub fn read<W: Sink, U: Watch>(&mut self, node: &mut Node, log: &mut Log<'_, W>, user: &mut U) {
+        let mut received: usize = 0;
         for _ in 0..DATAGRAMS {
+            if received >= ROUND_OCTETS {
+                return;
+            }
             match self.socket.receive(&mut self.buffer) {
                 Received::Datagram(count, source) => {
+                    received = received.saturating_add(count);
                     let octets = &self.buffer[..count];
                     self.links
                         .hear(octets, source, node, &mut self.socket, log, user);

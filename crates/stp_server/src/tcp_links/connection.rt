@@ -11,10 +11,6 @@ use served_node::{FrameObserver, Log, Node, Progress, read_some, write_some};
 use settings::{FailureReason, LinkId};
 use std::net::SocketAddr;
 
-/// Octets that are handed in before it is asked whether there are new notices: they are no more frames than notices are
-/// kept.
-const LOOK_OCTETS: usize = 1024;
-
 /// The connection of a link, from the moment it begins to be made.
 #[derive(Drop)]
 pub(crate) struct Connection {
@@ -156,7 +152,8 @@ impl Connection {
         is_up
     }
 
-    /// Hands in octets, and looks at the notices now and then.
+    /// Hands in octets, and looks at the notices once: however many a peer causes, one read tells of no more than are
+    /// kept.
     fn hand_in<W: Sink, U: Watch>(
         &mut self,
         octets: &[u8],
@@ -166,20 +163,18 @@ impl Connection {
     ) -> Transfer
         requires { self.old.association.is_up ≡ true }
     {
-        for part in octets.chunks(LOOK_OCTETS) {
-            let read = self.hand_in_part(part, node, user);
-            node.look(FailureReason::Changeover, log);
-            if let Err(Broken) = read {
-                return Transfer::Over(CloseReason::Framing);
-            }
+        let read = self.hand_in_octets(octets, node, user);
+        node.look(FailureReason::Changeover, log);
+        match read {
+            Ok(()) => Transfer::Some,
+            Err(Broken) => Transfer::Over(CloseReason::Framing),
         }
-        Transfer::Some
     }
 
     /// Hands in octets.
-    fn hand_in_part<U: Watch>(
+    fn hand_in_octets<U: Watch>(
         &mut self,
-        part: &[u8],
+        octets: &[u8],
         node: &mut Node,
         user: &mut U,
     ) -> Result<(), Broken>
@@ -191,7 +186,7 @@ impl Connection {
             user,
         };
         self.association
-            .read(&mut node.exchange, part, &mut observer)
+            .read(&mut node.exchange, octets, &mut observer)
     }
 
     /// Takes frames while there is room for them, and makes one write. Nothing is taken before the association is up,

@@ -15,11 +15,8 @@ use settings_file::serve::Endpoint;
 use std::net::{Net, SocketAddr};
 use std::time::Duration;
 
-/// Reads of a link in one round, at most.
-const READS: usize = 16;
-
-/// Writes of a link in one round, at most. The reads of another link bring fewer octets, so what goes on from one link
-/// to another doesn't pile up while the socket takes it.
+/// Writes of a link in one round, at most. The reads of the other links bring no more octets, so what goes on from them
+/// to one link doesn't pile up while its socket takes it.
 const WRITES: usize = 64;
 
 /// Connections that are taken in one round, at most.
@@ -190,8 +187,8 @@ impl LinkSocket {
         self.next_try = now.saturating_add(Duration::from_secs(seconds));
     }
 
-    /// Reads what came, each time to the front of the buffer, and hands it in. If something came, the next wait for a
-    /// try is the first one again.
+    /// Makes one read, to the front of the buffer, and hands in what came. So each link has as many octets of a round as
+    /// the buffer has, and none holds up the others. If something came, the next wait for a try is the first one again.
     pub(crate) fn read<W: Sink, U: Watch>(
         &mut self,
         buffer: &mut [u8],
@@ -199,15 +196,13 @@ impl LinkSocket {
         log: &mut Log<'_, W>,
         user: &mut U,
     ) {
-        for _ in 0..READS {
-            let Some(connection) = &mut self.connection else {
-                return;
-            };
-            match connection.read(buffer, node, log, user) {
-                Transfer::Some => self.retry.start_again(),
-                Transfer::None => return,
-                Transfer::Over(why) => self.end(why, node, log),
-            }
+        let Some(connection) = &mut self.connection else {
+            return;
+        };
+        match connection.read(buffer, node, log, user) {
+            Transfer::Some => self.retry.start_again(),
+            Transfer::None => {}
+            Transfer::Over(why) => self.end(why, node, log),
         }
     }
 

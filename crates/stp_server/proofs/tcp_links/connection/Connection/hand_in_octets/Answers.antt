@@ -1,6 +1,6 @@
 use Rattle.std.proofs.Common.{sym}
 use Rattle.served_node.proofs.Sights.{kept}
-use Rattle.stp_server.proofs.tcp_links.connection.Connection.hand_in_part.Goals as goal
+use Rattle.stp_server.proofs.tcp_links.connection.Connection.hand_in_octets.Goals as goal
 
 pub shape_of-node : goal.shape_of-node
 shape_of-node g c =
