@@ -5,8 +5,10 @@ import fcntl
 import os
 import re
 import signal
+import socket
+import time
 
-from harness import NodeTest, run, wait_until
+from harness import HOST, NodeTest, run, wait_until
 from traffic import Pair
 
 MESSAGES = 200
@@ -14,8 +16,8 @@ MESSAGES = 200
 # The longest message, and how many may be unconfirmed on a link: more octets than a socket takes.
 LONGEST_OCTETS, MANY, BURST = 272, 16_000, 1000
 
-# The octets of the smallest pipe, and callers whose lines in the log are more.
-PIPE_OCTETS, CALLERS = 4096, 200
+# The octets of the smallest pipe, and how long lines come of which more than these wait.
+PIPE_OCTETS, SECONDS = 4096, 5.0
 
 
 class FullSocket(NodeTest):
@@ -41,31 +43,42 @@ class FullSocket(NodeTest):
 
 class SlowReaders(NodeTest):
     def test_a_log_that_nobody_reads(self) -> None:
-        """The node goes on; lines that the pipe doesn't take are dropped, and counted once it takes others."""
+        """The node goes on. Lines that the pipe doesn't take wait, and come whole and in order; further ones of their kind
+        in a second are dropped, and counted."""
         reader, writer = os.pipe()
         fcntl.fcntl(writer, fcntl.F_SETPIPE_SZ, PIPE_OCTETS)
         pair = Pair(self, near_streams={"stdout": writer, "stderr": writer})
         os.close(writer)
         with open(reader, "rb", buffering=0) as log:
-            for _ in range(CALLERS):
-                pair.near.call().close()
-                self.assertEqual(len(pair.near.ask("show links")), 3)
+            end = time.monotonic() + SECONDS
+            while time.monotonic() < end:
+                self.log_lines(pair)
             pair.exchange(MESSAGES)
             os.set_blocking(reader, False)
             text = b""
 
-            def is_missed() -> bool:
+            def is_told() -> bool:
                 nonlocal text
-                pair.near.call().close()
-                pair.near.ask("show links")
+                self.log_lines(pair)
                 with contextlib.suppress(BlockingIOError):
                     text += log.read(1 << 16) or b""
-                return re.search(rb"^\d+\.\d+ missed \d+ lines$", text, re.MULTILINE) is not None
+                return len(text) > 2 * PIPE_OCTETS and re.search(rb" missed \d+ lines\n", text) is not None
 
-            wait_until(is_missed, "the log tells how many lines were missed")
-            for line in text.splitlines():
+            wait_until(is_told, "the log has the lines that waited, and tells how many were missed")
+            times = []
+            for line in text.splitlines()[:-1]:
                 self.assertRegex(line, rb"^\d+\.\d{3} [a-z]+")
+                times.append(float(line.split()[0]))
+            self.assertEqual(times, sorted(times))
         pair.exchange(MESSAGES)
+
+    @staticmethod
+    def log_lines(pair: Pair) -> None:
+        """Somebody connects where each link listens, and at the console: a line of each link, and two of the console."""
+        for port in pair.ports:
+            socket.create_connection((HOST, port)).close()
+        pair.near.call().close()
+        assert len(pair.near.ask("show links")) == len(pair.names)
 
 
 class FailingStreams(NodeTest):

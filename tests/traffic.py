@@ -78,6 +78,7 @@ class Pair:
                  near_page: int | None = None, near_page_open: bool = False, **more: Any) -> None:
         ports = [free_port() for _ in range(links)]
         self.names = [f"e{number}" for number in range(links)]
+        self.ports = ports
         near_more = more if near_capture is None else {**more, "capture": near_capture}
         near_more = {**near_more, "page": near_page, "page_open": near_page_open}
         self.near = test.node(NEAR, [*links_between(ports, FAR, True), *beside], **near_more)

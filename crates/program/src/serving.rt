@@ -16,8 +16,13 @@ use served_node::OneLine;
 use settings::Settings;
 use settings_file::serve::{ConsolePlace, ServeSettings, read_server};
 use std::alloc::{AllocError, Global};
-use stp_server::{CaptureFault, OpenFault, ServeFailure};
+use stp_server::{CaptureFault, LogFault, OpenFault, ServeFailure};
 use toml::Table;
+
+/// Why no log goes to a terminal that this program can't open by itself.
+const SLOW_TERMINAL: &str =
+    "standard output: this terminal can't be opened anew, so its user could hold the node up; \
+    have the log go to a file, or through a pipe (stp serve FILE | cat)\n";
 
 /// Serves a node with the settings of a file until it is stopped. Faults are found in this order: the file, the
 /// settings of the node, those of the server, memory, and what it opens.
@@ -100,6 +105,7 @@ fn tell_failure<W: Sink, E: Sink>(
     errors: &mut E,
 ) -> Status {
     if let ServeFailure::Open(OpenFault::NoMemory)
+    | ServeFailure::Log(LogFault::NoMemory)
     | ServeFailure::Capture(CaptureFault::NoMemory) = failure
     {
         return tell_no_memory(writer);
@@ -117,6 +123,7 @@ fn failure_sentence(
     match failure {
         ServeFailure::Open(fault) => open_sentence(alloc, fault, serve),
         ServeFailure::System => String::from_str(alloc, NO_POLL),
+        ServeFailure::Log(_) => String::from_str(alloc, SLOW_TERMINAL),
         ServeFailure::Capture(fault) => {
             let (file, why) = (
                 OneLine(serve.capture().unwrap_or("")),

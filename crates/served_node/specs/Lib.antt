@@ -3,6 +3,7 @@ pub mod Clients
 pub mod Counters
 pub mod Captured
 pub mod Lines
+pub mod LineLimits
 pub mod Listening
 pub mod Logging
 pub mod Naming

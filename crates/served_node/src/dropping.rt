@@ -1,52 +1,145 @@
-//! A log that holds nobody up: lines that aren't taken at once are dropped, and counted.
+//! A log that holds nobody up: lines for which there is no room are dropped, and counted.
 
-use crate::readiness::{Readiness, is_ready};
+use crate::line_kind::{kind_of, time_of};
+use crate::line_limits::LineLimits;
+use crate::log_output::{LogOutput, SlowTerminal};
+use crate::socket::Progress;
 use arrayvec::ArrayString;
 use script::{Sink, WriteFailed};
-use std::alloc::Global;
+use std::alloc::AllocError;
 use std::fmt::Write;
-use std::net::Net;
-use std::os::fd::RawFd;
+use std::time::Duration;
 
-/// The descriptor of standard output.
-const STANDARD_OUTPUT: RawFd = 1;
+/// Octets of lines that wait to be written, at most.
+const WAITING_OCTETS: usize = 65_536;
+
+/// Writes in which the last lines go out, at most.
+const LAST_WRITES: usize = 32;
 
 /// Octets of the line that tells how many were missed, at most.
 const LINE_OCTETS: usize = 64;
 
-/// A log over standard output. A line that it doesn't take at once, since its reader is slow, is dropped, and so is one
-/// whose write fails. The next line that is taken follows one that says how many were missed.
-#[derive(Drop)]
+/// What ends a line.
+const LINE_FEED: u8 = b'\n';
+
+/// Why a log can't be opened.
+#[derive(Clone, Copy, Debug, PartialEq, Eq)]
+pub enum LogFault {
+    /// It would go to a terminal that can't be opened anew.
+    Terminal,
+    /// Memory ran out.
+    NoMemory,
+}
+
+impl From<AllocError> for LogFault {
+    fn from(_error: AllocError) -> LogFault {
+        LogFault::NoMemory
+    }
+}
+
+impl From<SlowTerminal> for LogFault {
+    fn from(_terminal: SlowTerminal) -> LogFault {
+        LogFault::Terminal
+    }
+}
+
+/// A log over standard output. Its lines wait until the next flush, which makes one write of them. A line is dropped if
+/// too many wait, since the reader is slow, if the second has had enough lines of its kind, or if its write fails. The
+/// next line that is taken follows one that says how many were missed.
 pub struct DroppingLog<'a, W> {
-    sink: &'a mut W,
-    readiness: Option<Readiness>,
+    output: LogOutput<'a, W>,
+    waiting: Vec<u8>,
+    limits: LineLimits,
+    second: u64,
     missed: u64,
 }
 
+// By hand, so that no proof above has what the log owns.
+impl<W> Drop for DroppingLog<'_, W> {
+    fn drop(self) {
+        let DroppingLog {
+            output: _,
+            waiting: _,
+            limits: _,
+            second: _,
+            missed: _,
+        } = self;
+    }
+}
+
 impl<'a, W: Sink> DroppingLog<'a, W> {
-    /// The log over this sink, which writes to standard output. Nothing was dropped yet.
-    pub fn new<N: Net>(net: &N, alloc: Global, sink: &'a mut W) -> DroppingLog<'a, W> {
-        DroppingLog {
-            sink,
-            readiness: Readiness::of(net, alloc, STANDARD_OUTPUT),
+    /// The log over standard output, to which this sink writes. Nothing waits yet, and nothing was dropped.
+    pub fn open(rt: &HostRuntime, sink: &'a mut W) -> Result<DroppingLog<'a, W>, LogFault> {
+        let waiting = Vec::with_capacity(rt.alloc(), WAITING_OCTETS)?;
+        let output = LogOutput::of(rt, sink)?;
+        Ok(DroppingLog {
+            output,
+            waiting,
+            limits: LineLimits::new(),
+            second: 0,
             missed: 0,
+        })
+    }
+
+    /// Makes one write of the lines that wait, as far as they are taken at once. It is `now` since the start, and each
+    /// second may have as many lines as the one before.
+    pub fn flush(&mut self, now: Duration) {
+        if now.as_secs() != self.second {
+            self.second = now.as_secs();
+            self.limits.begin_second();
+        }
+        self.write_waiting();
+    }
+
+    /// Writes the last lines, as far as they are taken at once.
+    pub fn finish(&mut self) {
+        for _ in 0..LAST_WRITES {
+            self.write_waiting();
         }
     }
 
-    /// Writes a line. False if it isn't taken at once, or the write fails.
-    fn put(&mut self, line: &[u8]) -> bool {
-        is_ready(&mut self.readiness) && self.sink.write(line).is_ok()
+    /// Makes one write of the lines that wait, if some do. If it fails, they are missed.
+    fn write_waiting(&mut self) {
+        if self.waiting.is_empty() {
+            return;
+        }
+        match self.output.write(self.waiting.as_slice()) {
+            Progress::Octets(count) => self.let_go(count),
+            Progress::Later | Progress::Again => {}
+            Progress::End | Progress::Failed => {
+                let missed = lines_in(self.waiting.as_slice());
+                self.missed = self.missed.saturating_add(missed);
+                self.waiting.clear();
+            }
+        }
     }
 
-    /// Tells how many lines were missed, with the time of a further line.
-    fn tell_missed(&mut self, further: &[u8]) {
+    /// The first so many octets no longer wait.
+    fn let_go(&mut self, count: usize) {
+        let count = count.min(self.waiting.len());
+        self.waiting.drain(..count);
+    }
+
+    /// A line waits from now on. False if there is no room for it.
+    fn hold(&mut self, line: &[u8]) -> bool {
+        let octets = self.waiting.len().saturating_add(line.len());
+        octets <= WAITING_OCTETS && self.waiting.extend_from_slice(line).is_ok()
+    }
+
+    /// Tells how many lines were missed, with the time of a further line, if some were. False if there is no room.
+    fn tell_missed(&mut self, further: &[u8]) -> bool {
+        if self.missed == 0 {
+            return true;
+        }
         let missed = self.missed;
         let time = str::from_utf8(time_of(further)).unwrap_or("");
         let mut line = ArrayString::<LINE_OCTETS>::new();
         let _fits = writeln!(line, "{time} missed {missed} lines");
-        if self.put(line.as_bytes()) {
+        let is_held = self.hold(line.as_bytes());
+        if is_held {
             self.missed = 0;
         }
+        is_held
     }
 }
 
@@ -57,22 +150,23 @@ impl<W: Sink> Sink for DroppingLog<'_, W> {
     ghost output = { λ _. record { written = None; failures = 0 } };
 
     fn write(&mut self, octets: &[u8]) -> Result<(), WriteFailed> {
-        if self.missed > 0 {
-            self.tell_missed(octets);
-        }
-        if self.missed > 0 || !self.put(octets) {
+        let is_told = self.limits.admits(kind_of(octets))
+            && self.tell_missed(octets)
+            && self.hold(octets);
+        if !is_told {
             self.missed = self.missed.saturating_add(1);
         }
         Ok(())
     }
 }
 
-/// The time at the beginning of a line.
-fn time_of(line: &[u8]) -> &[u8] {
-    for (k, octet) in line.iter().enumerate() {
-        if *octet == b' ' {
-            return &line[..k];
+/// How many lines end in these octets.
+fn lines_in(octets: &[u8]) -> u64 {
+    let mut lines: u64 = 0;
+    for octet in octets {
+        if *octet == LINE_FEED {
+            lines = lines.saturating_add(1);
         }
     }
-    line
+    lines
 }

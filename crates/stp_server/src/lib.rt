@@ -9,7 +9,7 @@ mod serving;
 pub mod tcp_links;
 
 pub use failure::ServeFailure;
-pub use served_node::{CaptureFault, FileCapture, OpenFault};
+pub use served_node::{CaptureFault, FileCapture, LogFault, OpenFault};
 pub use served_page::ServedPage;
 pub use server::{Places, Server};
 pub use serving::serve;

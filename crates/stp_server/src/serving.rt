@@ -15,7 +15,7 @@ use std::time::{Duration, Instant, SystemTime};
 use trace::{Capture, UntilFailure};
 
 /// Serves a node with these settings, which are those of this file, until a client stops it. The log writes to standard
-/// output; lines that it doesn't take at once are dropped.
+/// output; lines for which it has no room are dropped.
 pub fn serve<W: Sink>(
     rt: &HostRuntime,
     settings: Settings,
@@ -23,8 +23,17 @@ pub fn serve<W: Sink>(
     file: &str,
     log: &mut W,
 ) -> Result<(), ServeFailure> {
-    let mut log = DroppingLog::new(rt, rt.alloc(), log);
-    serve_logged(rt, settings, serve, file, &mut log)
+    match DroppingLog::open(rt, log) {
+        Ok(mut log) => {
+            let served = serve_logged(rt, settings, serve, file, &mut log);
+            log.finish();
+            served
+        }
+        Err(fault) => {
+            drop(settings);
+            Err(ServeFailure::Log(fault))
+        }
+    }
 }
 
 /// Serves a node with these settings of a file, with this log.
@@ -33,7 +42,7 @@ fn serve_logged<W: Sink>(
     settings: Settings,
     serve: &ServeSettings,
     file: &str,
-    log: &mut W,
+    log: &mut DroppingLog<'_, W>,
 ) -> Result<(), ServeFailure> {
     let (links, tick_ms) = (settings.link_count(), serve.tick_ms());
     tell(
@@ -72,7 +81,7 @@ fn serve_opened<W: Sink>(
     server: &mut Server,
     serve: &ServeSettings,
     file: &str,
-    log: &mut W,
+    log: &mut DroppingLog<'_, W>,
 ) -> Result<(), ServeFailure> {
     if let Some(place) = capture_place(serve, file) {
         server.capture_to(capture(rt, place)?);
@@ -114,20 +123,22 @@ fn capture(rt: &HostRuntime, place: CapturePlace<'_>) -> Result<FileCapture, Ser
 }
 
 /// Makes round after round. What came is handed in before a tick that is due passes: after a pause, the confirmations
-/// that came meanwhile stop their timers first.
+/// that came meanwhile stop their timers first. The log is written once a round.
 fn run<W: Sink>(
     rt: &HostRuntime,
     server: &mut Server,
     tick_ms: u16,
     started: Instant,
-    log: &mut W,
+    log: &mut DroppingLog<'_, W>,
 ) -> Result<(), ServeFailure>
     requires { 1 ≤ tick_ms }
 {
     let mut clock = TickClock::new(tick_ms);
     let mut was_behind = false;
+    let mut now = since(rt, started)?;
     for _ in 0..u64::MAX {
         let before = since(rt, started)?;
+        server.note_turn(before.saturating_sub(now));
         let rest = Duration::from_millis(clock.until_next(millis(before)));
         server.wait(before, rest)?;
         now = since(rt, started)?;
@@ -135,12 +146,13 @@ fn run<W: Sink>(
         was_behind = tell_if_behind(&clock, was_behind, now, log);
         if clock.is_due(millis(now)) {
             server.tick(now, log);
-    let mut now = since(rt, started)?;
         }
+        log.flush(now);
         if server.is_stopping() {
-        server.note_turn(before.saturating_sub(now));
             server.stop(now, log);
             tell(&"stop", now, log);
+            // The log is whole before its clients see the end.
+            log.finish();
             return Ok(());
         }
     }

@@ -1,0 +1,55 @@
+//! Which lines of a log are of one kind: those that begin with the same words behind their time.
+
+ghost use Rattle.std.specs.Prelude.{◌<◌};
+
+use crate::line_limits::KINDS;
+
+/// The first value and the factor of the hash FNV-1a in 32 bits.
+const OFFSET_BASIS: u32 = 0x811c_9dc5;
+
+const PRIME: u32 = 0x0100_0193;
+
+/// The number of a line's kind. Few kinds share one.
+pub(crate) fn kind_of(line: &[u8]) -> usize
+    ensures { result < KINDS }
+{
+    let mut hash = OFFSET_BASIS;
+    for octet in kind_words(without_time(line)) {
+        hash = (hash ^ u32::from(*octet)).wrapping_mul(PRIME);
+    }
+    hash as usize % KINDS
+}
+
+/// The time at the beginning of a line.
+pub(crate) fn time_of(line: &[u8]) -> &[u8] {
+    words(line, 1)
+}
+
+/// What is behind the time.
+fn without_time(line: &[u8]) -> &[u8] {
+    let time = time_of(line).len();
+    line.get(time.saturating_add(1)..).unwrap_or(&[])
+}
+
+/// The words that tell the kind: the first and the link, if there is one; of a notice also what it tells of, and why.
+fn kind_words(text: &[u8]) -> &[u8] {
+    match words(text, 1) {
+        b"notice" => words(text, 5),
+        b"caller" | b"missed" => words(text, 1),
+        _ => words(text, 2),
+    }
+}
+
+/// The first so many words of a text.
+fn words(text: &[u8], count: usize) -> &[u8] {
+    let mut blanks: usize = 0;
+    for (k, octet) in text.iter().enumerate() {
+        if *octet == b' ' {
+            blanks = blanks.saturating_add(1);
+            if blanks == count {
+                return &text[..k];
+            }
+        }
+    }
+    text
+}
