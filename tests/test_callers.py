@@ -97,11 +97,13 @@ class Callers(NodeTest):
 
     def test_a_web_page_that_posts(self) -> None:
         """The first line of a request is none of a caller's, so the connection is closed, and the lines behind it do
-        nothing. A caller may write a malformed line later on."""
-        page, caller = self.near.call(), self.near.call()
-        page.write(POST + "deactivate e1\nstop\n")
-        page.sees_end()
-        self.near.await_log("caller .* gone$")
+        nothing, also with empty lines and remarks in front. A caller may write a malformed line later on."""
+        caller = self.near.call()
+        for front in ("", "\n", "\r\n# nothing\n\n"):
+            page = self.near.call()
+            page.write(front + POST + "deactivate e1\nstop\n")
+            page.sees_end()
+        self.near.await_log("caller .* gone$", 3)
         self.assertEqual(caller.ask("show routes"), [ROUTE])
         caller.write(POST.splitlines(keepends=True)[0])
         self.assertEqual(caller.read_line(), MALFORMED)

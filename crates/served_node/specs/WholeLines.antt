@@ -68,11 +68,12 @@ IsRefused is_first Stops old new = ⊥
 
 -- What a line does to the node, to what is captured and to its client, and what becomes of the client. Only a line of
 -- a script changes the node, only an order about the capture what is captured, and only `stop` asks the node to stop.
+-- A line that does nothing isn't the client's first one: if none was before it, the next one is.
 abbrev pub DoesHeard :
     Heard → (is_first : Bool) → NodeCounters → (captured captured_after : Captured) → Ending → (s after : Kept)
     → (old new : ClientState) → Type 0
 DoesHeard HearsNothing is_first counters captured captured_after ending s after old new =
-    (ending ≡ Stays) × (after ≡ s) × (captured_after ≡ captured) × (new ≡ old)
+    (ending ≡ Stays) × (after ≡ s) × (captured_after ≡ captured) × (new ≡ record old { is_first = is_first })
 DoesHeard (HearsScript asked) is_first counters captured captured_after ending s after old new =
     IsDone asked ending s after old.outbox new.outbox × (captured_after ≡ captured) × OnlyOutboxChanges old new
 DoesHeard HearsCounters is_first counters captured captured_after ending s after old new =
@@ -101,7 +102,7 @@ abbrev pub DoesLineAt : PointFormat → (is_first : Bool) → List ℕ → NodeC
 DoesLineAt points is_first line counters captured captured_after ending s after old new =
     DoesHeard (heard points line) is_first counters captured captured_after ending s after old new
 
--- what a line of a client does. No line after it is the client's first
+-- what a line of a client does. No line after it is the client's first, unless it did nothing
 abbrev pub DoesLine : PointFormat → List ℕ → NodeCounters → (captured captured_after : Captured) → Ending
     → (s after : Kept) → (old new : ClientState) → Type 0
 DoesLine points line counters captured captured_after ending s after old new =

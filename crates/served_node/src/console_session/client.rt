@@ -55,6 +55,7 @@ pub enum Ending {
     /// Its connection stays open.
     Stays,
     /// Its connection must be closed: a line was too long or its first line malformed, or what it is told had no room.
+    /// Empty lines and remarks do nothing, so none of them is its first line.
     Closes,
     /// It asked the node to stop.
     Stops,
@@ -174,6 +175,7 @@ impl ConsoleClient {
     }
 
     /// Does a whole line, the client's first one or a later one. The error means that there is no room for its answer.
+    /// Behind an empty line or a remark the next one is still the first.
     fn do_line(
         &mut self,
         line: &[u8],
@@ -187,7 +189,7 @@ impl ConsoleClient {
             (ending_of result) context.old.exchange.now context.new.exchange.now self.old self.new }
     {
         match parse_console_line(line, context.points) {
-            Ok(ConsoleLine::Skipped) => {}
+            Ok(ConsoleLine::Skipped) => self.is_first = is_first,
             Ok(ConsoleLine::Script(line)) => self.do_script(line, context)?,
             Ok(ConsoleLine::Counters) => {
                 print_counters(context.exchange, context.counters, &mut self.outbox)?;
