@@ -14,6 +14,7 @@ LINE_OCTETS = 8300
 QUESTIONS = 6000
 HELP_LINES = 25
 ROUTE = f"route {FAR} to-{FAR} allowed"
+FLAGS = ["flag lost_any 0", "flag late_any 0"]
 
 # What a web page may have a browser write to any port, without the body.
 POST = "POST / HTTP/1.1\r\nHost: localhost\r\n\r\n"
@@ -76,15 +77,17 @@ class Callers(NodeTest):
         self.pair.exchange(MESSAGES)
 
     def test_one_too_many(self) -> None:
-        callers = [*self.near.callers, *(self.near.call() for _ in range(MOST_CALLERS - len(self.near.callers)))]
-        last = self.near.call()
-        self.assertEqual(last.read_line(), "no place: 16 callers are connected")
-        self.assertTrue(last.sees_end())
-        for caller in callers:
-            self.assertEqual(caller.ask("show routes"), [ROUTE])
-        callers[-1].close()
-        self.near.await_log("caller .* gone$")
+        """It takes the place of the one that was idle longest, but for those that asked for news."""
+        watcher, idle = self.near.call(), self.near.call()
+        self.assertEqual(watcher.ask("watch"), ["handled"])
+        others = [*(it for it in self.near.callers if it not in (watcher, idle)),
+                  *(self.near.call() for _ in range(MOST_CALLERS - len(self.near.callers)))]
+        for caller in others:
+            self.assertEqual(caller.ask("show flags"), FLAGS)
         self.assertEqual(self.near.call().ask("show routes"), [ROUTE])
+        self.assertTrue(idle.sees_end())
+        for caller in (watcher, *others):
+            self.assertEqual(caller.ask("show routes"), [ROUTE])
 
     def test_the_longest_line(self) -> None:
         first, second = self.near.call(), self.near.call()

@@ -304,19 +304,13 @@ class Page(PageTest):
         wait_until(lambda: is_cut(deaf.socket), "the client is cut off")
 
     def test_one_too_many(self) -> None:
-        clients = [self.client() for _ in range(PLACES)]
+        """It takes the place of the one that was idle longest."""
         start = time.monotonic()
-        last = self.client()
-        self.assertEqual(last.read_rest(), b"")
-        self.assertLess(time.monotonic() - start, REQUEST_SECONDS, "it is closed before the others' time is over")
+        clients = [self.client() for _ in range(PLACES)]
+        self.assertEqual(self.status("/state.json"), 200)
+        self.assertEqual(clients[0].read_rest(), b"")
+        self.assertLess(time.monotonic() - start, REQUEST_SECONDS, "it is closed before its time is over")
         self.pair.exchange(MESSAGES)
-        clients[-1].close()
-        wait_until(self.is_answered, "a place is free")
-
-    def is_answered(self) -> bool:
-        with contextlib.suppress(OSError):
-            return self.status("/state.json") == 200
-        return False
 
     def test_a_silent_client(self) -> None:
         client = self.client()

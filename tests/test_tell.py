@@ -199,12 +199,12 @@ class Tell(LoneTest):
                 os.unlink(str(node.console))
                 yield teller
 
-    def test_no_place(self) -> None:
+    def test_all_places_are_taken(self) -> None:
         node = self.at_a_socket()
         node.start()
         for _ in range(MOST_CALLERS - len(node.callers)):
             node.call()
-        self.assertEqual(self.told(node, "show", "flags"), (REFUSED, "no place: 16 callers are connected\n"))
+        self.assertEqual(self.told(node, "show", "flags"), (0, FLAGS))
 
     def test_arguments_and_settings(self) -> None:
         """Of the settings only the console is looked at."""

@@ -19,6 +19,9 @@ const WRITES: usize = 16;
 /// While more octets than this wait for a client, none of its further lines is done.
 const LOW_OCTETS: usize = 65_536;
 
+/// What a client that asked for news has more of a claim to its place, in turns.
+const NEWS_CLAIM: u64 = 1 << 62;
+
 /// A client and its connection.
 #[derive(Drop)]
 pub(crate) struct ClientSocket {
@@ -32,13 +35,22 @@ pub(crate) struct ClientSocket {
     can_read: bool,
     can_write: bool,
     has_ended: bool,
+    /// Whether octets came from it, or went to it, in this turn.
+    has_moved: bool,
+    /// The number of the last turn in which some did, or in which it came.
+    active_turn: u64,
     /// Whether its connection is over.
     pub(crate) is_closing: bool,
 }
 
 impl ClientSocket {
-    /// A client that just came.
-    pub(crate) fn new(alloc: Global, stream: ConsoleStream, name: CallerName) -> ClientSocket {
+    /// A client that just came, in the turn of this number.
+    pub(crate) fn new(
+        alloc: Global,
+        stream: ConsoleStream,
+        name: CallerName,
+        turn: u64,
+    ) -> ClientSocket {
         ClientSocket {
             stream,
             name,
@@ -49,6 +61,8 @@ impl ClientSocket {
             can_read: true,
             can_write: true,
             has_ended: false,
+            has_moved: false,
+            active_turn: turn,
             is_closing: false,
         }
     }
@@ -125,6 +139,7 @@ impl ClientSocket {
             Progress::Octets(count) => {
                 self.start = 0;
                 self.end = count;
+                self.has_moved = true;
                 return true;
             }
             Progress::Later => self.can_read = false,
@@ -153,10 +168,34 @@ impl ClientSocket {
         }
     }
 
+    /// Notes whether octets moved in the turn of this number.
+    pub(crate) fn note_moves(&mut self, turn: u64) {
+        if self.has_moved {
+            self.has_moved = false;
+            self.active_turn = turn;
+        }
+    }
+
+    /// Its claim to its place: the client with the least makes way for another one.
+    pub(crate) fn claim(&self) -> u64 {
+        let client = &self.client;
+        let has_news = client.sees(News::Message)
+            || client.sees(News::Notice)
+            || client.sees(News::Frame);
+        if has_news {
+            self.active_turn.saturating_add(NEWS_CLAIM)
+        } else {
+            self.active_turn
+        }
+    }
+
     /// Makes one write.
     fn write_once(&mut self) {
         match self.stream.write(self.client.pending()) {
-            Progress::Octets(count) => self.client.written(count),
+            Progress::Octets(count) => {
+                self.client.written(count);
+                self.has_moved = true;
+            }
             Progress::Later => self.can_write = false,
             Progress::Again => {}
             Progress::End | Progress::Failed => {

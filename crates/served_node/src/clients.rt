@@ -6,15 +6,10 @@ use crate::console_session::{ConsoleContext, News};
 use crate::console_stream::ConsoleStream;
 use crate::log::Log;
 use crate::naming::SocketName;
-use arrayvec::ArrayString;
 use mio::Registry;
 use mio::event::Event;
 use script::Sink;
 use std::alloc::{AllocError, Global};
-use std::fmt::Write;
-
-/// Octets of the line for a client that finds no place, at most.
-const LINE_OCTETS: usize = 64;
 
 /// Clients at once, at most.
 const MOST_CLIENTS: usize = 16;
@@ -22,38 +17,10 @@ const MOST_CLIENTS: usize = 16;
 /// Clients that are taken in one round, at most.
 const ACCEPTS: usize = 16;
 
-/// Registers a client's socket with the poll, if there is a place for it. The log is told of the client, and the client
-/// if there is none. False if it has no place.
-fn is_seated<W: Sink>(
-    free: usize,
-    stream: &mut ConsoleStream,
-    name: CallerName,
-    registry: &Registry,
-    log: &mut Log<'_, W>,
-) -> bool {
-    if free >= MOST_CLIENTS {
-        tell_no_place(stream);
-        log.tell(&format_args!("caller {name} no place"));
-        return false;
-    }
-    let token = SocketName::Client(free as u8).token();
-    let is_registered = stream.register(registry, token).is_ok();
-    if is_registered {
-        log.tell(&format_args!("caller {name}"));
-    }
-    is_registered
-}
-
-/// Tells a client that there is no place for it.
-fn tell_no_place(stream: &mut ConsoleStream) {
-    let mut line = ArrayString::<LINE_OCTETS>::new();
-    let _fits = writeln!(line, "no place: {MOST_CLIENTS} callers are connected");
-    let _told = stream.write(line.as_bytes());
-}
-
-/// Writes what waits for a client. True if its connection is over; the log is told of it.
-fn is_over<W: Sink>(socket: &mut ClientSocket, log: &mut Log<'_, W>) -> bool {
+/// Writes what waits for a client, in this turn. True if its connection is over; the log is told of it.
+fn is_over<W: Sink>(socket: &mut ClientSocket, turn: u64, log: &mut Log<'_, W>) -> bool {
     socket.write();
+    socket.note_moves(turn);
     if socket.is_closing {
         let name = socket.name;
         log.tell(&format_args!("caller {name} gone"));
@@ -73,6 +40,8 @@ pub struct ConsoleClients {
     pub listener: ConsoleListener,
     places: Vec<Option<ClientSocket>>,
     pub(crate) asked: Asked,
+    /// The number of this turn.
+    turn: u64,
 }
 
 /// Which news any client asked for, so that nobody must be asked for each frame.
@@ -103,6 +72,7 @@ impl ConsoleClients {
             listener: ConsoleListener::none(),
             places,
             asked: Asked::none(),
+            turn: 0,
         })
     }
 
@@ -113,8 +83,9 @@ impl ConsoleClients {
         }
     }
 
-    /// Takes the clients that came.
+    /// Takes the clients that came. A turn begins.
     pub fn accept<W: Sink>(&mut self, alloc: Global, registry: &Registry, log: &mut Log<'_, W>) {
+        self.turn = self.turn.saturating_add(1);
         for _ in 0..ACCEPTS {
             match self.listener.accept() {
                 Some((stream, name)) => self.seat(alloc, stream, name, registry, log),
@@ -123,7 +94,8 @@ impl ConsoleClients {
         }
     }
 
-    /// Gives a client a place, if there is one, and closes its connection otherwise.
+    /// Gives a client a place. If none is free, another one makes way. Its connection is closed if the poll doesn't take
+    /// it.
     fn seat<W: Sink>(
         &mut self,
         alloc: Global,
@@ -132,20 +104,56 @@ impl ConsoleClients {
         registry: &Registry,
         log: &mut Log<'_, W>,
     ) {
-        let free = self.free_place();
-        if is_seated(free, &mut stream, name, registry, log) {
-            self.put(free, ClientSocket::new(alloc, stream, name));
+        let place = self.place_for_one();
+        let Ok(number) = u8::try_from(place) else {
+            return;
+        };
+        self.make_way(place, log);
+        let token = SocketName::Client(number).token();
+        if stream.register(registry, token).is_ok() {
+            log.tell(&format_args!("caller {name}"));
+            let socket = ClientSocket::new(alloc, stream, name, self.turn);
+            self.put(place, socket);
         }
     }
 
-    /// The first free place; if there is none, the number of places.
-    fn free_place(&self) -> usize {
+    /// The first free place; if there is none, that of the client that makes way.
+    fn place_for_one(&self) -> usize {
         for (k, place) in self.places.iter().enumerate() {
             if place.is_none() {
                 return k;
             }
         }
-        MOST_CLIENTS
+        self.first_to_go()
+    }
+
+    /// The place of the client to or from which no octet went for the longest time; of one that asked for news only if
+    /// all did.
+    fn first_to_go(&self) -> usize {
+        let mut first = 0;
+        let mut least = u64::MAX;
+        for (k, place) in self.places.iter().enumerate() {
+            if let Some(socket) = place {
+                let claim = socket.claim();
+                if claim < least {
+                    least = claim;
+                    first = k;
+                }
+            }
+        }
+        first
+    }
+
+    /// The place is free from now on. The connection of the client in it, if there is one, is closed.
+    fn make_way<W: Sink>(&mut self, place: usize, log: &mut Log<'_, W>) {
+        let Some(place) = self.places.get_mut(place) else {
+            return;
+        };
+        if let Some(socket) = place {
+            let name = socket.name;
+            log.tell(&format_args!("caller {name} gone"));
+        }
+        clear(place);
     }
 
     /// A client has this place from now on.
@@ -181,9 +189,10 @@ impl ConsoleClients {
 
     /// Writes what waits for the clients, and closes the connections that are over.
     pub fn write<W: Sink>(&mut self, log: &mut Log<'_, W>) {
+        let turn = self.turn;
         for place in self.places.iter_mut() {
             if let Some(socket) = place
-                && is_over(socket, log)
+                && is_over(socket, turn, log)
             {
                 clear(place);
             }

@@ -12,7 +12,7 @@ use mio::Registry;
 use mio::event::Event;
 use mio::net::TcpStream;
 use places::{
-    answer_next, are_busy, first_due_ms, free_place, free_places, put, read_each, write_each,
+    answer_next, are_busy, first_due_ms, free_places, place_for_one, put, read_each, write_each,
 };
 use script::Sink;
 use served_node::{Listener, Log, OpenFault, SocketName};
@@ -142,14 +142,15 @@ impl ServedPage {
         }
     }
 
-    /// Gives a client a place, if there is one, and closes its connection otherwise.
+    /// Gives a client a place. If none is free, an idle one makes way, and its connection is closed; if none is idle, the
+    /// new one's is.
     fn seat(&mut self, mut stream: TcpStream, registry: &Registry, now_ms: u64)
         ensures { self.new ≡ self.old }
     {
-        let free = free_place(&self.places);
-        if is_seated(free, registry, &mut stream) {
+        let place = place_for_one(&self.places);
+        if is_seated(place, registry, &mut stream) {
             let client = PageClient::new(self.alloc, stream, self.keys, now_ms);
-            put(&mut self.places, free, client);
+            put(&mut self.places, place, client);
         }
     }
 
@@ -188,7 +189,7 @@ fn drawn_keys<N: RandomSource>(net: &N) -> Result<RandomState, OpenFault> {
     }
 }
 
-/// Registers a client's socket with the poll, if there is a place for it. False if it has no place.
-fn is_seated(free: usize, registry: &Registry, stream: &mut TcpStream) -> bool {
-    free < PAGE_CLIENTS && SocketName::PageClient(free as u8).is_registered(registry, stream)
+/// Registers a client's socket with the poll, if there is this place for it. False if it has no place.
+fn is_seated(place: usize, registry: &Registry, stream: &mut TcpStream) -> bool {
+    place < PAGE_CLIENTS && SocketName::PageClient(place as u8).is_registered(registry, stream)
 }

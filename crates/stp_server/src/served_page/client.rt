@@ -22,6 +22,8 @@ pub(crate) struct PageClient {
     stream: TcpStream,
     connection: Connection,
     patience: Patience,
+    /// When it came, or its last answer went out, in milliseconds since the start of the node.
+    since_ms: u64,
     can_read: bool,
     can_write: bool,
     /// Whether the connection hasn't looked yet at what was read or written.
@@ -48,6 +50,7 @@ impl PageClient {
             stream,
             connection: Connection::new(alloc, keys, limits()),
             patience: Patience::begun(now_ms),
+            since_ms: now_ms,
             can_read: true,
             can_write: true,
             is_due: false,
@@ -92,6 +95,16 @@ impl PageClient {
     /// Whether something waits that may be written now.
     fn wants_write(&self) -> bool {
         self.can_write && self.connection.wants_write()
+    }
+
+    /// Since when there is nothing to do for it, in milliseconds since the start of the node. If there is something, it
+    /// never makes way for another client.
+    pub(crate) fn idle_since_ms(&self) -> u64 {
+        if self.is_due || self.connection.wants_write() {
+            u64::MAX
+        } else {
+            self.since_ms
+        }
     }
 
     /// Makes one read, if something may be read.
@@ -160,6 +173,7 @@ impl PageClient {
         if !self.connection.wants_write() {
             self.is_due = true;
             self.patience = Patience::answered(now_ms);
+            self.since_ms = now_ms;
         }
     }
 

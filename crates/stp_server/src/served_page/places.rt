@@ -16,14 +16,31 @@ pub(crate) fn free_places(alloc: Global) -> Result<Vec<Option<PageClient>>, Allo
     Ok(places)
 }
 
-/// The first free place; if there is none, the number of places.
-pub(crate) fn free_place(places: &[Option<PageClient>]) -> usize {
+/// The first free place; if there is none, that of the client that makes way; if none does, the number of places.
+pub(crate) fn place_for_one(places: &[Option<PageClient>]) -> usize {
     for (k, place) in places.iter().enumerate() {
         if place.is_none() {
             return k;
         }
     }
-    PAGE_CLIENTS
+    first_to_go(places)
+}
+
+/// The place of the client that has waited longest for nothing: no request of it is to be answered, and no answer to be
+/// written. If there is no such client, the number of places.
+fn first_to_go(places: &[Option<PageClient>]) -> usize {
+    let mut first = PAGE_CLIENTS;
+    let mut least = u64::MAX;
+    for (k, place) in places.iter().enumerate() {
+        if let Some(client) = place {
+            let since = client.idle_since_ms();
+            if since < least {
+                least = since;
+                first = k;
+            }
+        }
+    }
+    first
 }
 
 /// A client has this place from now on.
