@@ -13,6 +13,7 @@ pub mod program;
 mod sentences;
 mod serving;
 mod settings_files;
+mod standard_files;
 mod telling;
 mod two_nodes;
 
