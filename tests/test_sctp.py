@@ -6,8 +6,9 @@ import random
 import socket
 import struct
 import time
+from collections.abc import Sequence
 
-from harness import HOST, Node, NodeTest, SctpLink, free_port, wait_until
+from harness import HOST, Link, Node, NodeTest, SctpLink, free_port, wait_until
 from packets import ABORT, DATA, INIT, INIT_ACK, chunk, crc32c, is_whole, kinds, packet, read_packets
 from traffic import FAR, NEAR, Flowing
 
@@ -30,11 +31,13 @@ NEAR_PORT, FAR_PORT = 3565, 4565
 class SctpPair:
     """Two nodes with links over SCTP between them, of which both ends try to open each."""
 
-    def __init__(self, test: NodeTest, *, links: int = 3, is_begun: bool = True, is_port_fixed: bool = False, **more) -> None:
+    def __init__(self, test: NodeTest, *, links: int = 3, is_begun: bool = True, is_port_fixed: bool = False,
+                 beside: Sequence[Link] = (), near_page: int | None = None, **more) -> None:
         self.near_udp, self.far_udp = free_port(), free_port()
         self.names = [f"e{number}" for number in range(links)]
         self.is_port_fixed = is_port_fixed
-        self.near = test.node(NEAR, self.links_to(FAR, self.far_udp, NEAR_PORT, FAR_PORT), udp=self.near_udp, **more)
+        near_links = [*self.links_to(FAR, self.far_udp, NEAR_PORT, FAR_PORT), *beside]
+        self.near = test.node(NEAR, near_links, udp=self.near_udp, page=near_page, **more)
         self.far = test.node(FAR, self.links_to(NEAR, self.near_udp, FAR_PORT, NEAR_PORT), udp=self.far_udp, **more)
         if is_begun:
             self.near.start()

@@ -1,0 +1,173 @@
+"""Attacks that would hold a node up, beside two good links with messages at a steady pace.
+
+Whatever a stranger, a neighbour or a reader does, no good link fails, no message comes late by a second, and log and
+memory stay small. interop/held_up.py is the long form.
+"""
+
+from __future__ import annotations
+
+import contextlib
+import os
+import socket
+import struct
+import termios
+import threading
+import time
+from collections.abc import Callable
+from typing import Any
+
+from frames import NO_NUMBER, USER_DATA, Status, frame, message, status_frame
+from harness import HOST, PATIENCE, Link, NodeTest, free_port, wait_until
+from steady import Steady
+from test_sctp import SctpPair
+from traffic import OTHER, Pair
+
+# How long an attack lasts.
+SECONDS = 3.0
+
+# A point to which no route leads.
+NOWHERE = 99
+
+# The shortest frames there are, none of which can be read: no number follows their length.
+SHORT_FRAMES = struct.pack(">BBBBI", 1, 0, 11, USER_DATA, 8) * 8192
+
+# Messages that a neighbour sends at once.
+BURST = 1000
+
+# Datagrams a second: a socket that gets more than its node reads loses those of good links too.
+DATAGRAMS = 2000
+
+# What is read of a terminal that is full: a line or more finds room then, but not all.
+ROOM_OCTETS = 300
+
+
+class Flood(threading.Thread):
+    """Writes pieces to a socket, with a pause between them, until it is ended or the other end closes it."""
+
+    def __init__(self, stream: socket.socket, piece: Callable[[], bytes], pause: float = 0.0) -> None:
+        super().__init__(daemon=True)
+        self.stream, self.piece, self.pause = stream, piece, pause
+        self.is_ending = threading.Event()
+
+    def run(self) -> None:
+        with contextlib.suppress(OSError):
+            while not self.is_ending.wait(self.pause):
+                self.stream.sendall(self.piece())
+
+    def end(self) -> None:
+        self.is_ending.set()
+        with contextlib.suppress(OSError):
+            self.stream.shutdown(socket.SHUT_RDWR)
+        self.join(PATIENCE)
+
+
+class HeldUp(NodeTest):
+    """A stranger, or a neighbour, has a third link of the near node."""
+
+    def meet(self, of: type[Pair] | type[SctpPair] = Pair, **how: Any) -> Steady:
+        self.port, page = free_port(), free_port()
+        self.pair = of(self, links=2, beside=[Link("s0", OTHER, 0, self.port, True)], near_page=page, **how)
+        self.near = self.pair.near
+        return Steady(self, self.pair, page)
+
+    def stranger(self) -> socket.socket:
+        """A connection that the third link took."""
+        opened = self.near.logged("open s0 ")
+        stream = socket.create_connection((HOST, self.port), timeout=PATIENCE)
+        self.addCleanup(stream.close)
+        self.near.await_log("open s0 ", opened + 1)
+        return stream
+
+    def neighbour(self) -> socket.socket:
+        """A peer of the third link, which is in service."""
+        stream = self.stranger()
+        stream.sendall(status_frame(Status.ALIGNMENT))
+        self.await_state("Aligned")
+        stream.sendall(status_frame(Status.PROVING_NORMAL) + status_frame(Status.READY))
+        self.await_state("InService")
+        return stream
+
+    def await_state(self, state: str) -> None:
+        wait_until(lambda: self.near.links()["s0"][0] == state, f"s0 is {state}")
+
+    @staticmethod
+    def flood(what: str, steady: Steady, flood: Flood) -> None:
+        with steady.attacked(what):
+            flood.start()
+            time.sleep(SECONDS)
+            flood.end()
+
+    def test_short_frames(self) -> None:
+        steady = self.meet()
+        self.flood("short frames", steady, Flood(self.stranger(), lambda: SHORT_FRAMES))
+
+    def test_short_frames_beside_sctp(self) -> None:
+        """The good links are over SCTP, and their datagrams have a part of each round, too."""
+        steady = self.meet(SctpPair)
+        self.flood("short frames beside SCTP", steady, Flood(self.stranger(), lambda: SHORT_FRAMES))
+
+    def test_messages_to_an_unknown_point(self) -> None:
+        steady = self.meet()
+        body, numbers = b"\0" + message(OTHER, NOWHERE, 0, 0), iter(range(1 << 24))
+
+        def piece() -> bytes:
+            return b"".join(frame(USER_DATA, body, NO_NUMBER, next(numbers)) for _ in range(BURST))
+
+        self.flood("messages to an unknown point", steady, Flood(self.neighbour(), piece))
+
+    def test_datagrams_of_a_stranger(self) -> None:
+        steady = self.meet(SctpPair)
+        stranger = socket.socket(socket.AF_INET, socket.SOCK_DGRAM)
+        self.addCleanup(stranger.close)
+        stranger.connect((HOST, self.pair.near_udp))
+        self.flood("datagrams of a stranger", steady, Flood(stranger, lambda: bytes(12), 1 / DATAGRAMS))
+
+
+class FullTerminal(NodeTest):
+    """The log goes to a terminal."""
+
+    def begin(self) -> Steady:
+        self.master, self.terminal = os.openpty()
+        self.addCleanup(os.close, self.master)
+        self.addCleanup(os.close, self.terminal)
+        page = free_port()
+        self.pair = Pair(self, links=2, near_page=page,
+                         near_streams={"stdout": self.terminal, "stderr": self.terminal})
+        return Steady(self, self.pair, page)
+
+    def log_lines(self, what: str, steady: Steady) -> None:
+        """Clients come and go, each of which is two lines of the log."""
+        with steady.attacked(what):
+            end = time.monotonic() + SECONDS
+            while time.monotonic() < end:
+                self.pair.near.call().close()
+                time.sleep(0.02)
+
+    def test_a_terminal_that_nobody_reads(self) -> None:
+        """It has room for one line, and for the beginning of one."""
+        steady = self.begin()
+        writer = os.open(os.ttyname(self.terminal), os.O_WRONLY | os.O_NONBLOCK | os.O_NOCTTY)
+        self.addCleanup(os.close, writer)
+        with contextlib.suppress(BlockingIOError):
+            while True:
+                os.write(writer, b"x")
+        os.read(self.master, ROOM_OCTETS)
+        self.log_lines("a terminal that nobody reads", steady)
+
+    def test_a_terminal_that_is_stopped(self) -> None:
+        steady = self.begin()
+        termios.tcflow(self.terminal, termios.TCOOFF)
+        self.log_lines("a terminal that is stopped", steady)
+        termios.tcflow(self.terminal, termios.TCOON)
+
+
+class StandardFiles(NodeTest):
+    def test_closed_ones(self) -> None:
+        """No socket has the number of a standard file that was closed: something that is neither read nor written has."""
+        for closed in ((0, 1, 2), (1,), (0, 2)):
+            node = self.node(1, [Link("e0", 2, 0, free_port(), True)])
+            node.start(preexec_fn=lambda: [os.close(number) for number in closed])
+            assert node.process is not None
+            for number in closed:
+                self.assertEqual(os.readlink(f"/proc/{node.process.pid}/fd/{number}"), "/dev/null")
+            node.kill()
