@@ -73,19 +73,21 @@ def free_port() -> int:
 
 @dataclass(frozen=True)
 class Link:
-    """A link of a node: its name, the adjacent point, its code, and where it listens or connects."""
+    """A link of a node: its name, the adjacent point, its code, where it listens or connects, and from which host alone it
+    takes connections, if from one."""
 
     name: str
     adjacent: int
     code: int
     port: int
     listens: bool
+    source: str | None = None
 
     def text(self) -> str:
         way = "listen" if self.listens else "connect"
         return (
             f'[[link]]\nname = "{self.name}"\nset = "to-{self.adjacent}"\nslc = {self.code}\n'
-            f'{way} = "{HOST}:{self.port}"\n'
+            f'{way} = "{HOST}:{self.port}"\n' + f'from = "{self.source}"\n' * (self.source is not None)
         )
 
 
@@ -123,7 +125,7 @@ def settings(own: int, links: Sequence[Link | SctpLink], *, version: int = 2, wi
     aren't named are LONG, but for the proving period."""
     adjacents = list(dict.fromkeys(link.adjacent for link in links))
     ticks = {**dict.fromkeys(TIMERS, LONG), "l4": 1, **timers}
-    listing = any(isinstance(link, SctpLink) and link.addresses for link in links)
+    listing = any(link.addresses if isinstance(link, SctpLink) else link.source for link in links)
     version = 4 if listing or capture_size is not None else version
     lines = [f"version = {version}", f"own = {own}", "network = 2", f"window = {window}", f"pool = {pool}"]
     lines += ["users = [5]", "subsystems = [8]", "[serve]", f"tick_ms = {tick_ms}"]

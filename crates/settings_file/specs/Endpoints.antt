@@ -16,6 +16,7 @@ use Rattle.settings_file.specs.declared.serve.key.ServeKey.TheVariants as key
 use Rattle.settings_file.specs.declared.serve.fault.ServeFault.{ServeFault}
 use Rattle.settings_file.specs.declared.serve.fault.ServeFault.TheVariants.{Settings, Missing, Duplicate}
 use Rattle.settings_file.specs.Addresses.{Spelling, is_same, is_address_of}
+use Rattle.settings_file.specs.Hosts.{from_at}
 use Rattle.settings_file.specs.Paths.{entries_of, first_or, reached, others_in, addresses_at, share_host}
 use Rattle.settings_file.specs.Places.{key_name as node_name}
 use Rattle.settings_file.specs.ServeKeys.{found_at}
@@ -24,7 +25,7 @@ use Rattle.settings_file.specs.Keyed.{address_in, number_or, truth_or}
 
 -- an address is where a link listens
 abbrev pub listens_on : SocketAddr → Endpoint → Bool
-listens_on a (Listen b) = is_same b a
+listens_on a (Listen b host) = is_same b a
 listens_on a (Connect b) = false
 listens_on a (endpoint.Remote r) = false
 
@@ -36,14 +37,14 @@ is_taken own before a =
 -- a datagram of the one peer would be taken for one of the other: what tells them apart is the hosts and the two SCTP
 -- ports
 abbrev pub has_same_peer : Remote → Endpoint → Bool
-has_same_peer r (Listen a) = false
+has_same_peer r (Listen a host) = false
 has_same_peer r (Connect a) = false
 has_same_peer r (endpoint.Remote other) =
     share_host r other && nat_eq r.own_port other.own_port && nat_eq r.far_port other.far_port
 
 -- a link isn't one over SCTP, or the server has an address that its datagrams go out from
 abbrev pub has_source : Option SocketAddr → Endpoint → Bool
-has_source udp (Listen a) = true
+has_source udp (Listen a host) = true
 has_source udp (Connect a) = true
 has_source udp (endpoint.Remote r) = is_some udp
 
@@ -135,16 +136,23 @@ remote_in s own is_fourth before i t d =
     and_then (apart before i r) (λ _.
     Ok r)))))))))
 
--- a link has exactly one of `listen`, `connect` and `remote`
+-- one that doesn't listen
+abbrev pub other_endpoint_of : Spelling → OwnAddresses → (is_fourth : Bool) → List Endpoint → ℕ → Members
+    → (connect remote : Option Data) → Result Endpoint ServeFault
+other_endpoint_of s own is_fourth before i t (Some d) remote =
+    and_then (connect_in s is_fourth i t d) (λ a. Ok (Connect a))
+other_endpoint_of s own is_fourth before i t None (Some d) =
+    and_then (remote_in s own is_fourth before i t d) (λ r. Ok (endpoint.Remote r))
+other_endpoint_of s own is_fourth before i t None None = Err (Missing (key.LinkListen i))
+
+-- a link has exactly one of `listen`, `connect` and `remote`; `from` stands beside `listen` alone
 abbrev pub endpoint_of : Spelling → OwnAddresses → (is_fourth : Bool) → List Endpoint → ℕ → Members
     → (listen connect remote : Option Data) → Result Endpoint ServeFault
 endpoint_of s own is_fourth before i t (Some d) connect remote =
-    and_then (listen_in s own is_fourth before i t d) (λ a. Ok (Listen a))
-endpoint_of s own is_fourth before i t None (Some d) remote =
-    and_then (connect_in s is_fourth i t d) (λ a. Ok (Connect a))
-endpoint_of s own is_fourth before i t None None (Some d) =
-    and_then (remote_in s own is_fourth before i t d) (λ r. Ok (endpoint.Remote r))
-endpoint_of s own is_fourth before i t None None None = Err (Missing (key.LinkListen i))
+    and_then (listen_in s own is_fourth before i t d) (λ a.
+    and_then (from_at s is_fourth i t) (λ host. Ok (Listen a host)))
+endpoint_of s own is_fourth before i t None connect remote =
+    and_then (without_in is_fourth (key.LinkFrom i) t) (λ _. other_endpoint_of s own is_fourth before i t connect remote)
 
 unfoldable pub endpoint_at : Spelling → OwnAddresses → (is_fourth : Bool) → List Endpoint → ℕ → Members
     → Result Endpoint ServeFault

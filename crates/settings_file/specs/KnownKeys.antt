@@ -93,7 +93,8 @@ set_keys = known (codes "name") First ∷ known (codes "adjacent") First ∷ []
 abbrev pub link_keys : List KnownKey
 link_keys =
     known (codes "name") First ∷ known (codes "set") First ∷ known (codes "slc") First
-    ∷ known (codes "share") Third ∷ known (codes "listen") First ∷ known (codes "connect") First
+    ∷ known (codes "share") Third ∷ known (codes "listen") First ∷ known (codes "from") Fourth
+    ∷ known (codes "connect") First
     ∷ known (codes "remote") First ∷ known (codes "sctp_port") First ∷ known (codes "remote_sctp_port") First
     ∷ known (codes "tries") First ∷ known (codes "remote_port_fixed") Fourth
     ∷ known (codes "addresses") Fourth ∷ []

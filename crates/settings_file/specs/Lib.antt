@@ -24,6 +24,7 @@ pub mod Keyed
 pub mod Consoles
 pub mod Times
 pub mod Paths
+pub mod Hosts
 pub mod Endpoints
 pub mod Served
 pub mod ServedInside

@@ -27,6 +27,7 @@ key_front key.HeartbeatMs = codes "serve.sctp.heartbeat_ms"
 key_front key.PageOpen = codes "serve.page_open"
 key_front key.Page = codes "serve.page"
 key_front (key.LinkListen i) = codes "link"
+key_front (key.LinkFrom i) = codes "link"
 key_front (key.LinkConnect i) = codes "link"
 key_front (key.LinkRemote i) = codes "link"
 key_front (key.LinkSctpPort i) = codes "link"
@@ -38,6 +39,7 @@ key_front (key.LinkAddresses i) = codes "link"
 -- the index of the link that a key is in, from 0
 abbrev pub key_index : ServeKey → Option ℕ
 key_index (key.LinkListen i) = Some i
+key_index (key.LinkFrom i) = Some i
 key_index (key.LinkConnect i) = Some i
 key_index (key.LinkRemote i) = Some i
 key_index (key.LinkSctpPort i) = Some i
@@ -50,6 +52,7 @@ key_index other = None
 -- what is after the index: a dot and the key in its link, or nothing
 abbrev pub key_back : ServeKey → List ℕ
 key_back (key.LinkListen i) = codes ".listen"
+key_back (key.LinkFrom i) = codes ".from"
 key_back (key.LinkConnect i) = codes ".connect"
 key_back (key.LinkRemote i) = codes ".remote"
 key_back (key.LinkSctpPort i) = codes ".sctp_port"

@@ -89,6 +89,7 @@ const LINK: &[(&str, Since)] = &[
     ("slc", Since::First),
     ("share", Since::Third),
     ("listen", Since::First),
+    ("from", Since::Fourth),
     ("connect", Since::First),
     ("remote", Since::First),
     ("sctp_port", Since::First),

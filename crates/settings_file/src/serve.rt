@@ -7,6 +7,7 @@ pub mod console_place;
 mod document;
 mod endpoints;
 pub mod fault;
+mod hosts;
 pub mod key;
 mod key_rows;
 mod keys;

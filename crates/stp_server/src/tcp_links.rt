@@ -57,7 +57,7 @@ impl TcpLinks {
     ) -> Result<(), OpenFault> {
         let name = node.observers.name(link);
         let listener = match endpoint {
-            Endpoint::Listen(address) => listen(net, registry, link, address, name, log)?,
+            Endpoint::Listen(address, _) => listen(net, registry, link, address, name, log)?,
             Endpoint::Connect(address) => {
                 log.tell_at("connect", name, address);
                 Listener::none()

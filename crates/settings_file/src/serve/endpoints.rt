@@ -13,6 +13,7 @@ use crate::fault::SettingsFault;
 use crate::key_rows::key_name;
 use crate::serve::address::{address_in, is_address_of};
 use crate::serve::fault::ServeFault;
+use crate::serve::hosts::from;
 use crate::serve::key::ServeKey;
 use crate::serve::keys::{found_at, truth_or};
 use crate::serve::paths::{addresses, behind_first, entries, first_or, others, reached};
@@ -230,8 +231,10 @@ fn endpoint_at(
     let i = before.len();
     if let Some(value) = found_at(link, ServeKey::LinkListen(i)) {
         let address = listen_in(own, is_fourth, before, link, value)?;
-        return Ok(Endpoint::Listen(address));
+        let host = from(is_fourth, link, i)?;
+        return Ok(Endpoint::Listen(address, host));
     }
+    without_in(is_fourth, link, ServeKey::LinkFrom(i))?;
     if let Some(value) = found_at(link, ServeKey::LinkConnect(i)) {
         let address = connect_in(is_fourth, link, i, value)?;
         return Ok(Endpoint::Connect(address));

@@ -49,6 +49,8 @@ pub enum ServeKey {
     Page,
     /// `link[i].listen`.
     LinkListen(usize),
+    /// `link[i].from`.
+    LinkFrom(usize),
     /// `link[i].connect`.
     LinkConnect(usize),
     /// `link[i].remote`.

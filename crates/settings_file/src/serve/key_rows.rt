@@ -27,6 +27,8 @@ const UDP: &str = "an address and a port from 1 on, as \"127.0.0.1:9899\"";
 const ADDRESSES: &str = "at most eight addresses without a port, as \"192.0.2.1\", \
     none unspecified, multicast, broadcast, link-local or IPv4-mapped";
 
+const HOST: &str = "an address without a port, as \"192.0.2.1\"";
+
 const TIMEOUT: &str = "10 to 60000";
 
 const INITIAL_TIMEOUT: &str = "10 to 60000, and from rto_min_ms to rto_max_ms";
@@ -66,6 +68,7 @@ pub(crate) fn key_row(key: ServeKey) -> KeyRow
         ServeKey::PageOpen => lone_key("serve.page_open", TRUTH, ""),
         ServeKey::Page => lone_key("serve.page", TEXT, PAGE),
         ServeKey::LinkListen(i) => entry_key("link", i, "listen", TEXT, ADDRESS),
+        ServeKey::LinkFrom(i) => entry_key("link", i, "from", TEXT, HOST),
         ServeKey::LinkConnect(i) => entry_key("link", i, "connect", TEXT, ADDRESS),
         ServeKey::LinkRemote(i) => entry_key("link", i, "remote", TEXT, UDP),
         ServeKey::LinkSctpPort(i) => entry_key("link", i, "sctp_port", INTEGER, SCTP_PORT),

@@ -51,7 +51,7 @@ fn new_address(
 }
 
 /// The IP address that a text spells.
-fn spelled_host(text: &str, key: ServeKey) -> Result<IpAddr, ServeFault>
+pub(crate) fn spelled_host(text: &str, key: ServeKey) -> Result<IpAddr, ServeFault>
     ensures { (s : Spelling) → result ≡ spelled_host s key text.now }
 {
     match text.parse::<IpAddr>() {

@@ -59,6 +59,9 @@ const LISTENS: &str = "but the link has listen too";
 /// What is wrong with a key that a link may not have together with `connect`.
 const CONNECTS: &str = "but the link has connect too";
 
+/// What is wrong with `from` of a link that takes no connections.
+const NO_LISTENER: &str = "but the link has no listen";
+
 /// What is wrong with a peer that another link has.
 const SAME_PEER: &str = "whose host and SCTP ports another link has too";
 
@@ -180,6 +183,7 @@ fn demand(key: ServeKey, row: &KeyRow) -> &'static str {
 fn twice(document: &Table, key: ServeKey) -> &'static str {
     match key {
         ServeKey::LinkListen(_) => TAKEN,
+        ServeKey::LinkFrom(_) => NO_LISTENER,
         ServeKey::LinkConnect(i)
         | ServeKey::LinkRemote(i)
         | ServeKey::LinkSctpPort(i)

@@ -10,13 +10,13 @@ use crate::serve::console_place::{ConsolePlace, KeptPlace};
 use crate::serve::sctp::{Remote, SctpTimes};
 use point_format::PointFormat;
 use std::marker::Model;
-use std::net::SocketAddr;
+use std::net::{IpAddr, SocketAddr};
 
 /// How the association of a link comes about.
 #[derive(Clone, Copy)]
 pub enum Endpoint {
-    /// The server takes connections at this address.
-    Listen(SocketAddr),
+    /// The server takes connections at this address; if a host is named, only from there.
+    Listen(SocketAddr, Option<IpAddr>),
     /// The server connects to this address.
     Connect(SocketAddr),
     /// The association is one of SCTP in UDP.
@@ -29,7 +29,7 @@ impl Endpoint {
         ensures { result ≡ listens_on address self }
     {
         match self {
-            Endpoint::Listen(own) => own == address,
+            Endpoint::Listen(own, _) => own == address,
             Endpoint::Connect(_) | Endpoint::Remote(_) => false,
         }
     }
@@ -45,7 +45,7 @@ impl Endpoint {
                     && remote.own_port == other.own_port
                     && remote.far_port == other.far_port
             }
-            Endpoint::Listen(_) | Endpoint::Connect(_) => false,
+            Endpoint::Listen(_, _) | Endpoint::Connect(_) => false,
         }
     }
 }

@@ -84,7 +84,7 @@ impl ServerLinks {
                 // There is no socket for its datagrams.
                 None => Ok(()),
             },
-            Endpoint::Listen(_) | Endpoint::Connect(_) => {
+            Endpoint::Listen(_, _) | Endpoint::Connect(_) => {
                 self.tcp.add(net, registry, link, endpoint, node, log)
             }
         }

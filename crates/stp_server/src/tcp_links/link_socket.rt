@@ -112,7 +112,8 @@ impl LinkSocket {
         }
     }
 
-    /// Takes a connection, if the link wants to open, and the poll tells of the connection from now on.
+    /// Takes a connection, if it comes from where it may, the link wants to open, and the poll tells of the connection
+    /// from now on.
     fn admit<W: Sink>(
         &mut self,
         mut stream: TcpStream,
@@ -122,10 +123,21 @@ impl LinkSocket {
         log: &mut Log<'_, W>,
     ) {
         let wants_open = node.exchange.wants(self.link) == Wants::Open;
-        if wants_open && self.name().is_registered(registry, &mut stream) {
+        if wants_open
+            && self.may_come_from(peer)
+            && self.name().is_registered(registry, &mut stream)
+        {
             self.open(stream, peer, node, log);
         } else {
             log.tell_at("refuse", node.observers.name(self.link), peer);
+        }
+    }
+
+    /// Whether the link takes connections from there.
+    fn may_come_from(&self, peer: SocketAddr) -> bool {
+        match self.endpoint {
+            Endpoint::Listen(_, Some(host)) => peer.ip().to_canonical() == host.to_canonical(),
+            _ => true,
         }
     }
 
