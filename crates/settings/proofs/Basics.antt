@@ -18,18 +18,27 @@ pub use Rattle.std.specs.Option.{option_map}
 pub use Rattle.std.specs.Ordering.{int_eq}
 pub use Rattle.std.specs.Prelude.{is_some, IfSome, option_and_then, if◌then◌else◌, ℤ, pos, negsuc, String, unwrap_or}
 pub use Rattle.std.specs.Str.{bytes_eq}
-pub use Rattle.settings.specs.Checks.{first_of, fault_unless, entries_fault, is_within, natural, range_fault, far_point_fault, has_repeat, count_fault, optional_fault, is_digit, ssn_fault, route_fault, digits_fault, added_fault}
+pub use Rattle.settings.specs.Checks.{first_of, all_of, behind, all_behind, entries_checks, fault_unless, entries_fault, is_within, natural, range_fault, far_point_fault, has_repeat, count_fault, optional_fault, is_digit, ssn_fault, route_fault, digits_fault, added_fault}
 unfoldable pub use Rattle.settings.specs.Checks.{numbers_fault}
-pub use Rattle.settings.specs.FirstFault.{first_fault, ticks_fault, timers_written, ticks_in, timer_in, destination_fault, destination_point_fault, set_list_fault, joined_fault, has_destination, is_set_name, reached_fault, is_reached, is_first_name, link_fault, link_name_fault, link_set_fault, link_slc_fault, has_link_named, has_link_code, set_fault, set_name_fault, set_adjacent_fault, has_set_named, has_adjacent}
+pub use Rattle.settings.specs.FirstFault.{first_fault, scalars_checks, set_checks, link_tests_checks, ticks_fault, timers_written, ticks_in, timer_in, destination_fault, destination_point_fault, set_list_fault, joined_fault, has_destination, is_set_name, reached_fault, is_reached, is_first_name, link_fault, link_name_fault, link_set_fault, link_slc_fault, has_link_named, has_link_code, set_fault, set_name_fault, set_adjacent_fault, has_set_named, has_adjacent}
 unfoldable pub use Rattle.settings.specs.FirstFault.{scalars_fault, timers_fault, link_tests_fault, bar_fault, tables_fault, arrays_fault, sets_fault, links_fault, destinations_fault, unreached_fault}
-pub use Rattle.settings.specs.TitleFaults.{title_fault, title_numbers_fault, title_digits_fault, title_target_fault, title_change_fault, is_same_title}
+pub use Rattle.settings.specs.TitleFaults.{title_numbers_checks, title_change_checks, title_fault, title_numbers_fault, title_digits_fault, title_target_fault, title_change_fault, is_same_title}
 unfoldable pub use Rattle.settings.specs.TitleFaults.{titles_fault}
+pub use Rattle.settings.specs.AllFaults.{own_point, ticks_before_bar, ticks_checks, late_timers_checks, set_count_fault, link_set_check, link_slc_check, link_checks, link_count_fault, has_point, destination_point_check, known_check, set_list_check, destination_checks, destination_count_fault, title_digits_check, is_by_number, title_target_checks, title_count_fault, reached_checks, routes_fault, lists_checks, all_faults, first_in}
+unfoldable pub use Rattle.settings.specs.AllFaults.{timers_checks, sets_checks, links_checks, destinations_checks, title_checks, titles_checks, unreached_checks, arrays_checks, all_checks}
+pub use Rattle.settings.specs.SeenPoints.{AreSeen, seen_at, seen_with}
+pub use Rattle.settings.specs.SeenTitles.{AreOf, has_key}
+pub use Rattle.settings.specs.Told.{tell, tell_all}
 pub use Rattle.settings.specs.Meaning.{settings_of, ticks_of, test_ticks_of, set_of, destination_of, set_place, set_number, link_of, title_of, digit_of, route_of, change_of, is_by_title, points_of}
 pub use Rattle.settings.specs.Titles.{title_key}
 pub use Rattle.settings.specs.Well.{IsWell, is_same_point, is_led_first, is_first, IsWithin, all_ticks, test_ticks, ticks_if_any, IsDestination, IsLink, is_link_of_same_name, is_same_code, IsFarPoint, IsSet, is_set_of_same_name, is_set_to_same_point, IsTitle, HasSubsystem, is_same_row}
 pub use Rattle.settings_rows.specs.Configuration.{Configuration, SetEntry, DestinationEntry, LinkEntry}
 pub use Rattle.settings_rows.specs.Names.{is_name}
 pub use Rattle.settings_rows.specs.declared.draft.DestinationDraft.{DestinationDraft}
+pub use Rattle.settings_rows.specs.declared.draft.Draft.{Draft}
+pub use Rattle.settings_rows.specs.declared.draft.LinkDraft.{LinkDraft}
+pub use Rattle.settings_rows.specs.declared.draft.LinkTestsDraft.{LinkTestsDraft}
+pub use Rattle.settings_rows.specs.declared.draft.TimersDraft.{TimersDraft}
 pub use Rattle.settings_rows.specs.declared.draft.SetDraft.{SetDraft}
 pub use Rattle.settings_rows.specs.declared.draft.TitleDraft.{TitleDraft}
 pub use Rattle.settings_rows.specs.declared.draft.ChangeDraft.{ChangeDraft}

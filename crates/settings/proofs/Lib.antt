@@ -12,3 +12,6 @@ pub mod WellLinks
 pub mod WellDestinations
 pub mod WellTitles
 pub mod Well
+pub mod Telling
+pub mod FirstOfAll
+pub mod Seen

@@ -72,7 +72,7 @@ pub each_unmapped : {A B : Type 0} (Q : B → Type 0) (g : A → B) (xs : List A
 each_unmapped Q g [] h = tt
 each_unmapped Q g (x ∷ xs) h = (h.0, each_unmapped Q g xs h.1)
 
-each_push : {A : Type 0} (Q : A → Type 0) (xs : List A) (y : A) → AllByRecursion Q xs → Q y → AllByRecursion Q (xs ++ y ∷ [])
+pub each_push : {A : Type 0} (Q : A → Type 0) (xs : List A) (y : A) → AllByRecursion Q xs → Q y → AllByRecursion Q (xs ++ y ∷ [])
 each_push Q [] y h k = (k, tt)
 each_push Q (x ∷ xs) y h k = (h.0, each_push Q xs y h.1 k)
 

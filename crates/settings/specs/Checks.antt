@@ -17,6 +17,22 @@ first_of [] = None
 first_of (None ∷ rest) = first_of rest
 first_of (Some fault ∷ rest) = Some fault
 
+-- all faults of several checks, in their order
+abbrev pub all_of : List (Option DraftFault) → List DraftFault
+all_of [] = []
+all_of (None ∷ rest) = all_of rest
+all_of (Some fault ∷ rest) = fault ∷ all_of rest
+
+-- a check that is made only where another one found nothing, since what it finds may follow from that one's fault
+abbrev pub behind : Option DraftFault → Option DraftFault → Option DraftFault
+behind None check = check
+behind (Some fault) check = None
+
+-- the same of several checks
+abbrev pub all_behind : Option DraftFault → List (Option DraftFault) → List (Option DraftFault)
+all_behind None checks = checks
+all_behind (Some fault) checks = []
+
 -- the fault of this kind at this key, unless all is well there
 abbrev pub fault_unless : Bool → FaultKind → Key → Option DraftFault
 fault_unless true kind key = None
@@ -54,6 +70,11 @@ far_point_fault own key n = fault_unless (is_within 0 16383 n && not (nat_eq (na
 abbrev pub entries_fault : {A : Type 0} → (List A → A → Option DraftFault) → List A → List A → Option DraftFault
 entries_fault fault earlier [] = None
 entries_fault fault earlier (x ∷ rest) = first_of (fault earlier x ∷ entries_fault fault (earlier ++ x ∷ []) rest ∷ [])
+
+-- the checks of a list's entries, each looked at after those before it
+abbrev pub entries_checks : {A : Type 0} → (List A → A → List (Option DraftFault)) → List A → List A → List (Option DraftFault)
+entries_checks checks earlier [] = []
+entries_checks checks earlier (x ∷ rest) = checks earlier x ++ entries_checks checks (earlier ++ x ∷ []) rest
 
 -- the first fault of a list of distinct numbers from low to high
 unfoldable pub numbers_fault : ℕ → ℕ → Key → List ℤ → Option DraftFault

@@ -51,9 +51,13 @@ set_adjacent_fault own earlier s = first_of (
     ∷ fault_unless (not (has_adjacent earlier s.adjacent)) Duplicate (SetAdjacent (length earlier))
     ∷ [])
 
+-- the checks of a set, after the sets before it
+abbrev pub set_checks : ℕ → List SetDraft → SetDraft → List (Option DraftFault)
+set_checks own earlier s = set_name_fault earlier s ∷ set_adjacent_fault own earlier s ∷ []
+
 -- the first fault of a set, after the sets before it
 abbrev pub set_fault : ℕ → List SetDraft → SetDraft → Option DraftFault
-set_fault own earlier s = first_of (set_name_fault earlier s ∷ set_adjacent_fault own earlier s ∷ [])
+set_fault own earlier s = first_of (set_checks own earlier s)
 
 abbrev pub written : TimerKey → ℤ → Written
 written timer ticks = record { timer = timer; ticks = ticks }
@@ -87,12 +91,15 @@ abbrev pub ticks_fault : List Written → Written → Option DraftFault
 ticks_fault earlier w = range_fault 1 TICKS (Timer w.timer) w.ticks
 
 -- the timers of link tests, which may be left out
-unfoldable pub link_tests_fault : Option LinkTestsDraft → Option DraftFault
-link_tests_fault None = None
-link_tests_fault (Some tests) = first_of (
+abbrev pub link_tests_checks : Option LinkTestsDraft → List (Option DraftFault)
+link_tests_checks None = []
+link_tests_checks (Some tests) =
     range_fault 1 TICKS (Timer Slt1) tests.slt1
     ∷ range_fault 1 TICKS (Timer Slt2) tests.slt2
-    ∷ [])
+    ∷ []
+
+unfoldable pub link_tests_fault : Option LinkTestsDraft → Option DraftFault
+link_tests_fault tests = first_of (link_tests_checks tests)
 
 -- the bar, which may be left out, is longer than T2
 unfoldable pub bar_fault : (t2 : ℕ) → Option ℤ → Option DraftFault
@@ -226,13 +233,16 @@ destinations_fault own sets destinations = first_of (
     ∷ [])
 
 -- the numbers that settings begin with
-unfoldable pub scalars_fault : Draft → Option DraftFault
-scalars_fault d = first_of (
+abbrev pub scalars_checks : Draft → List (Option DraftFault)
+scalars_checks d =
     range_fault 0 16383 Own d.own
     ∷ range_fault 0 3 Network d.network
     ∷ range_fault 1 WINDOW Window d.window
     ∷ range_fault 1 POOL Pool d.pool
-    ∷ [])
+    ∷ []
+
+unfoldable pub scalars_fault : Draft → Option DraftFault
+scalars_fault d = first_of (scalars_checks d)
 
 -- the destinations and the translation rows, and last of all the sets whose adjacent point they don't lead to
 unfoldable pub tables_fault : Draft → Option DraftFault

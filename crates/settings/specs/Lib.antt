@@ -3,6 +3,10 @@ pub mod Meaning
 pub mod Titles
 pub mod TitleFaults
 pub mod FirstFault
+pub mod AllFaults
+pub mod Told
+pub mod SeenPoints
+pub mod SeenTitles
 pub mod Checked
 pub mod Indexed
 pub mod Well

@@ -31,12 +31,15 @@ title_digits_fault earlier t = first_of (
     ∷ [])
 
 -- the numbers of a translation row at this index: its translation type, numbering plan and nature of address
-abbrev pub title_numbers_fault : ℕ → TitleDraft → Option DraftFault
-title_numbers_fault place t = first_of (
+abbrev pub title_numbers_checks : ℕ → TitleDraft → List (Option DraftFault)
+title_numbers_checks place t =
     range_fault 0 255 (TitleTranslation place) t.translation
     ∷ range_fault 0 15 (TitlePlan place) t.plan
     ∷ range_fault 0 127 (TitleNature place) t.nature
-    ∷ [])
+    ∷ []
+
+abbrev pub title_numbers_fault : ℕ → TitleDraft → Option DraftFault
+title_numbers_fault place t = first_of (title_numbers_checks place t)
 
 -- where a translation row at this index leads to: its point, its backup, its route and its subsystem number
 abbrev pub title_target_fault : ℕ → TitleDraft → Option DraftFault
@@ -49,13 +52,16 @@ title_target_fault place t = first_of (
 
 -- how a translation row at this index changes titles: the numbering plan and the nature of address that they get, and
 -- the digits that are taken off and put on
-abbrev pub title_change_fault : ℕ → ChangeDraft → Option DraftFault
-title_change_fault place c = first_of (
+abbrev pub title_change_checks : ℕ → ChangeDraft → List (Option DraftFault)
+title_change_checks place c =
     optional_fault 0 15 (TitleNewPlan place) c.plan
     ∷ optional_fault 0 127 (TitleNewNature place) c.nature
     ∷ range_fault 0 TITLE_DIGITS (TitleRemove place) c.removed
     ∷ added_fault (TitleAdd place) (string_bytes c.added)
-    ∷ [])
+    ∷ []
+
+abbrev pub title_change_fault : ℕ → ChangeDraft → Option DraftFault
+title_change_fault place c = first_of (title_change_checks place c)
 
 -- the first fault of a translation row, after the rows before it
 abbrev pub title_fault : List TitleDraft → TitleDraft → Option DraftFault

@@ -44,7 +44,7 @@ fn destination_point(
 
 /// Whether some name occurs twice.
 #[tactic(auto, using(std::proofs::lemmas::Grind::common_steps))]
-fn has_name_twice(names: &[String]) -> bool
+pub(crate) fn has_name_twice(names: &[String]) -> bool
     ensures { result ≡ has_repeat string_eq names.now }
 {
     for i in 0..names.len() {
@@ -56,7 +56,7 @@ fn has_name_twice(names: &[String]) -> bool
 }
 
 /// Whether each text is a name.
-fn are_names(names: &[String]) -> bool
+pub(crate) fn are_names(names: &[String]) -> bool
     ensures { result ≡ list_all (λ name. is_name (string_bytes name)) names.now }
 {
     names.iter().all(|name| is_name(name.as_str()))
@@ -107,7 +107,10 @@ fn set_list(
 }
 
 /// Whether the first two sets of a destination are joined, after the destinations before it.
-fn joined(earlier: &[DestinationDraft], destination: &DestinationDraft) -> Result<bool, DraftFault>
+pub(crate) fn joined(
+    earlier: &[DestinationDraft],
+    destination: &DestinationDraft,
+) -> Result<bool, DraftFault>
     ensures value { IfOk result (λ joined. joined ≡ destination.now.joined) }
     ensures well { OnOk result (joined_fault earlier.now destination.now ≡ None) }
     ensures fault { IfErr result (λ fault. joined_fault earlier.now destination.now ≡ Some fault) }

@@ -6,6 +6,7 @@ mod check;
 mod destinations;
 mod digits;
 mod facing;
+mod faults;
 mod links;
 mod names;
 mod naming;
@@ -17,6 +18,7 @@ mod sharing;
 mod timers;
 mod titles;
 
+pub use faults::{MOST_FAULTS, all_faults, all_faults_begin};
 pub use settings::Settings;
 pub use settings_rows::{
     ChangeDraft, DestinationDraft, DestinationRow, Draft, DraftFault, FaultKind, Key, LinkDraft,

@@ -18,14 +18,14 @@ use std::alloc::Global;
 const LAST_LINK_CODE: u16 = 15;
 
 /// Whether a link of this name is among these.
-fn has_link_named(links: &[LinkDraft], name: &str) -> bool
+pub(crate) fn has_link_named(links: &[LinkDraft], name: &str) -> bool
     ensures { result ≡ has_link_named links.now name.now }
 {
     links.iter().any(|link| link.name.as_str() == name)
 }
 
 /// Whether a link of this set with this signalling link code is among these.
-fn has_link_code(links: &[LinkDraft], set: &str, slc: i64) -> bool
+pub(crate) fn has_link_code(links: &[LinkDraft], set: &str, slc: i64) -> bool
     ensures { result ≡ has_link_code links.now set.now slc }
 {
     links

@@ -20,14 +20,14 @@ pub(crate) fn set_place(sets: &[SetDraft], name: &str) -> Option<usize>
 }
 
 /// Whether a set of this name is among these.
-fn has_set_named(sets: &[SetDraft], name: &str) -> bool
+pub(crate) fn has_set_named(sets: &[SetDraft], name: &str) -> bool
     ensures { result ≡ has_set_named sets.now name.now }
 {
     set_place(sets, name).is_some()
 }
 
 /// Whether a set with this adjacent point is among these.
-fn has_adjacent(sets: &[SetDraft], adjacent: i64) -> bool
+pub(crate) fn has_adjacent(sets: &[SetDraft], adjacent: i64) -> bool
     ensures { result ≡ has_adjacent sets.now adjacent }
 {
     sets.iter().any(|set| set.adjacent == adjacent)
@@ -105,7 +105,7 @@ fn is_first_name(name: &str, names: &[String]) -> bool
 }
 
 /// Whether a set's adjacent point is a destination whose first set it is.
-fn is_reached(destinations: &[DestinationDraft], set: &SetDraft) -> bool
+pub(crate) fn is_reached(destinations: &[DestinationDraft], set: &SetDraft) -> bool
     ensures { result ≡ is_reached destinations.now set.now }
 {
     destinations.iter().any(|destination| {

@@ -15,11 +15,11 @@ use settings_rows::{
 use signalling_types::Limits;
 
 /// How many timers each node has.
-const TIMERS: usize = 13;
+pub(crate) const TIMERS: usize = 13;
 
 /// A timer with the ticks that were written for it.
 #[derive(Clone, Copy)]
-struct Written {
+pub(crate) struct Written {
     timer: TimerKey,
     ticks: i64,
 }
@@ -67,7 +67,7 @@ pub(crate) fn timer_ticks(timers: &TimersDraft) -> Result<TimerTicks, DraftFault
 }
 
 /// The timers that each node has, in their order.
-fn all_written(timers: &TimersDraft) -> [Written; TIMERS]
+pub(crate) fn all_written(timers: &TimersDraft) -> [Written; TIMERS]
     ensures { result ≡ timers_written timers.now }
 {
     [
@@ -88,7 +88,7 @@ fn all_written(timers: &TimersDraft) -> [Written; TIMERS]
 }
 
 /// The ticks of a timer.
-fn ticks(written: &Written) -> Result<u16, DraftFault>
+pub(crate) fn ticks(written: &Written) -> Result<u16, DraftFault>
     ensures value { IfOk result (λ ticks. ticks ≡ natural written.now.ticks) }
     ensures well { OnOk result (ticks_fault [] written.now ≡ None) }
     ensures fault { IfErr result (λ fault. ticks_fault [] written.now ≡ Some fault) }
@@ -138,7 +138,7 @@ fn optional_ticks(ticks: Option<i64>, timer: TimerKey) -> Result<Option<u16>, Dr
 
 /// The ticks of the bar, if they weren't left out: more than those of T2.
 #[tactic(auto, unfolding(crate::specs::FirstFault::bar_fault))]
-fn bar_ticks(t2: u16, bar: Option<i64>) -> Result<Option<u16>, DraftFault>
+pub(crate) fn bar_ticks(t2: u16, bar: Option<i64>) -> Result<Option<u16>, DraftFault>
     ensures value { IfOk result (λ n. n ≡ option_map natural bar) }
     ensures well { OnOk result (bar_fault t2 bar ≡ None) }
     ensures fault { IfErr result (λ fault. bar_fault t2 bar ≡ Some fault) }

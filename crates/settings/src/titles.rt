@@ -35,7 +35,7 @@ pub(crate) const LAST_NATURE: u16 = 127;
 
 /// What may be in one translation row alone: its key and its digits, as they were written.
 #[derive(PartialEq, Eq, Hash, Drop)]
-struct TitleKey {
+pub(crate) struct TitleKey {
     translation: i64,
     plan: i64,
     nature: i64,
@@ -43,7 +43,7 @@ struct TitleKey {
 }
 
 /// The key and the digits of a translation row, as they were written.
-fn title_key(title: &TitleDraft) -> TitleKey
+pub(crate) fn title_key(title: &TitleDraft) -> TitleKey
     requires { length (string_bytes title.now.digits) ≤ Limits.TITLE_DIGITS }
     ensures { result ≡ title_key title.now }
 {
@@ -84,7 +84,7 @@ fn title_digits(
 }
 
 /// Whether a route is by title; otherwise it is by subsystem number.
-fn is_by_title(route: &str, key: Key) -> Result<bool, DraftFault>
+pub(crate) fn is_by_title(route: &str, key: Key) -> Result<bool, DraftFault>
     ensures value { IfOk result (λ by_title. by_title ≡ bytes_eq route.now (codes "title")) }
     ensures well { OnOk result (route_fault key route.now ≡ None) }
     ensures fault { IfErr result (λ fault. route_fault key route.now ≡ Some fault) }
@@ -123,7 +123,7 @@ fn route(by_title: bool, ssn: Option<Ssn>, key: Key) -> Result<TitleRoute, Draft
 }
 
 /// The translation type, the numbering plan and the nature of address of a translation row.
-fn title_numbers(title: &TitleDraft, place: usize) -> Result<(u8, u8, u8), DraftFault>
+pub(crate) fn title_numbers(title: &TitleDraft, place: usize) -> Result<(u8, u8, u8), DraftFault>
     ensures value { IfOk result (λ n.
         n ≡ (natural title.now.translation, natural title.now.plan, natural title.now.nature)) }
     ensures plan { IfOk result (λ n. n.1 < 2 ^ 4) }
