@@ -1,4 +1,4 @@
--- No link of what is kept leads out exactly if none of the abstract network does.
+-- Each link has its other end in what is kept exactly if each has in the abstract network.
 use Rattle.std.proofs.Common.{◌≡◌, ◌<◌, ℕ, false, true, List, length, Option, Some, None, is_some, refl, ap, sym, subst, ◌∙◌, arith}
 use Rattle.network_rules.specs.Networks.{NetworkNode, NetworkState, first_node, other_end}
 use Rattle.network_rules.specs.Totals.{is_listed}

@@ -1,4 +1,4 @@
--- What holds of each node, and of all together, of a network of which no link leads out.
+-- What holds of each node, and of all together, of a network each of whose links has its other end in it.
 use Rattle.std.proofs.Common.{◌≡◌, ◌<◌, ℕ, List, length, refl, ap, sym, subst, ◌∙◌}
 use Rattle.std.specs.Prelude.{is_some}
 use Rattle.settings_rows.specs.Configuration.{Configuration}
@@ -7,7 +7,8 @@ use Rattle.network_rules.specs.Outside.{Move, after_move}
 use Rattle.network_rules.proofs.Joined.{HasOther, ends-are, has-other}
 use Rattle.network_rules.proofs.Outside.{move-keeps}
 use Rattle.node_law.specs.Alike.{AreLinked, IsRunOfNodes}
-use Rattle.node_law.specs.Ends.{Always}
+use Rattle.node_law.specs.Ends.{Always, TakesOrRefuses}
+use Rattle.node_law.proofs.PassedOn.{all-taken}
 use Rattle.node_law.proofs.Runs.{are-runs}
 use Rattle.network_world.specs.KeptNetworks.{points_of}
 use Rattle.network_world.specs.KeptNodes.{KeptNode}
@@ -16,7 +17,7 @@ use Rattle.network_world.specs.NetworkStands.{IsNetworkReached, NetworkStandsFor
 use Rattle.network_world.proofs.EndToEnd.{joined}
 use Rattle.network_world.proofs.NodeFits.{reached-fit}
 
--- settings never change, so no link leads out ever after
+-- settings never change, so each link has its other end there ever after
 pub linked-on : (w : NetworkState) → AreLinked w → (move : Move) → AreLinked (after_move move w)
 linked-on w linked move = λ point link inside.
     let settings : (point : ℕ) → Configuration = λ k. (w.node k).exchange.settings in
@@ -30,7 +31,11 @@ module _ (k : List KeptNode) (w : NetworkState) (s : NetworkStandsFor k w) where
   settings-same : (point : ℕ) → (w.node point).exchange.settings ≡ r.settings point
   settings-same point = (reached-fit w r point).settings
 
-  -- nor does any where each leads to a node with which its own shares a set
+  -- wherever links lead
+  pub taken : (point : ℕ) → TakesOrRefuses w point
+  taken point = subst (λ (u : NetworkState). TakesOrRefuses u point) (sym r.by) (all-taken r.settings r.moves point)
+
+  -- each has its other end there, where each leads to a node with which its own shares a set
   pub shared-linked : ShareAll w → AreLinked w
   shared-linked all = λ point link inside.
       let its : HasOther r.settings (points_of k) (joined k w s all) point link =

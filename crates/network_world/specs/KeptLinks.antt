@@ -1,4 +1,4 @@
--- Whether a link leads out of the nodes that are kept.
+-- Whether each link has its other end at one of the nodes that are kept.
 use Rattle.std.specs.Prelude.{◌≡◌, ◌<◌, ℕ, true, List, is_some, length, slice_get, Some}
 use Rattle.network_world.specs.KeptNetworks.{kept_other_end}
 use Rattle.network_world.specs.KeptNodes.{KeptNode}

@@ -1,4 +1,5 @@
--- What holds of a network whatever the routes, and however many ways lead to a point, if none of its links leads out.
+-- What holds of a network whatever the routes, and however many ways lead to a point, if each of its links has its
+-- other end in it.
 use Rattle.std.specs.Prelude.{◌≡◌, ℕ, true, List}
 use Rattle.network_rules.specs.Networks.{NetworkState}
 use Rattle.network_rules.specs.Totals.{HaveLostNothing, is_listed}

@@ -48,7 +48,7 @@ fn other_end(nodes: &[Node], near: usize, link: LinkId) -> Option<There>
     Some(There { place, link: other })
 }
 
-/// Whether no link of these nodes leads out: each has its other end at one of them.
+/// Whether each link of these nodes has its other end at one of them.
 pub(crate) fn are_linked(nodes: &[Node]) -> bool
     ensures { IsTrue result ↔ AreAllLinked nodes.now }
 {
@@ -60,7 +60,7 @@ pub(crate) fn are_linked(nodes: &[Node]) -> bool
     true
 }
 
-/// Whether none of the node at a place does. Requires that the node is there.
+/// Whether each link of the node at a place has. Requires that the node is there.
 fn is_linked(nodes: &[Node], near: usize) -> bool
     requires { near < length nodes.now }
     ensures { IsTrue result ↔ IsLinkedAt nodes.now near }

@@ -9,5 +9,6 @@ pub mod Runs
 pub mod Points
 pub mod Counting
 pub mod Ending
+pub mod PassedOn
 pub mod Summing
 pub mod ToPoint

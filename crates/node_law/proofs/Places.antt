@@ -12,7 +12,7 @@ use Rattle.node_moves.specs.Laws.{AreTheirs}
 use Rattle.node_moves.specs.Networks as nodes
 use Rattle.node_moves.specs.Networks.{IsNode, LinkEnd, is_node, points}
 use Rattle.node_moves.proofs.Heard.{IsNamed, code-link}
-use Rattle.network_rules.specs.Networks.{Place, first_network, other_end}
+use Rattle.network_rules.specs.Networks.{Place, first_network}
 use Rattle.network_rules.specs.Totals.{IsPlaced, is_listed}
 use Rattle.network_rules.proofs.Joined.{end_at, ends-are, place_of}
 use Rattle.node_law.specs.Alike.{AreLinked}

@@ -1,4 +1,4 @@
--- So all moves of a network of which no link leads out do what some steps of one of `node_moves` do.
+-- So all moves of a network each of whose links has its other end in it do what some steps of one of `node_moves` do.
 use Rattle.std.proofs.Common.{◌≡◌, ◌≤◌, ℕ, Bool, true, false, not, List, [], ◌∷◌, ◌++◌, length, Option, Some, None, nat_lt, refl, ap, sym, subst, ◌∙◌, arith}
 use Rattle.std.proofs.lemmas.Bool.Decides.{nat_tests}
 use Rattle.std.proofs.lemmas.List.{length-replicate}
@@ -19,7 +19,7 @@ use Rattle.node_moves.specs.Networks as nodes
 use Rattle.node_moves.specs.Networks.{IsNode, is_node}
 use Rattle.pair_rules.specs.Pairs as pairs
 use Rattle.pair_rules.specs.Pairs.{Doing, in_flight}
-use Rattle.network_rules.specs.Networks.{NetworkNode, NetworkState, Step, after_step, changed, did, did_here, first_network, first_node}
+use Rattle.network_rules.specs.Networks.{NetworkNode, NetworkState, after_step, changed, did, did_here, first_network, first_node}
 use Rattle.network_rules.specs.Outside.{HearsOutside, Move, OpensOutside, Within, after_move, after_moves, hears_outside, leads_out, leads_out_by, opens_outside, speaks_within}
 use Rattle.network_rules.specs.Totals.{IsPlaced}
 use Rattle.network_rules.proofs.AllRuns.{did-keeps}

@@ -1,4 +1,4 @@
--- Each move of a network of which no link leads out is a step of one of `node_moves`, or none.
+-- Each move of a network each of whose links has its other end in it is a step of one of `node_moves`, or none.
 use Rattle.std.proofs.Common.{◌≡◌, ◌≢◌, ◌<◌, ◌≤◌, ◌&&◌, ℕ, Bool, true, false, List, [], ◌∷◌, length, Option, Some, None, refl, ap, sym, subst, ◌∙◌}
 use Rattle.std.proofs.Math.Logic.{⊎_elim}
 use Rattle.std.proofs.lemmas.Bool.{cases_eq, cases_lt}
@@ -18,8 +18,7 @@ use Rattle.exchange_rules.specs.declared.wants.Wants.TheVariants.{Nothing, Open,
 use Rattle.node_moves.specs.Networks as nodes
 use Rattle.node_moves.specs.Networks.{IsNode, LinkEnd, is_node}
 use Rattle.node_moves.proofs.Flights as flights
-use Rattle.pair_rules.specs.Pairs.{Doing}
-use Rattle.network_rules.specs.Networks.{NetworkNode, NetworkState, Place, Step, changed, comes_up, did, is_led, may_open_there, opens_first, other_end, reaches, sends, take_frame}
+use Rattle.network_rules.specs.Networks.{NetworkNode, NetworkState, Place, changed, comes_up, is_led, may_open_there, opens_first, other_end, reaches, sends, take_frame}
 use Rattle.network_rules.specs.Totals.{IsPlaced}
 use Rattle.network_rules.proofs.Joined.{end_at, ends-are, place_of}
 use Rattle.network_rules.proofs.Places.{node-other, node-same}

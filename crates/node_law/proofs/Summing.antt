@@ -1,16 +1,11 @@
 -- From end to end.
-use Rattle.std.proofs.Common.{◌≡◌, ◌≢◌, ◌<◌, ◌+◌, ◌-◌, ◌&&◌, ℕ, zero, suc, Bool, true, false, not, List, [], ◌∷◌, length, nat_lt, refl, ap, sym, subst, ◌∙◌, arith}
-use Rattle.std.proofs.lemmas.Bool.{cases_eq}
-use Rattle.std.proofs.Math.Logic.{⊎_elim}
+use Rattle.std.proofs.Common.{◌≡◌, ◌<◌, ◌+◌, ◌-◌, ◌&&◌, ℕ, zero, suc, Bool, true, false, not, List, [], ◌∷◌, length, refl, ap, sym, subst, ◌∙◌, arith}
 use Rattle.std.specs.Prelude.{count_by, filter, if◌then◌else◌, sum_by}
-use Rattle.signalling_types.specs.Message.{Message, is_management}
-use Rattle.signalling_types.specs.declared.limits.TheConstants.Limits.{SIF_OCTETS}
+use Rattle.signalling_types.specs.Message.{Message}
 use Rattle.settings_rows.specs.Configuration.{Configuration}
 use Rattle.settings.specs.Well.{IsWell}
-use Rattle.exchange_rules.specs.Conserving as conserving
-use Rattle.exchange_rules.proofs.Tallies.{append}
 use Rattle.network_moves.specs.Networks.{one_if, sum_to}
-use Rattle.network_moves.proofs.Counts.{count-append, count-cons, count-one}
+use Rattle.network_moves.proofs.Counts.{count-cons}
 use Rattle.node_moves.specs.EndToEnd as ends
 use Rattle.node_moves.specs.EndToEnd.{total}
 use Rattle.node_moves.specs.Fates.{TakesEachIn, came_to, goes_on, is_delivered, is_refused, made_at, met_at, sccp_takes, submitted_at}
@@ -21,22 +16,20 @@ use Rattle.node_moves.specs.Networks.{IsNode, is_node, points}
 use Rattle.node_moves.proofs.Booking.{has-fate}
 use Rattle.node_moves.proofs.EndToEnd.{all-accounted}
 use Rattle.node_moves.proofs.Ending.{ends-once}
-use Rattle.network_rules.specs.Networks.{NetworkNode, NetworkState, Step, after_step, first_network, goes_onward}
-use Rattle.network_rules.specs.Outside.{HearsOutside, Move, OpensOutside, Within, after_moves, hears_outside, opens_outside, speaks_within}
+use Rattle.network_rules.specs.Networks.{NetworkNode, NetworkState, first_network, goes_onward}
+use Rattle.network_rules.specs.Outside.{Move}
 use Rattle.network_rules.specs.Totals.{HaveLostNothing, IsPlaced, received_at, waiting_at}
-use Rattle.network_rules.proofs.AllRuns.{did-keeps}
-use Rattle.network_rules.proofs.Booked.{IsBooked, books-as, onward_of, texts_of, turn-booked}
+use Rattle.network_rules.proofs.Booked.{onward_of, texts_of}
+use Rattle.network_rules.proofs.PassedOn.{all-moves-pass}
 use Rattle.network_rules.proofs.Sums.{sum-agree}
-use Rattle.network_rules.proofs.Turns.{others-of, turn-of}
 use Rattle.node_law.specs.Alike.{AreLinked}
-use Rattle.node_law.specs.Ends.{AreUnbroken, EndsOnce, EndsWhole, accepted_at, came_from, gone_at, waits_at, what_comes_is_taken_or_refused}
+use Rattle.node_law.specs.Ends.{AreUnbroken, EndsWhole, accepted_at, came_from, gone_at, waits_at}
 use Rattle.node_law.specs.Sums as sums
 use Rattle.node_law.proofs.Counting.{arrived-same, came-same}
 use Rattle.node_law.proofs.Ending.{kept, lossless-unbroken, once-at, run, theirs, unbroken-there, v, w, whole-at}
 use Rattle.node_law.proofs.Places.{listed-node, node-listed}
+use Rattle.node_law.proofs.PassedOn.{taken-or-refused}
 use Rattle.node_law.proofs.Points.{AreAll, sum-listed, sum-nothing, sum-plus}
-use Rattle.node_law.proofs.Runs.{none-out}
-use Rattle.node_law.proofs.Steps.{AreKept}
 
 -- ---- what came from all nodes came to all
 
@@ -85,42 +78,7 @@ module _ (settings : (point : ℕ) → Configuration) (u : nodes.NetworkState) (
       (λ x fx. balance x (once x fx) (takes x)) points)
       (accounted.with_sccp test)
 
--- ---- what is booked at each node
-
--- user messages no longer than nodes take in
-abbrev is_short : Message → Bool
-is_short m = not (nat_lt SIF_OCTETS (length m.sif))
-
-abbrev of_short : (Message → Bool) → Message → Bool
-of_short test m = is_short m && test m
-
--- as another definition counts them
-short-users : (test : Message → Bool) (ms : List Message) → users_that test ms ≡ conserving.users_that (of_short test) ms
-short-users test [] = refl
-short-users test (m ∷ ms) =
-    count-append (λ k. is_user k && test k) (m ∷ []) ms ∙ ap (λ (n : ℕ). n + users_that test ms) (alone (is_management m) refl) ∙ ap (λ (n : ℕ). conserving.users_that (of_short test) (m ∷ []) + n) (short-users test ms)
-    ∙ sym (append (of_short test) (m ∷ []) ms)
-  where
-    shut : (a t : Bool) → ((a && false) && t) ≡ false
-    shut true t = refl
-    shut false t = refl
-
-    open-so : (a t : Bool) → ((a && true) && t) ≡ (a && t)
-    open-so true t = refl
-    open-so false t = refl
-
-    alone : (b : Bool) → is_management m ≡ b → users_that test (m ∷ []) ≡ conserving.users_that (of_short test) (m ∷ [])
-    alone true e =
-        count-one (λ k. is_user k && test k) m
-        ∙ ap (λ (b : Bool). one_if ((is_short m && not b) && test m)) e
-        ∙ ap one_if (shut (is_short m) (test m))
-        ∙ ap (λ (b : Bool). count_by (of_short test) (if not b then m ∷ [] else [])) (sym e)
-    alone false e =
-        count-one (λ k. is_user k && test k) m
-        ∙ ap (λ (b : Bool). one_if ((is_short m && not b) && test m)) e
-        ∙ ap one_if (open-so (is_short m) (test m))
-        ∙ sym (count-one (of_short test) m)
-        ∙ ap (λ (b : Bool). count_by (of_short test) (if not b then m ∷ [] else [])) (sym e)
+-- ---- at each node
 
 -- those that pass a test, and the others
 split : (test on : Message → Bool) (ms : List Message) → count_by test ms ≡ count_by test (filter (λ m. not (on m)) ms) + count_by test (filter on ms)
@@ -146,24 +104,6 @@ split test on (m ∷ ms) = by (on m) refl (split test on ms)
     by false e rest =
         count-cons test m ms ∙ before (one_if (test m)) (count_by test ms) (count_by test off) (count_by test its) rest ∙ ap (λ (n : ℕ). n + count_by test its) (sym (count-cons test m off))
         ∙ ap (λ (b : Bool). count_by test (if not b then m ∷ off else off) + count_by test (if b then m ∷ its else its)) (sym e)
-
-module _ (of : Message → Bool) (settings : (point : ℕ) → Configuration) (numbers : List ℕ) (placed : IsPlaced settings numbers) (linked : AreLinked (first_network settings)) where
-  next-booked : (step : Step) (u : NetworkState) (y : ℕ) → IsBooked of (u.node y) → IsBooked of ((after_step step u).node y)
-  next-booked step u y b =
-      ⊎_elim
-      (λ (same : y ≡ step.point).
-      subst (λ (n : ℕ). IsBooked of (u.node n) → IsBooked of ((after_step step u).node n)) (sym same)
-      (turn-booked of u (after_step step u) step.point (turn-of step.point u step.what) (did-keeps step.what step.point u step.point)) b)
-      (λ (far : y ≢ step.point). books-as of (u.node y) ((after_step step u).node y) (others-of step.point u y far step.what) (did-keeps step.what step.point u y) b)
-      (cases_eq y step.point)
-
-  all-booked : (moves : List Move) (u : NetworkState) (y : ℕ) → AreKept settings u → IsBooked of (u.node y) → IsBooked of ((after_moves moves u).node y)
-  all-booked [] u y k b = b
-  all-booked (Within step ∷ moves) u y k b = all-booked moves (after_step step u) y (λ other. did-keeps step.what step.point u other ∙ k other) (next-booked step u y b)
-  all-booked (OpensOutside point link ∷ moves) u y k b =
-      subst (λ (out : Bool). IsBooked of ((after_moves moves (opens_outside out point link u)).node y)) (sym (none-out settings numbers placed linked u k point link)) (all-booked moves u y k b)
-  all-booked (HearsOutside point link text ∷ moves) u y k b =
-      subst (λ (out : Bool). IsBooked of ((after_moves moves (hears_outside out (speaks_within u text) point link text u)).node y)) (sym (none-out settings numbers placed linked u k point link)) (all-booked moves u y k b)
 
 -- ---- over all nodes
 
@@ -202,13 +142,7 @@ module _ (settings : (point : ℕ) → Configuration) (numbers : List ℕ) (move
 
     pub booked : (y : ℕ) → users_that test (z.node y).accepted + users_that test (z.node y).refused
         ≡ users_that test (z.node y).entered + users_that test (onward_of (z.node y).exchange.settings (texts_of (z.node y).arrived))
-    booked y =
-        two (short-users test (z.node y).accepted) (short-users test (z.node y).refused)
-        ∙ all-booked (of_short test) settings numbers placed linked moves (first_network settings) y (λ k. refl) refl
-        ∙ sym (two (short-users test (z.node y).entered) (short-users test (onward_of (z.node y).exchange.settings (texts_of (z.node y).arrived))))
-      where
-        two : {a b s t : ℕ} → a ≡ s → b ≡ t → a + b ≡ s + t
-        two e f = omega (arith, e, f)
+    booked y = taken-or-refused test (z.node y) (all-moves-pass (first_network settings) moves y)
 
     all-booked-so : each (λ x. x.accepted) + each (λ x. x.refused) ≡ each (λ x. x.entered) + each (λ x. onward_of x.exchange.settings (texts_of x.arrived))
     all-booked-so =
@@ -217,7 +151,7 @@ module _ (settings : (point : ℕ) → Configuration) (numbers : List ℕ) (move
         (λ y. users_that test (z.node y).entered + users_that test (onward_of (z.node y).exchange.settings (texts_of (z.node y).arrived))) numbers (λ y its. booked y)
         ∙ sum-plus (λ y. users_that test (z.node y).entered) (λ y. users_that test (onward_of (z.node y).exchange.settings (texts_of (z.node y).arrived))) numbers
 
-    received : each (λ x. texts_of x.arrived) ≡ sums.total test numbers (received_at z) + each (λ x. onward_of x.exchange.settings (texts_of x.arrived))
+    received : each (λ x. texts_of x.arrived) ≡ sums.users_in_all test numbers (received_at z) + each (λ x. onward_of x.exchange.settings (texts_of x.arrived))
     received =
         sum-agree (λ y. users_that test (texts_of (z.node y).arrived)) (λ y. users_that test (received_at z y) + users_that test (onward_of (z.node y).exchange.settings (texts_of (z.node y).arrived))) numbers
         (λ y its. split (λ m. is_user m && test m) (goes_onward (z.node y).exchange.settings) (texts_of (z.node y).arrived))
@@ -234,11 +168,11 @@ module _ (settings : (point : ℕ) → Configuration) (numbers : List ℕ) (move
     last-sum acc ref ent onw arr rec wait gone from e f g h = omega (arith, e, f, g, h)
 
     pub accounted : AreUnbroken numbers z
-        → sums.total test numbers (λ y. (z.node y).entered)
-        ≡ sums.total test numbers (received_at z) + sums.total test numbers (waiting_at z) + sums.total test numbers (λ y. (z.node y).refused) + sum_by (gone_at z test) numbers
+        → sums.users_in_all test numbers (λ y. (z.node y).entered)
+        ≡ sums.users_in_all test numbers (received_at z) + sums.users_in_all test numbers (waiting_at z) + sums.users_in_all test numbers (λ y. (z.node y).refused) + sum_by (gone_at z test) numbers
     accounted none =
         last-sum (each (λ x. x.accepted)) (each (λ x. x.refused)) (each (λ x. x.entered)) (each (λ x. onward_of x.exchange.settings (texts_of x.arrived))) (each (λ x. texts_of x.arrived))
-        (sums.total test numbers (received_at z)) (sums.total test numbers (waiting_at z)) (sum_by (gone_at z test) numbers) (sum_by (came_from z test) numbers)
+        (sums.users_in_all test numbers (received_at z)) (sums.users_in_all test numbers (waiting_at z)) (sum_by (gone_at z test) numbers) (sum_by (came_from z test) numbers)
         all-booked-so received (ended none) (come none)
 
     pub none-gone : HaveLostNothing numbers z → sum_by (gone_at z test) numbers ≡ 0
@@ -251,9 +185,6 @@ module _ (settings : (point : ℕ) → Configuration) (numbers : List ℕ) (move
       where
         less : (a b c : ℕ) → a ≡ b + c → a - (b + c) ≡ 0
         less a b c e = omega (arith, e)
-
-pub all-taken : what_comes_is_taken_or_refused
-all-taken settings numbers moves placed linked point = record { once = λ test. booked settings numbers moves placed linked test point }
 
 pub all-summed : sums.each_message_is_accounted_for
 all-summed settings numbers moves placed linked none = record { once = λ test. accounted settings numbers moves placed linked test none }

@@ -20,7 +20,7 @@ use Rattle.network_rules.proofs.Booked.{texts_of}
 use Rattle.network_rules.proofs.Sums.{sum-agree, sum-once}
 use Rattle.node_law.specs.Alike.{AreLinked}
 use Rattle.node_law.specs.Ends.{AreUnbroken, gone_at}
-use Rattle.node_law.specs.Sums.{messages_come_from_end_to_end, nothing_is_lost_from_end_to_end, total}
+use Rattle.node_law.specs.Sums.{messages_come_from_end_to_end, nothing_is_lost_from_end_to_end, users_in_all}
 use Rattle.node_law.proofs.Ending.{kept, lossless-unbroken, w}
 use Rattle.node_law.proofs.Points.{sum-nothing}
 use Rattle.node_law.proofs.Summing.{accounted, none-gone}
@@ -112,7 +112,7 @@ module _ (settings : (point : ℕ) → Configuration) (numbers : List ℕ) (move
       (λ (far : other ≢ point). none-at other its far ∙ ap (λ (b : Bool). 0 + (if b then its_count else 0)) (sym (ne_eqb point other (λ same. far (sym same)))))
       (cases_eq other point)
 
-  all-there : total those numbers (received_at z) ≡ users_that those (received_at z c.own)
+  all-there : users_in_all those numbers (received_at z) ≡ users_that those (received_at z c.own)
   all-there =
       sum-agree (λ other. users_that those (received_at z other)) (λ other. 0 + (if nat_eq point other then its_count else 0)) numbers at-point
       ∙ sum-once (λ other. 0) point its_count numbers (placed.once point listed)
@@ -121,15 +121,15 @@ module _ (settings : (point : ℕ) → Configuration) (numbers : List ℕ) (move
       ∙ ap (λ (n : ℕ). users_that those (received_at z n)) (sym (own-is point))
 
   come : AreUnbroken numbers z
-      → total those numbers (λ y. (z.node y).entered)
-      ≡ users_that those (received_at z c.own) + total those numbers (waiting_at z) + total those numbers (λ y. (z.node y).refused) + sum_by (gone_at z those) numbers
+      → users_in_all those numbers (λ y. (z.node y).entered)
+      ≡ users_that those (received_at z c.own) + users_in_all those numbers (waiting_at z) + users_in_all those numbers (λ y. (z.node y).refused) + sum_by (gone_at z those) numbers
   come none =
       accounted settings numbers moves placed linked those none
-      ∙ ap (λ (n : ℕ). n + total those numbers (waiting_at z) + total those numbers (λ y. (z.node y).refused) + sum_by (gone_at z those) numbers) all-there
+      ∙ ap (λ (n : ℕ). n + users_in_all those numbers (waiting_at z) + users_in_all those numbers (λ y. (z.node y).refused) + sum_by (gone_at z those) numbers) all-there
 
   come-whole : HaveLostNothing numbers z
-      → total those numbers (λ y. (z.node y).entered)
-      ≡ users_that those (received_at z c.own) + total those numbers (waiting_at z) + total those numbers (λ y. (z.node y).refused)
+      → users_in_all those numbers (λ y. (z.node y).entered)
+      ≡ users_that those (received_at z c.own) + users_in_all those numbers (waiting_at z) + users_in_all those numbers (λ y. (z.node y).refused)
   come-whole none = come (lossless-unbroken settings numbers moves placed linked none) ∙ last _ _ (none-gone settings numbers moves placed linked those none)
     where
       last : (a b : ℕ) → b ≡ 0 → a + b ≡ a

@@ -1,4 +1,4 @@
--- A network of `network_rules` of which no link leads out does what one of `node_moves` does.
+-- A network of `network_rules` each of whose links has its other end in it has the nodes of one of `node_moves`.
 use Rattle.std.specs.Prelude.{◌≡◌, ◌<◌, ℕ, true, nat_eq, List, filter, is_some, length, map}
 use Rattle.signalling_types.specs.Message.{Message}
 use Rattle.settings_rows.specs.Configuration.{Configuration}
@@ -10,7 +10,7 @@ use Rattle.network_rules.specs.Networks.{Arrival, NetworkNode, NetworkState, end
 use Rattle.network_rules.specs.Outside.{Move, after_moves}
 use Rattle.network_rules.specs.Totals.{IsPlaced}
 
--- no link leads out: the other end of each is a link of a node
+-- each link has its other end in the network: a link of a node, with its code, that leads back
 abbrev pub AreLinked : NetworkState → Type 0
 AreLinked w =
     (point link : ℕ) → link < length (w.node point).exchange.settings.links → is_some (other_end w point link) ≡ true
@@ -19,8 +19,9 @@ AreLinked w =
 abbrev pub came_by : (link : ℕ) → List Arrival → List Message
 came_by link arrived = map (λ a. a.message) (filter (λ a. nat_eq a.link link) arrived)
 
--- two nodes are alike: they have the same state, with the same in flight to them, and may follow alike; they accepted
--- the same messages, and the same came to them by each link
+-- two nodes are alike: they have the same state, but for reroutings, with the same in flight to them, and may follow
+-- alike; they accepted the same messages, and the same came to them by each link. Of what entered, and of what was
+-- refused, nothing is said
 pub record AreAlike (x : NetworkNode) (y : nodes.NetworkNode) : Type 0 where
   pub node : x.exchange.node ≡ y.node
   pub statuses : (link : ℕ) → in_flight x.incoming.statuses link ≡ y.statuses link
@@ -29,7 +30,7 @@ pub record AreAlike (x : NetworkNode) (y : nodes.NetworkNode) : Type 0 where
   pub accepted : x.accepted ≡ y.accepted
   pub came : (link : ℕ) → came_by link x.arrived ≡ messages_of (y.came link)
 
--- some steps lead to a network of `node_moves`, of nodes with the same settings, whose nodes are alike
+-- there is a network of `node_moves`, of nodes with the same settings, whose nodes are alike after some steps
 pub record IsRunOfNodes (w : NetworkState) : Type 0 where
   pub settings : (point : ℕ) → Configuration
   pub same : (point : ℕ) → (w.node point).exchange.settings ≡ settings point
@@ -38,7 +39,7 @@ pub record IsRunOfNodes (w : NetworkState) : Type 0 where
   pub alike : (point : ℕ) → IsNode settings point → AreAlike (w.node point)
       ((nodes.after_steps settings steps (nodes.first_network settings)).node point)
 
--- so do all moves
+-- so it is after all moves
 abbrev pub runs_are_runs_of_nodes : Type 0
 runs_are_runs_of_nodes =
     (settings : (point : ℕ) → Configuration) (points : List ℕ) (moves : List Move) → IsPlaced settings points →

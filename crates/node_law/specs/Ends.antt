@@ -1,12 +1,13 @@
 -- The node law of a network: what becomes of the user messages that each node accepted, whatever the routes, and
 -- however many ways lead to a point.
-use Rattle.std.specs.Prelude.{◌≡◌, ◌≤◌, ◌+◌, ◌-◌, ℕ, Bool, true, List, [], filter, length, map, min, Option, Some, None}
+use Rattle.std.specs.Prelude.{◌≡◌, ◌≤◌, ◌+◌, ◌-◌, ℕ, Bool, true, List, [], length, min, Option, Some, None}
 use Rattle.signalling_types.specs.Message.{Message}
 use Rattle.settings_rows.specs.Configuration.{Configuration}
 use Rattle.network_moves.specs.Networks.{sum_to}
 use Rattle.node_moves.specs.Laws.{most, users_that}
-use Rattle.network_rules.specs.Networks.{NetworkState, Place, first_network, goes_onward, other_end}
+use Rattle.network_rules.specs.Networks.{NetworkState, Place, first_network, other_end}
 use Rattle.network_rules.specs.Outside.{Move, after_moves}
+use Rattle.network_rules.specs.Paths.{onward_at}
 use Rattle.network_rules.specs.Totals.{HaveLostNothing, IsPlaced, is_listed, waiting_at}
 use Rattle.node_law.specs.Alike.{AreLinked, came_by}
 
@@ -51,19 +52,12 @@ module _ (w : NetworkState) where
     pub once : (test : Message → Bool) →
         accepted_at test point ≡ came_from test point + waits_at test point
 
-  -- what came to a node for another point
-  abbrev pub came_onward : (point : ℕ) → List Message
-  came_onward point =
-      filter
-      (goes_onward (w.node point).exchange.settings)
-      (map (λ a. a.message) (w.node point).arrived)
-
   -- by any test, what a node accepted, and what it refused of the messages for other points, is what entered the
   -- network there, and what came for other points. So the node laws of neighbours are joined
-  pub record TakesEachIn (point : ℕ) : Type 0 where
+  pub record TakesOrRefuses (point : ℕ) : Type 0 where
     pub once : (test : Message → Bool) →
         accepted_at test point + users_that test (w.node point).refused
-        ≡ users_that test (w.node point).entered + users_that test (came_onward point)
+        ≡ users_that test (w.node point).entered + users_that test (onward_at (w.node point))
 
 -- none of these nodes counts a break
 abbrev pub AreUnbroken : (points : List ℕ) → NetworkState → Type 0
@@ -72,15 +66,17 @@ AreUnbroken points w =
 
 -- ---- always
 
--- after every list of moves of a network of which no link leads out
+-- after every list of moves of a network each of whose links has its other end in it
 abbrev pub Always : (Statement : (points : List ℕ) → NetworkState → Type 0) → Type 0
 Always Statement =
     (settings : (point : ℕ) → Configuration) (points : List ℕ) (moves : List Move) → IsPlaced settings points →
     AreLinked (first_network settings) → Statement points (after_moves moves (first_network settings))
 
--- whatever was lost or broken
+-- after every list of moves of any network, whatever was lost or broken, and whatever comes by links that lead out
 abbrev pub what_comes_is_taken_or_refused : Type 0
-what_comes_is_taken_or_refused = Always (λ points w. (point : ℕ) → TakesEachIn w point)
+what_comes_is_taken_or_refused =
+    (settings : (point : ℕ) → Configuration) (moves : List Move) (point : ℕ) →
+    TakesOrRefuses (after_moves moves (first_network settings)) point
 
 -- while no node counts a break, at each of them
 abbrev pub each_message_ends_once : Type 0

@@ -1,6 +1,6 @@
-//! What holds after every list of moves of a network of which no link leads out, of any shape and with any routes
-//! (`specs/Ends.antt`, `Sums.antt`). No node starts again, and nothing comes from outside. Each node is told the point
-//! at which it is, its settings are checked, and each of its links has its other end in the network, with its code.
+//! What holds after every list of moves of a network each of whose links has its other end in it (`AreLinked`), of any
+//! shape and with any routes (`specs/Ends.antt`, `Sums.antt`). No node starts again, and nothing comes from outside.
+//! Each node is told the point at which it is, and its settings are checked.
 //!
 //! The laws are sums: each compares numbers of user messages, by any test. So equal messages aren't told apart, and one
 //! that was accepted twice may come twice. Messages whose SIF is longer than 272 octets aren't counted.
@@ -10,9 +10,9 @@ ghost use Rattle.node_law.specs.Ends.{each_message_ends_once, nodes_lose_nothing
 ghost use Rattle.node_law.specs.Sums.{each_message_is_accounted_for, messages_come_from_end_to_end};
 ghost use Rattle.node_law.specs.Sums.{networks_lose_nothing, nothing_is_lost_from_end_to_end};
 
-/// Such a network does what one of `node_moves` does: by some steps of that the same nodes come to be, with the same in
-/// flight to them. They accepted the same messages, and the same came to them by each link. So the laws of `node_moves`
-/// hold of it, those too that speak of what these networks don't book: fates, and what is named as lost.
+/// There is a network of `node_moves`, for which the laws of that hold, that has the same nodes after some steps, with
+/// the same in flight to them. They accepted the same messages, and the same came to them by each link. It isn't said
+/// that what entered, and what was refused, is the same; nor that the steps are those of the moves.
 pub fn networks_are_those_of_nodes()
     ensures { runs_are_runs_of_nodes }
 {}
@@ -20,14 +20,16 @@ pub fn networks_are_those_of_nodes()
 /// The node law. While no node counts a break (`times_broken`): of user messages, by any test, those that came from a
 /// node to its neighbours and those that wait there, in Held or on a link, are together no more than it accepted. So a
 /// message that it accepted once comes to one neighbour at most, once at most, and doesn't wait there if it came. The
-/// rest, which neither came nor wait, are gone: by any test, no more than the node counts as lost.
+/// rest, which neither came nor wait, are gone: by any test, no more than the node counts as lost, or that count is at
+/// its end, 2^64 - 1.
 pub fn each_message_ends_once()
     ensures { each_message_ends_once }
 {}
 
 /// What comes to a node for another point it accepts, unless it refuses it. So the node laws of neighbours are joined.
-/// Whatever was lost or broken: by any test, the user messages that a node accepted, and those for other points that
-/// came and that it refused, are together those that entered the network there, and those that came for other points.
+/// Whatever was lost or broken, and of any network, also one that links leave: by any test, the user messages that a
+/// node accepted, and those for other points that came and that it refused, are together those that entered the network
+/// there, and those that came for other points.
 pub fn what_comes_is_taken_or_refused()
     ensures { what_comes_is_taken_or_refused }
 {}

@@ -1,4 +1,4 @@
-//! What `node_moves` says of networks of any shape, of those of `network_rules`.
+//! The node law, and the sums from end to end, of networks of `network_rules` of any shape.
 #![tactic(auto)]
 
 pub mod laws;

@@ -50,7 +50,8 @@ impl Network {
     }
 
     /// The same, of nodes whose links may lead out, or to a node with which their own shares no set: what two nodes
-    /// that share a set promise each other stands, but not what holds from end to end.
+    /// that share a set promise each other stands; what holds from end to end is said only if each link has its other end
+    /// in the network (`is_linked`, `node_laws`).
     ///
     /// SamePoint where two of them are for the same point; NoMemory comes only where a growth was refused.
     pub fn new_part(alloc: Global, settings: Vec<Settings>) -> Result<Network, NetworkFault>

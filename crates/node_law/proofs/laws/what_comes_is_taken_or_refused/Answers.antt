@@ -1,4 +1,4 @@
-use Rattle.node_law.proofs.Summing.{all-taken}
+use Rattle.node_law.proofs.PassedOn.{all-taken}
 use Rattle.node_law.proofs.laws.what_comes_is_taken_or_refused.Goals as goal
 
 pub returns : goal.returns
