@@ -4,6 +4,7 @@ pub mod Frames
 pub mod Same
 pub mod Doings
 pub mod Places
+pub mod Mated
 pub mod Steps
 pub mod Runs
 pub mod Points

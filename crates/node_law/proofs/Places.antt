@@ -12,7 +12,7 @@ use Rattle.node_moves.specs.Laws.{AreTheirs}
 use Rattle.node_moves.specs.Networks as nodes
 use Rattle.node_moves.specs.Networks.{IsNode, LinkEnd, is_node, points}
 use Rattle.node_moves.proofs.Heard.{IsNamed, code-link}
-use Rattle.network_rules.specs.Networks.{Place, first_network}
+use Rattle.network_rules.specs.Networks.{Place, first_network, other_end}
 use Rattle.network_rules.specs.Totals.{IsPlaced, is_listed}
 use Rattle.network_rules.proofs.Joined.{end_at, ends-are, place_of}
 use Rattle.node_law.specs.Alike.{AreLinked}
@@ -115,3 +115,18 @@ module _ (settings : (point : ℕ) → Configuration) (numbers : List ℕ) (h : 
       well = λ point fx. h.well point (node-listed point fx);
       joined = λ point link fx inside. ap is_some (sym (ends-agree point link inside)) ∙ led-some (end_at settings point link) ∙ linked-end point link inside;
     }
+
+  -- and those laws ask no less
+  pub linked-of : AreTheirs settings → AreLinked (first_network settings)
+  linked-of theirs point link inside = by (is_node settings point) refl
+    where
+      none-less : (k l : ℕ) → k < l → l ≡ 0 → ⊥
+      none-less k l less none = omega (arith, less, none)
+
+      by : (q : Bool) → is_node settings point ≡ q → is_some (other_end (first_network settings) point link) ≡ true
+      by true fx =
+          ap is_some (ends-are settings (first_network settings) (λ k. refl) point link)
+          ∙ sym (led-some (end_at settings point link))
+          ∙ ap is_some (ends-agree point link inside)
+          ∙ theirs.joined point link fx inside
+      by false none = absurd (none-less link (length (settings point).links) inside (ap length (no-links point none)))

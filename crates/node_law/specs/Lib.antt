@@ -1,3 +1,4 @@
 pub mod Alike
 pub mod Ends
+pub mod Mated
 pub mod Sums

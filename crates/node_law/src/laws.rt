@@ -7,12 +7,13 @@
 
 ghost use Rattle.node_law.specs.Alike.{runs_are_runs_of_nodes};
 ghost use Rattle.node_law.specs.Ends.{each_message_ends_once, nodes_lose_nothing, what_comes_is_taken_or_refused};
+ghost use Rattle.node_law.specs.Mated.{IsMatedPairLinked};
 ghost use Rattle.node_law.specs.Sums.{each_message_is_accounted_for, messages_come_from_end_to_end};
 ghost use Rattle.node_law.specs.Sums.{networks_lose_nothing, nothing_is_lost_from_end_to_end};
 
-/// There is a network of `node_moves`, for which the laws of that hold, that has the same nodes after some steps, with
-/// the same in flight to them. They accepted the same messages, and the same came to them by each link. It isn't said
-/// that what entered, and what was refused, is the same; nor that the steps are those of the moves.
+/// There is a network of `node_moves`, for which the laws of that hold, that has the same nodes after some steps, but
+/// for reroutings, with the same in flight to them. They accepted the same messages, and the same came to them by each
+/// link. It isn't said that what entered, and what was refused, is the same; nor that the steps are those of the moves.
 pub fn networks_are_those_of_nodes()
     ensures { runs_are_runs_of_nodes }
 {}
@@ -55,4 +56,9 @@ pub fn nothing_is_lost_while_no_flag_is_raised()
     ensures nodes { nodes_lose_nothing }
     ensures all { networks_lose_nothing }
     ensures ends { nothing_is_lost_from_end_to_end }
+{}
+
+/// What these laws ask is met where two ways lead to a point: by the mated pair of `node_moves`.
+pub fn a_mated_pair_is_linked()
+    ensures { IsMatedPairLinked }
 {}

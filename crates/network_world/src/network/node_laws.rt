@@ -46,8 +46,8 @@ impl Network {
         ensures none_gone { HoldsLossless self.now (AtEach self.now (λ point w. EndsWhole w point)) }
         ensures whole { HoldsLossless self.now (IsWhole (points_of self.now)) }
         ensures each_whole { HoldsLossless self.now (ToEach ComeWhole (points_of self.now)) }
-        // There is a network of `node_moves`, for which the laws of that hold, with the same nodes, the same in flight
-        // to them, and the same messages accepted, and come by each link.
+        // There is a network of `node_moves`, for which the laws of that hold, with the same nodes, but for reroutings,
+        // the same in flight to them, and the same messages accepted, and come by each link.
         ensures runs { HoldsLinked self.now IsRunOfNodes }
         // Each link has its other end there where each leads to a node with which its own shares a set, as in what
         // `new` gives,
