@@ -162,7 +162,7 @@ kind_members log kinds = flat_map (kind_member log) kinds
 
 -- ---- the node
 
--- the version, and the time since the start in milliseconds
+-- the version, the time since the start in milliseconds, and the longest turn in microseconds
 abbrev pub program_members : (times : Times) → List Token
 program_members times =
     text_member (codes "version") VERSION.now ++ number_member (codes "uptime_ms") times.uptime_ms

@@ -4,5 +4,6 @@ use Rattle.status_page.proofs.state.put_program.Goals as goal
 
 pub returns : goal.returns
 returns c =
-    behind c.put_number.result c.args.out.now c.put_text.new.out c.put_number.new.out _ _ c.in_ok-put_text.ensures
-    (c.put_number.ensures)
+    behind c.put_number-2.result c.args.out.now c.put_text.new.out c.put_number-2.new.out _ _ c.in_ok-put_text.ensures
+    (behind c.put_number-2.result c.put_text.new.out c.put_number.new.out c.put_number-2.new.out _ _ c.in_ok-put_number.ensures
+    (c.put_number-2.ensures))
