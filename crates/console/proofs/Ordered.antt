@@ -2,7 +2,7 @@
 use Rattle.std.proofs.Common.{◌≡◌, ℕ, List, [], ◌∷◌, ◌<◌, length, arith, refl}
 use Rattle.std.specs.Prelude.{None, if◌then◌else◌, bytes_eq, codes}
 use Rattle.std.specs.Option.{option_map}
-use Rattle.point_format.specs.declared.point.PointFormat.{PointFormat}
+use Rattle.settings.specs.declared.point.PointFormat.{PointFormat}
 use Rattle.console.specs.Words.{words}
 use Rattle.console.specs.TitleWords.{row_written}
 use Rattle.console.specs.Orders.{ToAddTitle, title_order_about}

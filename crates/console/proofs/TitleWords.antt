@@ -3,7 +3,7 @@ use Rattle.std.proofs.Common.{◌≡◌, ℕ, List, [], ◌∷◌, ◌<◌, leng
 use Rattle.std.specs.Prelude.{None}
 use Rattle.console.specs.Words.{words}
 use Rattle.console.specs.TitleWords.{changed_by}
-use Rattle.settings_rows.specs.Configuration.{TitleEntry}
+use Rattle.settings.specs.Configuration.{TitleEntry}
 use Rattle.console.proofs.Parting.{parted-some}
 
 sixth_word : (row : TitleEntry) (word plan nature removed added : List ℕ) (ws : List (List ℕ)) → 0 < length ws → changed_by row (word ∷ plan ∷ nature ∷ removed ∷ added ∷ ws) ≡ None

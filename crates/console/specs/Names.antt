@@ -1,7 +1,7 @@
 -- The names of links and sets, by their numbers.
 use Rattle.std.specs.Prelude.{ℕ, List, [], slice_get, unwrap_or}
 use Rattle.std.specs.Option.{option_map}
-use Rattle.settings_rows.specs.Configuration.{Configuration}
+use Rattle.settings.specs.Configuration.{Configuration}
 
 -- the name of a link; nothing if no link has this number
 abbrev pub name_in : Configuration → ℕ → List ℕ

@@ -2,14 +2,14 @@
 use Rattle.std.specs.Prelude.{ℕ, Bool, not, nat_eq, if◌then◌else◌, List, [], ◌∷◌, length, bytes_eq, codes}
 use Rattle.std.specs.Prelude.{Option, None, Some}
 use Rattle.std.specs.Option.{option_map, option_and_then}
-use Rattle.settings_rows.specs.Configuration.{Configuration, TitleEntry}
+use Rattle.settings.specs.Configuration.{Configuration, TitleEntry}
 use Rattle.sccp_codec.specs.declared.title.TitleKey.{TitleKey}
 use Rattle.settings.specs.Readings.{link_place}
 use Rattle.exchange.specs.declared.event.Order.{Order}
 use Rattle.exchange.specs.declared.event.Order.TheVariants.{Activate, Deactivate, Release, AddTitle, RemoveTitle}
 use Rattle.console.specs.declared.order.OrderText.{OrderText}
 use Rattle.console.specs.declared.order.OrderText.TheVariants as text
-use Rattle.point_format.specs.declared.point.PointFormat.{PointFormat}
+use Rattle.settings.specs.declared.point.PointFormat.{PointFormat}
 use Rattle.console.specs.TitleWords.{name_written, row_written}
 use Rattle.console.specs.declared.title_words.RowName.{RowName}
 use Rattle.console.specs.declared.commands.Command.{Command}

@@ -2,9 +2,9 @@
 use Rattle.std.specs.Prelude.{◌≡◌, ℕ, zero, suc, ◌+◌, Bool, true, false, ◌++◌, List, [], ◌∷◌, map, codes, decimal, slice_get, nat_lt, if◌then◌else◌, Option, Some, None}
 use Rattle.std.specs.Prelude.{not, ◌||◌, nat_eq, length, is_some}
 use Rattle.std.specs.Option.{option_map, option_and_then}
-use Rattle.settings_rows.specs.Configuration.{Configuration, ChangeEntry, TitleEntry}
-use Rattle.settings_rows.specs.declared.title_row.TitleRoute.{TitleRoute}
-use Rattle.settings_rows.specs.declared.title_row.TitleRoute.TheVariants as route
+use Rattle.settings.specs.Configuration.{Configuration, ChangeEntry, TitleEntry}
+use Rattle.settings.specs.declared.title_row.TitleRoute.{TitleRoute}
+use Rattle.settings.specs.declared.title_row.TitleRoute.TheVariants as route
 use Rattle.signalling_types.specs.Causes.{cause_number, cause_name}
 use Rattle.signalling_types.specs.Notices.{frame_fault_number, frame_fault_name, failure_name}
 use Rattle.signalling_types.specs.declared.cause.Cause.{Cause}
@@ -17,8 +17,8 @@ use Rattle.signalling_types.specs.declared.notice.ChangeoverTimer.TheVariants.{T
 use Rattle.signalling_types.specs.declared.notice.FailureReason.{FailureReason}
 use Rattle.signalling_types.specs.declared.notice.FrameFault.{FrameFault}
 use Rattle.signalling_types.specs.declared.notice.LateTimer.TheVariants.{T3, T4}
-use Rattle.point_format.specs.Points.{point_text}
-use Rattle.point_format.specs.declared.point.PointFormat.{PointFormat}
+use Rattle.settings.specs.Points.{point_text}
+use Rattle.settings.specs.declared.point.PointFormat.{PointFormat}
 use Rattle.routes.specs.Routes.{status_name}
 use Rattle.exchange.specs.declared.view.LinkView.{LinkView}
 use Rattle.exchange.specs.declared.view.RouteView.{RouteView}

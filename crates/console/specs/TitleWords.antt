@@ -4,14 +4,14 @@ use Rattle.std.specs.Prelude.{length, Option, None, Some}
 use Rattle.std.specs.List.{list_all}
 use Rattle.std.specs.Option.{option_map, option_and_then}
 use Rattle.signalling_types.specs.declared.limits.TheConstants.Limits.{TITLE_DIGITS}
-use Rattle.settings_rows.specs.Configuration.{ChangeEntry, TitleEntry, unchanged}
-use Rattle.settings_rows.specs.declared.title_row.TitleRoute.{TitleRoute}
-use Rattle.settings_rows.specs.declared.title_row.TitleRoute.TheVariants.{Title, Ssn}
+use Rattle.settings.specs.Configuration.{ChangeEntry, TitleEntry, unchanged}
+use Rattle.settings.specs.declared.title_row.TitleRoute.{TitleRoute}
+use Rattle.settings.specs.declared.title_row.TitleRoute.TheVariants.{Title, Ssn}
 use Rattle.settings.specs.Checks.{is_digit}
 use Rattle.settings.specs.Meaning.{digit_of}
 use Rattle.sccp_codec.specs.declared.title.TitleKey.{TitleKey}
-use Rattle.point_format.specs.Points.{point_in}
-use Rattle.point_format.specs.declared.point.PointFormat.{PointFormat}
+use Rattle.settings.specs.Points.{point_in}
+use Rattle.settings.specs.declared.point.PointFormat.{PointFormat}
 use Rattle.console.specs.Numbers.{number_within}
 use Rattle.console.specs.declared.title_words.RowName.{RowName}
 

@@ -2,12 +2,11 @@
 
 ghost use Rattle.std.specs.Prelude.{◌≡◌, ◌+◌, ◌≤◌, ◌++◌, length, decimal};
 ghost use Rattle.console.specs.Texts.{cause_text, count_text};
-ghost use Rattle.point_format.specs.Points.{point_text};
+ghost use Rattle.settings.specs.Points.{point_text};
 
 use arrayvec::ArrayString;
 use itoa::Buffer;
-use point_format::{POINT_OCTETS, PointFormat, point_text};
-use settings::{Cause, PointCode};
+use settings::{Cause, POINT_OCTETS, PointCode, PointFormat, point_text};
 
 /// Octets of a line, at most: a translation row with a backup and a change of titles has the longest one.
 pub const LINE_OCTETS: usize = 152;

@@ -9,10 +9,9 @@ use crate::line::{LINE_OCTETS, push_cause, push_number, push_point};
 use crate::names::link_name;
 use arrayvec::ArrayString;
 use exchange::Exchange;
-use point_format::PointFormat;
 use settings::{
     Cause, ChangeoverTimer, FailureReason, FrameFault, LateTimer, Limits, LinkId, Notice,
-    PointCode, Settings, Sls, Unbarring,
+    PointCode, PointFormat, Settings, Sls, Unbarring,
 };
 
 /// Writes line `k`, from 0, of the text of the notices, the oldest that is kept first, with points in this format.

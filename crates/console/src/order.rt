@@ -8,8 +8,7 @@ use crate::commands::Command;
 use crate::title_words::{read_name, read_row};
 use crate::words::cut;
 use exchange::{Order, TitleDigits, TitleKey};
-use point_format::PointFormat;
-use settings::{Settings, TitleRow};
+use settings::{PointFormat, Settings, TitleRow};
 
 /// An order as it was written.
 #[derive(Drop)]

@@ -9,8 +9,7 @@ use crate::line::{LINE_OCTETS, push_point};
 use crate::names::set_name;
 use arrayvec::ArrayString;
 use exchange::{Exchange, RouteView};
-use point_format::PointFormat;
-use settings::{SetId, Settings};
+use settings::{PointFormat, SetId, Settings};
 
 /// Writes line `k`, from 0, of the text of the routes: `route POINT SET STATUS`, one line for each destination in the
 /// order of the settings. SET is the name of the set that messages take, or those of two joined sets, as `east+west`;

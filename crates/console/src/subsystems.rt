@@ -8,7 +8,7 @@ ghost use Rattle.console.specs.Texts.{Shows, subsystem_line, subsystem_text};
 use crate::line::{LINE_OCTETS, push_octet, push_point};
 use arrayvec::ArrayString;
 use exchange::{Exchange, Subsystem};
-use point_format::PointFormat;
+use settings::PointFormat;
 
 /// Writes line `k`, from 0, of the text of the prohibited subsystems: `subsystem POINT SSN prohibited`, one line for
 /// each, in the order in which they were heard of. Points are shown in this format.

@@ -3,7 +3,7 @@
 ghost use Rattle.std.specs.Prelude.{◌≡◌, ◌≤◌, ◌<◌, ◌^◌, if◌then◌else◌, [], ◌∷◌, Some, None, All, IfSome, length, map};
 ghost use Rattle.std.specs.Option.{option_map};
 ghost use Rattle.std.specs.List.{list_all};
-ghost use Rattle.settings_rows.specs.Titles.{HasTitleRanges};
+ghost use Rattle.settings.specs.TitleRanges.{HasTitleRanges};
 ghost use Rattle.settings.specs.Checks.{is_digit};
 ghost use Rattle.settings.specs.Meaning.{digit_of};
 ghost use Rattle.console.specs.Words.{words};
@@ -15,8 +15,7 @@ use crate::numbers::read_number;
 use crate::words::cut;
 use arrayvec::ArrayVec;
 use exchange::{TitleDigits, TitleKey};
-use point_format::{PointFormat, parse_point};
-use settings::{Limits, PointCode, Ssn, TitleRoute, TitleRow};
+use settings::{Limits, PointCode, PointFormat, Ssn, TitleRoute, TitleRow, parse_point};
 
 /// The largest translation type.
 const LAST_TRANSLATION: u16 = 255;

@@ -9,8 +9,7 @@ ghost use Rattle.console.specs.Texts.{backup_text, given_text, added_text, is_ch
 use crate::line::{LINE_OCTETS, push_octet, push_point};
 use arrayvec::ArrayString;
 use exchange::Exchange;
-use point_format::PointFormat;
-use settings::{Limits, PointCode, Ssn, TitleChange, TitleRoute, TitleRow};
+use settings::{Limits, PointCode, PointFormat, Ssn, TitleChange, TitleRoute, TitleRow};
 
 /// Writes line `k`, from 0, of the text of the translation rows: `title T P N DIGITS POINT ROUTE SSN`, one line for
 /// each row, by translation type, plan, nature, then digits, a prefix before the longer ones. ROUTE is `title` or

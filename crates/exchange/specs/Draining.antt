@@ -1,7 +1,7 @@
 -- Messages that leave a list of the code one after the other, and those of a list that are lost.
 use Rattle.std.specs.Prelude.{ℕ, Bool, true, false, List, [], ◌∷◌, take, Option, Some, None, slice_get, slice_set, if◌then◌else◌}
 use Rattle.signalling_types.specs.Message.{Message, flow_of, is_management}
-use Rattle.settings_rows.specs.Configuration.{Configuration}
+use Rattle.settings.specs.Configuration.{Configuration}
 use Rattle.signalling_types.specs.declared.cause.Cause.TheVariants.{LostUnconfirmed, NoRoute}
 use Rattle.cell_pool.specs.Lanes.{lane_at, pushed, dropped}
 use Rattle.cell_pool.specs.Moves.{first_behind}

@@ -1,6 +1,6 @@
 -- Which flows may have changed their set since they were last counted.
 use Rattle.std.specs.Prelude.{◌≡◌, ◌≤◌, ◌<◌, ◌+◌, ◌-◌, ◌^◌, min, ℕ, Bool, true, false, nat_eq, List, [], length, slice_index_or, slice_set, Option, if◌then◌else◌}
-use Rattle.settings_rows.specs.Configuration.{Configuration}
+use Rattle.settings.specs.Configuration.{Configuration}
 use Rattle.routes.specs.Routes.{Facts}
 use Rattle.exchange_rules.specs.State.{Reroutings, State}
 use Rattle.exchange_rules.specs.Routing.{facts}

@@ -1,6 +1,6 @@
 -- A link that began to carry traffic, by what is known then: without the link, everything is as it was before.
 use Rattle.std.specs.Prelude.{ℕ, Bool, true, false, not}
-use Rattle.settings_rows.specs.Configuration.{Configuration}
+use Rattle.settings.specs.Configuration.{Configuration}
 use Rattle.routes.specs.Routes.{has_link, Facts, set_at, with_link}
 use Rattle.exchange_rules.specs.State.{QueueKind, Parts, Node, with_parts, in_traffic}
 use Rattle.exchange_rules.specs.Routing.{facts, set_of}

@@ -1,7 +1,7 @@
 -- What is read of a message in a list, and what is done with it.
 use Rattle.std.specs.Prelude.{ℕ, Option, Some, None, if◌then◌else◌}
 use Rattle.signalling_types.specs.Message.{Message, is_management}
-use Rattle.settings_rows.specs.Configuration.{Configuration}
+use Rattle.settings.specs.Configuration.{Configuration}
 use Rattle.settings.specs.Readings.{destination_place}
 use Rattle.mtp3_codec.specs.Headings.{label_at}
 use Rattle.flow_hold.specs.Holds.{HoldSet}

@@ -7,7 +7,7 @@ use Rattle.signalling_types.specs.declared.outcome.Outcome.TheVariants.{Handled,
 use Rattle.node_links.specs.NodeLinks.{Network, facts_of}
 use Rattle.routes.specs.Routes.{chosen_link}
 use Rattle.settings.specs.Readings.{destination_place}
-use Rattle.settings_rows.specs.Configuration.{Configuration}
+use Rattle.settings.specs.Configuration.{Configuration}
 use Rattle.sccp_relay.specs.Points.{OwnValue}
 use Rattle.exchange.specs.declared.exchange.relaying.LinkWays.{LinkWays}
 

@@ -1,7 +1,7 @@
 -- How the code finds the flows that a changeover holds: it walks all flows, and then the messages of the link.
 use Rattle.std.specs.Prelude.{ℕ, zero, suc, List, [], ◌∷◌, Option, Some, None, if◌then◌else◌}
 use Rattle.signalling_types.specs.Message.{Message, flow_of, is_management}
-use Rattle.settings_rows.specs.Configuration.{Configuration}
+use Rattle.settings.specs.Configuration.{Configuration}
 use Rattle.settings.specs.Readings.{destination_place}
 use Rattle.routes.specs.Routes.{Facts, chosen_link}
 use Rattle.flow_hold.specs.declared.procedure.Procedure.TheVariants.{Changeover}

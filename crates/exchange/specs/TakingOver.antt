@@ -1,7 +1,7 @@
 -- How the code takes flows back: it begins the hold of each link that loses some, notes which procedure that is, and
 -- then walks all flows once.
 use Rattle.std.specs.Prelude.{ℕ, zero, suc, Bool, List, length, replicate, Option, Some, None, if◌then◌else◌, slice_set}
-use Rattle.settings_rows.specs.Configuration.{Configuration}
+use Rattle.settings.specs.Configuration.{Configuration}
 use Rattle.signalling_types.specs.declared.limits.TheConstants.Limits.{LINKS}
 use Rattle.routes.specs.Routes.{Facts}
 use Rattle.flow_hold.specs.declared.procedure.Procedure.{Procedure}

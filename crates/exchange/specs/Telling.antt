@@ -1,6 +1,6 @@
 -- One adjacent point is told of one destination, or of all.
 use Rattle.std.specs.Prelude.{ℕ, Option, Some, None}
-use Rattle.settings_rows.specs.Configuration.{Configuration}
+use Rattle.settings.specs.Configuration.{Configuration}
 use Rattle.routes.specs.Routes.{Facts}
 use Rattle.routes.specs.declared.route.RouteStatus.{RouteStatus}
 use Rattle.route_management.specs.Told.{owed_at, owed_to}

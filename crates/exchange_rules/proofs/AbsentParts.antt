@@ -3,7 +3,7 @@
 use Rattle.exchange_rules.proofs.Basics.{◌≡◌, ◌≢◌, ◌<◌, ◌^◌, ◌+◌, ◌*◌, ◌%◌, ◌&&◌, ◌||◌, ℕ, Bool, true, false, not, nat_eq, nat_lt, nat_le, is_some, slice_set, slice_index_or, length, List, [], Option, Some, None, refl, ap, sym, subst, ◌∙◌, arith, if◌then◌else◌, nat_tests, position-Some, get_or-set_same, get_or-set_other}
 use Rattle.exchange_rules.proofs.Definitions.{Done, Message, flow_of, is_management, opc_of, service_indicator, Cause, Configuration, Management, IsManagement, destination_place, Node, with_parts, answer, refuse, Local, link_of, no_room, queue_on, send, is_unequipped_told, send_if, tell_unavailable, answer_no_user_part, unavailable, unequipped_counted, is_user, sccp, on_unitdata, local, manage, distribute, UserPartUnavailable, Unequipped, WholeQueues, whole}
 use Rattle.signalling_types.specs.declared.cause.Cause.TheVariants as causes
-use Rattle.settings_rows.specs.Configuration.{DestinationEntry}
+use Rattle.settings.specs.Configuration.{DestinationEntry}
 use Rattle.mtp3_codec.proofs.Reading.{its-label, message-back}
 use Rattle.exchange_rules.specs.LawsOfUserParts.{lacks_part, count_from, is_sender_told, lacking_is_refused, told_by_one, else_counted, else_untouched, counts_modulo_eight, upu_reads_back, parts_get_their_messages, silent, others_go_the_same, submissions_tell_nobody, submissions_are_their_parts, none_is_counted_at_first, takes_count_none}
 use Rattle.signalling_types.specs.declared.outcome.Outcome.TheVariants.{Refused}

@@ -2,7 +2,7 @@
 use Rattle.exchange_rules.proofs.Basics.{◌≡◌, ℕ, Bool, true, false, ◌&&◌, ◌||◌, not, nat_eq, List, [], ◌∷◌, ◌++◌, Option, refl, ap, sym, ◌∙◌, ⊎_elim, arith, nat_tests, if◌then◌else◌, map, filter, filter-append, append-nil}
 use Rattle.std.specs.Prelude.{is_some}
 use Rattle.std.specs.List.{list_any}
-use Rattle.settings_rows.specs.Configuration.{Configuration, TitleEntry}
+use Rattle.settings.specs.Configuration.{Configuration, TitleEntry}
 use Rattle.signalling_types.specs.Message.{Message}
 use Rattle.sccp_relay.specs.Points.{OwnValue}
 use Rattle.sccp_relay.specs.Statuses.{TitlesValue, allow, counted, first_prohibited, is_due, is_full, is_prohibited, is_same, leads_to}

@@ -80,7 +80,7 @@ pub use Rattle.sccp_relay.specs.Returning.{returned}
 pub use Rattle.sccp_relay.specs.Rows.{has_row, place_of, without_row}
 pub use Rattle.settings.specs.Readings.{destination_place, set_place}
 pub use Rattle.settings.specs.Well.{IsWell, IsLink, is_same_code, is_same_point, is_set_to_same_point, IsDestination, IsSet, IsFarPoint}
-pub use Rattle.settings_rows.specs.Configuration.{Configuration, LinkEntry, TitleEntry, DestinationEntry, SetEntry}
+pub use Rattle.settings.specs.Configuration.{Configuration, LinkEntry, TitleEntry, DestinationEntry, SetEntry}
 pub use Rattle.signalling_types.specs.Message.{Message, flow_of, is_management, dpc_of, service_indicator, opc_of, network_indicator}
 pub use Rattle.signalling_types.specs.declared.cause.Cause.{Cause}
 pub use Rattle.signalling_types.specs.declared.cause.Cause.TheVariants.{LostUnconfirmed, NoRoute, NoSuchName, ManagementFull}

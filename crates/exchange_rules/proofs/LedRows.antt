@@ -9,9 +9,9 @@ use Rattle.signalling_types.specs.declared.cause.Cause.TheVariants.{NoUserPart, 
 use Rattle.signalling_types.specs.declared.outcome.Outcome.TheVariants.{Local}
 use Rattle.signalling_types.specs.Message.{Message, label_number, opc_of, service_indicator}
 use Rattle.settings.specs.Readings.{destination_place}
-use Rattle.settings_rows.specs.Configuration.{Configuration, TitleEntry}
-use Rattle.settings_rows.specs.declared.title_row.TitleRoute.{TitleRoute}
-use Rattle.settings_rows.specs.declared.title_row.TitleRoute.TheVariants as route
+use Rattle.settings.specs.Configuration.{Configuration, TitleEntry}
+use Rattle.settings.specs.declared.title_row.TitleRoute.{TitleRoute}
+use Rattle.settings.specs.declared.title_row.TitleRoute.TheVariants as route
 use Rattle.mtp3_codec.specs.declared.label.Label.{Label}
 use Rattle.mtp3_codec.specs.Headings.{label_at, label_octets}
 use Rattle.mtp3_codec.proofs.Labels.{label-back}

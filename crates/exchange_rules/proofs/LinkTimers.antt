@@ -1,7 +1,7 @@
 -- The timers of one link are set and stopped: the same names exist, the L7 of no other link changes, no timer becomes
 -- due, and no timer that ends a hold changes.
 use Rattle.exchange_rules.proofs.Basics.{◌≡◌, ◌≢◌, ℕ, Bool, true, false, refl, sym, ap, ◌∙◌, if◌then◌else◌, is_some}
-use Rattle.settings_rows.specs.declared.timer_ticks.TimerTicks.{TimerTicks}
+use Rattle.settings.specs.declared.timer_ticks.TimerTicks.{TimerTicks}
 use Rattle.exchange_rules.proofs.Definitions.{paced, Configuration, LinkTimer, Transition, TimerName, L7, key_of, Running, set_timer, start_unless_running, is_due, is_running, left-set_other, left-clear_other, counts-set, counts-clear, timer_name, ticks_of, without_timer, without_timers, with_timer, without_timer_if, with_timer_if, timed, timed_sending, timed_confirming, timed_busy, timed_busy_ended, clear_timer}
 use Rattle.std.specs.Prelude.{nat_eq, Option, Some, None}
 use Rattle.link.specs.declared.action.LinkTimer.TheVariants as timer

@@ -3,7 +3,7 @@
 use Rattle.exchange_rules.proofs.Basics.{◌≡◌, ◌≢◌, ℕ, Bool, true, false, ◌&&◌, ◌||◌, not, ◌==◌, nat_lt, Option, Some, None, refl, ap, sym, subst, ◌∙◌, arith, if◌then◌else◌, is_some, nat_tests}
 use Rattle.exchange_rules.proofs.Definitions.{Cell, set_timer, Alignment, Input, Go, Transition, Effect, Fails, Remembers, Enters, EntersServing, BeginsAgain, Serves, Passes, table, period_after, Period, timer_of, state_number, effect_in, action_of, action_at, LinkTimer, TimerName, NodeCounts, key_of, has_name, Running, is_running, left-set, left-set_other, left-clear, left-clear_other, counts-clear, timer_name, ticks_of, without_timer, without_timers, without_timer_if, with_timer_if, clear_timer}
 use Rattle.link.specs.Table.{timer_number}
-use Rattle.settings_rows.specs.declared.timer_ticks.TimerTicks.{TimerTicks}
+use Rattle.settings.specs.declared.timer_ticks.TimerTicks.{TimerTicks}
 use Rattle.link.specs.declared.action.LinkTimer.TheVariants as timer
 use Rattle.timers.specs.declared.name.TimerName.TheVariants as name
 use Rattle.link.specs.declared.alignment.Alignment.TheVariants.{Down, NotAligned, Aligned, Proving, AlignedReady, InService}

@@ -3,13 +3,13 @@ use Rattle.std.proofs.Common.{◌≡◌, ℕ, Bool, true, false, not, List, [], 
 use Rattle.std.specs.Prelude.{◌&&◌, ◌||◌, if◌then◌else◌, nat_eq, unwrap_or}
 use Rattle.signalling_types.specs.declared.cause.Cause.{Cause}
 use Rattle.signalling_types.specs.declared.cause.Cause.TheVariants.{SubsystemProhibited}
-use Rattle.settings_rows.specs.declared.title_row.TitleRoute.{TitleRoute}
-use Rattle.settings_rows.specs.Configuration.{TitleEntry}
+use Rattle.settings.specs.declared.title_row.TitleRoute.{TitleRoute}
+use Rattle.settings.specs.Configuration.{TitleEntry}
 use Rattle.sccp_relay.specs.Points.{OwnValue, is_backup_open, is_barred, is_barred_with, is_open, is_out, is_reached, is_sender, is_shut, point_by, point_or, unless_barred}
 use Rattle.sccp_relay.specs.declared.subsystem.ProhibitedSubsystem.{ProhibitedSubsystem}
 use Rattle.exchange_rules.specs.LawsOfSubsystems.{IsChoice, rows_lead_where_it_is_open, points_are_open_or_shut, titles_are_led_on, unreached_points_bar_nothing}
 use Rattle.std.proofs.lemmas.Bool.Decides.{nat_tests}
-use Rattle.settings_rows.specs.declared.title_row.TitleRoute.TheVariants as route
+use Rattle.settings.specs.declared.title_row.TitleRoute.TheVariants as route
 
 -- ---- its point, its backup, or neither
 

@@ -1,7 +1,7 @@
 -- Only a message that says something of a subsystem at another point is heard.
 use Rattle.exchange_rules.proofs.Basics.{Bool, Err, List, None, Ok, Option, Result, Some, false, nat_eq, not, refl, ap, ◌∙◌, true, ℕ, ◌&&◌, ◌≡◌}
 use Rattle.std.specs.Prelude.{drop, if◌then◌else◌, is_some}
-use Rattle.settings_rows.specs.Configuration.{Configuration, TitleEntry}
+use Rattle.settings.specs.Configuration.{Configuration, TitleEntry}
 use Rattle.signalling_types.specs.Message.{Message}
 use Rattle.signalling_types.specs.declared.cause.Cause.{Cause}
 use Rattle.signalling_types.specs.declared.cause.Cause.TheVariants as causes

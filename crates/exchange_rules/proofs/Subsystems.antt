@@ -7,7 +7,7 @@ use Rattle.signalling_types.specs.declared.cause.Cause.TheVariants.{NotInProfile
 use Rattle.signalling_types.specs.declared.outcome.Outcome.TheVariants.{Local}
 use Rattle.signalling_types.specs.Message.{Message, opc_of, service_indicator}
 use Rattle.settings.specs.Readings.{destination_place}
-use Rattle.settings_rows.specs.Configuration.{Configuration}
+use Rattle.settings.specs.Configuration.{Configuration}
 use Rattle.mtp3_codec.specs.declared.label.Label.{Label}
 use Rattle.mtp3_codec.specs.Headings.{label_at}
 use Rattle.sccp_codec.specs.declared.address.Routing.{Routing}

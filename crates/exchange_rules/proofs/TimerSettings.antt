@@ -8,7 +8,7 @@ use Rattle.timers.specs.declared.name.RouteTimer.{RouteTimer}
 use Rattle.timers.specs.declared.name.RouteTimer.TheVariants as of_set
 use Rattle.timers.specs.declared.name.TimerName.TheVariants.{T2, T8, Slt1, Slt2}
 use Rattle.link.specs.declared.action.LinkTimer.TheVariants as timer
-use Rattle.settings_rows.specs.declared.timer_ticks.TimerTicks.{TimerTicks}
+use Rattle.settings.specs.declared.timer_ticks.TimerTicks.{TimerTicks}
 use Rattle.link.specs.declared.period.Period.TheVariants.{Fixed}
 use Rattle.exchange_rules.specs.TimerSettings.{setting_of, barring, RunsBy}
 use Rattle.std.specs.Prelude.{unwrap_or}

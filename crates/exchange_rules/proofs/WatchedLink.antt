@@ -1,6 +1,6 @@
 -- What becomes of the L7 of a link as its timers are set and stopped.
 use Rattle.exchange_rules.proofs.Basics.{◌≡◌, ◌≢◌, ◌<◌, ℕ, Bool, true, false, nat_lt, nat_eq, Option, Some, None, refl, ap, sym, subst, ◌∙◌, arith, if◌then◌else◌, is_some, nat_tests}
-use Rattle.settings_rows.specs.declared.timer_ticks.TimerTicks.{TimerTicks}
+use Rattle.settings.specs.declared.timer_ticks.TimerTicks.{TimerTicks}
 use Rattle.exchange_rules.proofs.Definitions.{paced, Configuration, LinkTimer, Transition, L6, L7, NodeCounts, Running, set_timer, start_unless_running, clear_timer, is_running, left-set, left-set_other, left-clear, left-clear_other, counts-clear, timer_name, ticks_of, without_timer, without_timers, with_timer, without_timer_if, with_timer_if, timed, timed_sending, timed_confirming, timed_busy, timed_busy_ended}
 use Rattle.link.specs.declared.action.LinkTimer.TheVariants as timer
 use Rattle.timers.specs.declared.name.TimerName.TheVariants.{Slt1, Slt2}

@@ -1,6 +1,6 @@
 -- A message that no full share refuses goes as if no link had a share.
 use Rattle.std.specs.Option.{option_map_or}
-use Rattle.settings_rows.specs.Configuration.{LinkEntry}
+use Rattle.settings.specs.Configuration.{LinkEntry}
 use Rattle.signalling_types.specs.declared.point.Flow.{Flow}
 use Rattle.signalling_types.specs.declared.cause.Cause.TheVariants as causes
 use Rattle.routes.specs.Routes.{has_code, links_below}

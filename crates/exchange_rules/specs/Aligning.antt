@@ -1,6 +1,6 @@
 -- Each link has the timer of its state, and is proved before it enters service: laws (Q.703 §7, §12.3).
 use Rattle.std.specs.Prelude.{◌≡◌, ◌≢◌, ◌⊎◌, ◌≤◌, ◌&&◌, ◌==◌, ℕ, Bool, true, false, length, List, Option, Some, None, is_some, Ok}
-use Rattle.settings_rows.specs.Configuration.{Configuration}
+use Rattle.settings.specs.Configuration.{Configuration}
 use Rattle.signalling_types.specs.declared.limits.TheConstants.Limits.{LINKS}
 use Rattle.link.specs.declared.alignment.Alignment.{Alignment}
 use Rattle.link.specs.declared.alignment.Alignment.TheVariants.{Down, NotAligned, Aligned, Proving, AlignedReady, InService}

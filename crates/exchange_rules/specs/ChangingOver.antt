@@ -4,7 +4,7 @@ use Rattle.std.specs.Prelude.{ℕ, zero, suc, Bool, ◌&&◌, ◌||◌, not, nat
 use Rattle.std.specs.List.{list_any}
 use Rattle.std.specs.Option.{option_eq}
 use Rattle.signalling_types.specs.Message.{Message, flow_of, is_management}
-use Rattle.settings_rows.specs.Configuration.{Configuration}
+use Rattle.settings.specs.Configuration.{Configuration}
 use Rattle.settings.specs.Readings.{destination_place}
 use Rattle.routes.specs.Routes.{Facts, chosen_link, has_link, set_at}
 use Rattle.flow_hold.specs.declared.procedure.Procedure.TheVariants.{Changeover}

@@ -1,7 +1,7 @@
 -- TLAC, link availability control (Q.704 §3.2): a link begins to carry traffic, as it enters service or, where links
 -- are tested, as its first test passes (Q.707 §2.2).
 use Rattle.std.specs.Prelude.{ℕ, Bool, true, false, not, ◌&&◌}
-use Rattle.settings_rows.specs.Configuration.{Configuration}
+use Rattle.settings.specs.Configuration.{Configuration}
 use Rattle.routes.specs.Routes.{Facts}
 use Rattle.exchange_rules.specs.State.{QueueKind, Parts, Node, with_parts}
 use Rattle.exchange_rules.specs.Routing.{facts, set_of}

@@ -2,7 +2,7 @@
 -- no longer held.
 use Rattle.std.specs.Prelude.{ℕ, Bool, true, false, List, [], ◌∷◌, Option, Some, None, zero, suc, ◌≡◌}
 use Rattle.signalling_types.specs.Message.{Message, flow_of}
-use Rattle.settings_rows.specs.Configuration.{Configuration}
+use Rattle.settings.specs.Configuration.{Configuration}
 use Rattle.signalling_types.specs.declared.cause.Cause.TheVariants.{NoRoute}
 use Rattle.exchange_rules.specs.State.{◌▷◌, QueueKind, Node, with_parts, Done, answer, State, with_node, Happening, CameUp, WentDown, FrameCame, Ticked, Submitted, Activated, Deactivated, Released, TitleAdded, TitleRemoved}
 use Rattle.exchange_rules.specs.Routing.{facts, link_of, queue_on, waits, hold}

@@ -6,7 +6,7 @@ use Rattle.exchange_rules.specs.Queues.{WholeQueues, queue_at, whole}
 use Rattle.exchange_rules.specs.Routing.{all_wait, facts}
 use Rattle.exchange_rules.specs.Reroutings.{counted, first_reroutings}
 use Rattle.exchange_rules.specs.Telling.{is_all_told}
-use Rattle.settings_rows.specs.Configuration.{Configuration}
+use Rattle.settings.specs.Configuration.{Configuration}
 use Rattle.timers.specs.declared.name.NodeCounts.{NodeCounts}
 use Rattle.timers.specs.Timers.{none_running}
 use Rattle.routes.specs.Routes.{first_routes}

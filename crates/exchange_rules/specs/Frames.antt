@@ -1,7 +1,7 @@
 -- TLAC, link availability control (Q.704 §3.2), over link alignment (RFC 4165 §4.1.3): Link Status, User Data, and the
 -- timers of a link that run out.
 use Rattle.std.specs.Prelude.{ℕ, Bool, true, false, not, ◌&&◌, if◌then◌else◌, List, Option, Some, None, is_some, Result, Ok, Err}
-use Rattle.settings_rows.specs.Configuration.{Configuration}
+use Rattle.settings.specs.Configuration.{Configuration}
 use Rattle.signalling_types.specs.declared.notice.FailureReason.TheVariants as reasons
 use Rattle.signalling_types.specs.declared.outcome.Outcome.TheVariants.{Handled, Ignored}
 use Rattle.m2pa_codec.specs.declared.status.LinkStatus.{LinkStatus}

@@ -9,7 +9,7 @@ use Rattle.signalling_types.specs.declared.notice.FailureReason.{FailureReason}
 use Rattle.signalling_types.specs.declared.notice.Notice.{Notice}
 use Rattle.signalling_types.specs.declared.notice.Notice.TheVariants as notices
 use Rattle.signalling_types.specs.declared.outcome.Outcome.{Outcome}
-use Rattle.settings_rows.specs.Configuration.{Configuration}
+use Rattle.settings.specs.Configuration.{Configuration}
 use Rattle.settings.specs.Readings.{destination_place, set_place}
 use Rattle.mtp3_codec.specs.Management.{LinkTestValue, read_link_test, read_management}
 use Rattle.mtp3_codec.specs.declared.discrimination.Discrimination.{Discrimination}

@@ -1,7 +1,7 @@
 -- Every hold has a timer that runs, or an answer that is awaited: laws.
 use Rattle.std.specs.Prelude.{◌≡◌, ◌≤◌, ◌⊎◌, ◌&&◌, ℕ, Bool, true, false, length, List}
 use Rattle.signalling_types.specs.declared.limits.TheConstants.Limits.{LINKS}
-use Rattle.settings_rows.specs.Configuration.{Configuration}
+use Rattle.settings.specs.Configuration.{Configuration}
 use Rattle.timers.specs.declared.name.TimerName.TheVariants.{T1, T2, T3, T4, T6}
 use Rattle.timers.specs.Timers.{is_running}
 use Rattle.changeover.specs.Changeover.{Standing}

@@ -1,6 +1,6 @@
 -- What lasts of each link, over every event and every take: laws.
 use Rattle.std.specs.Prelude.{◌≡◌, ◌≤◌, ◌-◌, ◌&&◌, ℕ, Bool, true, false, nat_lt, length, List, []}
-use Rattle.settings_rows.specs.Configuration.{Configuration}
+use Rattle.settings.specs.Configuration.{Configuration}
 use Rattle.signalling_types.specs.declared.limits.TheConstants.Limits.{LINKS, WINDOW}
 use Rattle.timers.specs.declared.name.TimerName.TheVariants.{L7}
 use Rattle.timers.specs.Timers.{is_running}

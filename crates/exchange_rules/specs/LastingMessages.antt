@@ -2,7 +2,7 @@
 use Rattle.std.specs.Prelude.{◌≡◌, ℕ, Bool, true, not, nat_eq, List}
 use Rattle.std.specs.List.{list_all}
 use Rattle.signalling_types.specs.Message.{Message, dpc_of}
-use Rattle.settings_rows.specs.Configuration.{Configuration}
+use Rattle.settings.specs.Configuration.{Configuration}
 use Rattle.settings.specs.Well.{IsWell}
 use Rattle.exchange_rules.specs.State.{Asking}
 use Rattle.exchange_rules.specs.Queues.{WholeQueues, queue_at}

@@ -1,6 +1,6 @@
 -- Laws of orders that go out late, at the node of two links of `OrderExamples`: wrong definitions make them false here.
 use Rattle.std.specs.Prelude.{◌≡◌, ℕ, true, false, [], length, Some, None}
-use Rattle.settings_rows.specs.Configuration.{Configuration}
+use Rattle.settings.specs.Configuration.{Configuration}
 use Rattle.link.specs.declared.alignment.Alignment.TheVariants.{Down}
 use Rattle.timers.specs.declared.name.TimerName.TheVariants.{T1, T2}
 use Rattle.timers.specs.Timers.{set_timer}

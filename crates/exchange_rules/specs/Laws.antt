@@ -1,5 +1,5 @@
 -- What the abstract exchange does whatever the event: laws.
-use Rattle.settings_rows.specs.Configuration.{Configuration}
+use Rattle.settings.specs.Configuration.{Configuration}
 use Rattle.std.specs.Prelude.{◌≡◌, ◌≢◌, ◌<◌, ◌&&◌, ◌++◌, ℕ, Bool, true, not, nat_eq, length, filter, Option, Some, None, Result, Ok, Err, if◌then◌else◌}
 use Rattle.signalling_types.specs.declared.cause.Cause.{Cause}
 use Rattle.signalling_types.specs.declared.cause.Cause.TheVariants.{NoRoute, NoUserPart}

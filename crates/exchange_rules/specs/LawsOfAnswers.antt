@@ -1,6 +1,6 @@
 -- What answers mean: laws.
 use Rattle.std.specs.Prelude.{◌≡◌, ◌≤◌, ◌<◌, ◌⊎◌, ◌+◌, ◌++◌, ◌↔◌, ℕ, true, false, max, length, List, [], ◌∷◌, None, Ok, Option, Some}
-use Rattle.settings_rows.specs.Configuration.{Configuration}
+use Rattle.settings.specs.Configuration.{Configuration}
 use Rattle.signalling_types.specs.Message.{Message, dpc_of, flow_of}
 use Rattle.signalling_types.specs.declared.limits.TheConstants.Limits.{LINKS, WINDOW}
 use Rattle.signalling_types.specs.declared.outcome.Outcome.TheVariants.{Queued, Handled, Refused}

@@ -5,7 +5,7 @@ use Rattle.signalling_types.specs.Message.{Message, flow_of, network_indicator, 
 use Rattle.signalling_types.specs.declared.limits.TheConstants.Limits.{LINKS, WINDOW}
 use Rattle.signalling_types.specs.declared.notice.FailureReason.{FailureReason}
 use Rattle.signalling_types.specs.declared.outcome.Outcome.TheVariants.{Handled}
-use Rattle.settings_rows.specs.Configuration.{Configuration}
+use Rattle.settings.specs.Configuration.{Configuration}
 use Rattle.settings.specs.Well.{IsWell}
 use Rattle.mtp3_codec.specs.Headings.{label_at}
 use Rattle.mtp3_codec.specs.Management.{read_management}

@@ -4,7 +4,7 @@ use Rattle.std.specs.Prelude.{Result, Ok, Err}
 use Rattle.std.specs.Prelude.{if◌then◌else◌}
 use Rattle.std.specs.List.{count_by}
 use Rattle.std.specs.Option.{option_map}
-use Rattle.settings_rows.specs.Configuration.{Configuration}
+use Rattle.settings.specs.Configuration.{Configuration}
 use Rattle.settings.specs.Readings.{set_place}
 use Rattle.signalling_types.specs.Message.{Message, opc_of}
 use Rattle.signalling_types.specs.declared.notice.Notice.{Notice}

@@ -3,7 +3,7 @@
 use Rattle.std.specs.Prelude.{◌≡◌, ◌≢◌, ℕ, true, false, not, is_some, List, [], ◌∷◌, filter, map, None}
 use Rattle.std.specs.List.{list_any}
 use Rattle.signalling_types.specs.Message.{Message}
-use Rattle.settings_rows.specs.Configuration.{Configuration}
+use Rattle.settings.specs.Configuration.{Configuration}
 use Rattle.sccp_relay.specs.Points.{OwnValue}
 use Rattle.sccp_relay.specs.Statuses.{TitlesValue, counted, heard, is_due, is_prohibited, is_same, leads_to}
 use Rattle.sccp_relay.specs.SubsystemTests.{is_test_led, ticked}

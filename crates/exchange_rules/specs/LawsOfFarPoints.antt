@@ -4,7 +4,7 @@ use Rattle.std.specs.Prelude.{◌≡◌, ◌≤◌, ◌<◌, ◌⊎◌, ◌^◌,
 use Rattle.signalling_types.specs.Message.{Message, dpc_of, is_management, network_indicator, opc_of, service_indicator}
 use Rattle.signalling_types.specs.declared.cause.Cause.TheVariants.{ManagementFull, NotFromAdjacent, NotInProfile}
 use Rattle.signalling_types.specs.declared.outcome.Outcome.TheVariants.{Handled}
-use Rattle.settings_rows.specs.Configuration.{Configuration}
+use Rattle.settings.specs.Configuration.{Configuration}
 use Rattle.settings.specs.Readings.{set_place}
 use Rattle.mtp3_codec.specs.Management.{LinkTestValue, read_link_test, read_management}
 use Rattle.mtp3_codec.specs.declared.link_test.TestKind.TheVariants.{Acknowledgement, Test}

@@ -3,7 +3,7 @@ use Rattle.std.specs.Prelude.{◌≡◌, ◌≢◌, ◌<◌, ℕ, true, false, l
 use Rattle.std.specs.List.{list_all}
 use Rattle.signalling_types.specs.Message.{is_management}
 use Rattle.signalling_types.specs.declared.notice.FailureReason.{FailureReason}
-use Rattle.settings_rows.specs.Configuration.{Configuration}
+use Rattle.settings.specs.Configuration.{Configuration}
 use Rattle.link.specs.declared.action.Transition.{Transition}
 use Rattle.routes.specs.Routes.{chosen_link}
 use Rattle.node_links.specs.NodeLinks.{Link}

@@ -3,7 +3,7 @@ use Rattle.std.specs.Prelude.{◌≡◌, ◌≢◌, ◌≤◌, ◌<◌, ◌⊎�
 use Rattle.signalling_types.specs.Message.{Message, flow_of}
 use Rattle.signalling_types.specs.declared.cause.Cause.{Cause}
 use Rattle.signalling_types.specs.declared.outcome.Outcome.TheVariants.{Refused}
-use Rattle.settings_rows.specs.Configuration.{Configuration}
+use Rattle.settings.specs.Configuration.{Configuration}
 use Rattle.settings.specs.Well.{IsWell}
 use Rattle.timers.specs.declared.name.TimerName.TheVariants.{T1}
 use Rattle.changeover.specs.Changeover.{is_unasked}

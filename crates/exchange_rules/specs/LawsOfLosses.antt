@@ -7,7 +7,7 @@ use Rattle.signalling_types.specs.declared.notice.Notice.{Notice}
 use Rattle.signalling_types.specs.declared.notice.Notice.TheVariants as notices
 use Rattle.signalling_types.specs.declared.notice.LateTimer.TheVariants as late_timer
 use Rattle.signalling_types.specs.declared.notice.ChangeoverTimer.TheVariants as changeover_timer
-use Rattle.settings_rows.specs.Configuration.{Configuration}
+use Rattle.settings.specs.Configuration.{Configuration}
 use Rattle.timers.specs.declared.name.TimerName.{TimerName}
 use Rattle.timers.specs.declared.name.TimerName.TheVariants.{T3, T4}
 use Rattle.timers.specs.Timers.{due_count, due_name, ticked}

@@ -1,7 +1,7 @@
 -- User messages are conserved: laws.
 use Rattle.std.specs.Prelude.{Bool, Err, List, Ok, Result, Some, [], drop, false, is_some, length, nat_eq, not, true, ℕ}
 use Rattle.std.specs.Prelude.{◌&&◌, ◌++◌, ◌+◌, ◌∷◌, ◌≡◌, ◌≤◌}
-use Rattle.settings_rows.specs.Configuration.{Configuration}
+use Rattle.settings.specs.Configuration.{Configuration}
 use Rattle.mtp3_codec.specs.Headings.{label_at}
 use Rattle.mtp3_codec.specs.declared.discrimination.Discrimination.{Discrimination}
 use Rattle.mtp3_codec.specs.declared.discrimination.Discrimination.TheVariants as whither

@@ -4,7 +4,7 @@ use Rattle.std.specs.Prelude.{◌≡◌, ◌≢◌, ◌<◌, ℕ, true, false, l
 use Rattle.signalling_types.specs.Message.{Message}
 use Rattle.signalling_types.specs.declared.cause.Cause.TheVariants.{LinkNotReady}
 use Rattle.signalling_types.specs.declared.outcome.Outcome.TheVariants.{Handled, Refused}
-use Rattle.settings_rows.specs.Configuration.{Configuration}
+use Rattle.settings.specs.Configuration.{Configuration}
 use Rattle.m2pa_codec.specs.Frames.{FrameValue, EmptyFrame, MessageFrame, StatusFrame}
 use Rattle.exchange_rules.specs.declared.wants.Wants.TheVariants.{Nothing, Open, Close}
 use Rattle.exchange_rules.specs.State.{Node, down, is_link, link_at}

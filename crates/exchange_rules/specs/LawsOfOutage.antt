@@ -2,7 +2,7 @@
 -- laws.
 use Rattle.std.specs.Prelude.{◌≡◌, ◌≢◌, ◌⊎◌, ◌≤◌, ℕ, Bool, true, false, nat_eq, max, length, Some, None, List, [], ◌∷◌, ◌++◌, if◌then◌else◌}
 use Rattle.signalling_types.specs.declared.limits.TheConstants.Limits.{LINKS}
-use Rattle.settings_rows.specs.Configuration.{Configuration}
+use Rattle.settings.specs.Configuration.{Configuration}
 use Rattle.signalling_types.specs.declared.notice.FailureReason.TheVariants as reasons
 use Rattle.signalling_types.specs.declared.outcome.Outcome.TheVariants.{Handled, Ignored}
 use Rattle.m2pa_codec.specs.declared.status.LinkStatus.{LinkStatus}

@@ -1,6 +1,6 @@
 -- The periods for which links are proved, and what links tell as they open: laws (Q.703 §7, RFC 4165 §4.1.3).
 use Rattle.std.specs.Prelude.{◌≡◌, ◌≢◌, ℕ, Bool, true, false, List, [], ◌∷◌, Some, None}
-use Rattle.settings_rows.specs.Configuration.{Configuration}
+use Rattle.settings.specs.Configuration.{Configuration}
 use Rattle.signalling_types.specs.declared.outcome.Outcome.TheVariants.{Handled}
 use Rattle.m2pa_codec.specs.declared.status.LinkStatus.TheVariants.{Alignment, OutOfService}
 use Rattle.link.specs.declared.period.Period.{Period}

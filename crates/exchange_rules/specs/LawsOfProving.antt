@@ -1,6 +1,6 @@
 -- How long a link is proved, by what its two ends ask for: laws (Q.703 §7.3).
 use Rattle.std.specs.Prelude.{◌≡◌, ◌≢◌, ◌⊎◌, ℕ, Bool, max, Option, Some, unwrap_or}
-use Rattle.settings_rows.specs.Configuration.{Configuration}
+use Rattle.settings.specs.Configuration.{Configuration}
 use Rattle.m2pa_codec.specs.declared.status.LinkStatus.{LinkStatus}
 use Rattle.m2pa_codec.specs.declared.status.LinkStatus.TheVariants.{ProvingNormal, ProvingEmergency}
 use Rattle.link.specs.declared.alignment.Alignment.TheVariants.{NotAligned, Aligned, Proving}

@@ -1,7 +1,7 @@
 -- Which flows are counted as rerouted, and that each flow keeps its link set while none is: laws.
 use Rattle.std.specs.Prelude.{◌≡◌, ◌≤◌, ◌<◌, ◌⊎◌, ◌+◌, ◌-◌, ◌^◌, min, ℕ, Bool, length, count_by, slice_get, List, Option, None, Some}
 use Rattle.signalling_types.specs.declared.limits.TheConstants.Limits.{SELECTIONS}
-use Rattle.settings_rows.specs.Configuration.{Configuration, SetEntry}
+use Rattle.settings.specs.Configuration.{Configuration, SetEntry}
 use Rattle.flow_hold.specs.Holds.{flows, passes}
 use Rattle.exchange_rules.specs.State.{Asking, Happening}
 use Rattle.exchange_rules.specs.Routing.{facts, point_of}

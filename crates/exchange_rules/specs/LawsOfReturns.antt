@@ -1,6 +1,6 @@
 -- What a return to service holds, and by what: laws.
 use Rattle.std.specs.Prelude.{◌≡◌, ◌≢◌, ◌<◌, ◌≤◌, ◌⊎◌, ◌++◌, ℕ, true, false, [], ◌∷◌, Some, None}
-use Rattle.settings_rows.specs.Configuration.{Configuration}
+use Rattle.settings.specs.Configuration.{Configuration}
 use Rattle.signalling_types.specs.declared.limits.TheConstants.Limits.{MANAGEMENT_MESSAGES, SELECTIONS}
 use Rattle.link.specs.declared.action.Transition.{Transition}
 use Rattle.routes.specs.Routes.{Facts, chosen_link}

@@ -4,8 +4,8 @@ use Rattle.std.specs.Prelude.{◌≡◌, ◌<◌, ◌⊎◌, ◌↔◌, ◌^◌,
 use Rattle.std.specs.Prelude.{Contains, List, None, Ok, Option, Some}
 use Rattle.signalling_types.specs.Message.{Message, service_indicator}
 use Rattle.signalling_types.specs.declared.cause.Cause.{Cause}
-use Rattle.settings_rows.specs.Configuration.{Configuration, TitleEntry}
-use Rattle.settings_rows.specs.declared.title_row.TitleRoute.TheVariants as route
+use Rattle.settings.specs.Configuration.{Configuration, TitleEntry}
+use Rattle.settings.specs.declared.title_row.TitleRoute.TheVariants as route
 use Rattle.mtp3_codec.specs.declared.label.Label.{Label}
 use Rattle.mtp3_codec.specs.Headings.{label_at}
 use Rattle.sccp_codec.specs.declared.address.Routing.TheVariants.{Ssn, Title}

@@ -1,6 +1,6 @@
 -- A link's share of the pool: laws.
 use Rattle.std.specs.Prelude.{◌≡◌, ◌≢◌, ◌≤◌, ◌<◌, ◌↔◌, ℕ, true, false, length, map, Option, None, Some}
-use Rattle.settings_rows.specs.Configuration.{Configuration, LinkEntry}
+use Rattle.settings.specs.Configuration.{Configuration, LinkEntry}
 use Rattle.signalling_types.specs.Message.{Message, dpc_of, flow_of, is_management}
 use Rattle.signalling_types.specs.declared.cause.Cause.TheVariants.{ShareFull}
 use Rattle.signalling_types.specs.declared.outcome.Outcome.TheVariants.{Refused}

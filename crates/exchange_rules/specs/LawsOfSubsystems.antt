@@ -6,8 +6,8 @@ use Rattle.std.specs.Option.{option_map_or}
 use Rattle.signalling_types.specs.declared.cause.Cause.TheVariants.{SubsystemProhibited}
 use Rattle.signalling_types.specs.declared.outcome.Outcome.TheVariants.{Handled}
 use Rattle.signalling_types.specs.Message.{Message, network_indicator, service_indicator}
-use Rattle.settings_rows.specs.Configuration.{Configuration, TitleEntry}
-use Rattle.settings_rows.specs.declared.title_row.TitleRoute.TheVariants as route
+use Rattle.settings.specs.Configuration.{Configuration, TitleEntry}
+use Rattle.settings.specs.declared.title_row.TitleRoute.TheVariants as route
 use Rattle.mtp3_codec.specs.Headings.{label_at}
 use Rattle.sccp_codec.specs.declared.address.Routing.TheVariants.{Ssn}
 use Rattle.sccp_codec.specs.declared.title.TitleKey.{TitleKey}

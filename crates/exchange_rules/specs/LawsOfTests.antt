@@ -4,7 +4,7 @@ use Rattle.signalling_types.specs.Message.{Message, dpc_of, opc_of, service_indi
 use Rattle.signalling_types.specs.declared.cause.Cause.{Cause}
 use Rattle.signalling_types.specs.declared.notice.FailureReason.TheVariants as reasons
 use Rattle.signalling_types.specs.declared.outcome.Outcome.TheVariants.{Handled, Ignored}
-use Rattle.settings_rows.specs.Configuration.{Configuration}
+use Rattle.settings.specs.Configuration.{Configuration}
 use Rattle.settings.specs.Well.{IsWell}
 use Rattle.mtp3_codec.specs.Management.{LinkTestValue, read_link_test}
 use Rattle.mtp3_codec.specs.declared.link_test.TestKind.TheVariants.{Test}

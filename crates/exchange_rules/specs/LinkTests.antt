@@ -6,7 +6,7 @@ use Rattle.signalling_types.specs.Message.{Message}
 use Rattle.signalling_types.specs.declared.cause.Cause.{Cause}
 use Rattle.signalling_types.specs.declared.notice.FailureReason.TheVariants as reasons
 use Rattle.signalling_types.specs.declared.outcome.Outcome.TheVariants.{Handled, Ignored}
-use Rattle.settings_rows.specs.Configuration.{Configuration}
+use Rattle.settings.specs.Configuration.{Configuration}
 use Rattle.mtp3_codec.specs.declared.link_test.TestKind.TheVariants.{Test}
 use Rattle.mtp3_codec.specs.Management.{LinkTestValue, spelled}
 use Rattle.timers.specs.declared.name.TimerName.TheVariants.{Slt1, Slt2}

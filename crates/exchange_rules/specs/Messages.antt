@@ -2,7 +2,7 @@
 -- then a route, then the end of a queue.
 use Rattle.std.specs.Prelude.{ℕ, Bool, true, false, Option, Some, None, is_some, unwrap_or, if◌then◌else◌, List, [], map, ◌&&◌, nat_eq, position, Result, Ok, Err, nat_lt, length}
 use Rattle.signalling_types.specs.Message.{Message, flow_of, dpc_of, service_indicator, opc_of, is_management}
-use Rattle.settings_rows.specs.Configuration.{Configuration, TitleEntry}
+use Rattle.settings.specs.Configuration.{Configuration, TitleEntry}
 use Rattle.settings.specs.Readings.{destination_place, set_place}
 use Rattle.signalling_types.specs.declared.cause.Cause.{Cause}
 use Rattle.signalling_types.specs.declared.cause.Cause.TheVariants.{UnknownDestination, NoRoute, NoSuchName, NoMemory, NotInProfile, NoUserPart, BadManagement, NotFromAdjacent, TooLong}

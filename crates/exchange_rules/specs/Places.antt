@@ -1,7 +1,7 @@
 -- The places that a node has for the links, sets and destinations of its settings.
 use Rattle.std.specs.Prelude.{◌≡◌, ◌<◌, ◌≤◌, ℕ, length, replicate}
 use Rattle.signalling_types.specs.declared.limits.TheConstants.Limits.{LINKS, CHANGEBACK_CODES}
-use Rattle.settings_rows.specs.Configuration.{Configuration}
+use Rattle.settings.specs.Configuration.{Configuration}
 use Rattle.flow_hold.specs.Holds.{HoldSet}
 use Rattle.flow_hold.specs.Pairs.{IsOfNode}
 use Rattle.changeback.specs.Codes.{Codes, codes_of}

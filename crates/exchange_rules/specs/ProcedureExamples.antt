@@ -3,7 +3,7 @@ use Rattle.std.specs.Prelude.{◌≡◌, ℕ, true, false, List, [], ◌∷◌, 
 use Rattle.signalling_types.specs.Message.{Message}
 use Rattle.signalling_types.specs.declared.cause.Cause.TheVariants.{NotFromAdjacent, ShareFull}
 use Rattle.signalling_types.specs.declared.outcome.Outcome.TheVariants.{Refused}
-use Rattle.settings_rows.specs.Configuration.{Configuration}
+use Rattle.settings.specs.Configuration.{Configuration}
 use Rattle.m2pa_codec.specs.declared.status.LinkStatus.TheVariants.{BusyEnded, ProvingNormal}
 use Rattle.link.specs.declared.alignment.Alignment.TheVariants.{InService, NotAligned}
 use Rattle.link.specs.declared.period.Period.TheVariants.{Emergency}

@@ -1,7 +1,7 @@
 -- The flows of a node of three sets, to the points that these lead to and to two beyond: wrong definitions of what is
 -- counted are false here.
 use Rattle.std.specs.Prelude.{◌≡◌, Bool, true, false, [], ◌∷◌, map, codes, None, Some}
-use Rattle.settings_rows.specs.Configuration.{Configuration}
+use Rattle.settings.specs.Configuration.{Configuration}
 use Rattle.routes.specs.declared.route.RouteStatus.{RouteStatus}
 use Rattle.routes.specs.declared.route.RouteStatus.TheVariants.{Restricted, Prohibited}
 use Rattle.routes.specs.Routes.{Facts, first_routes, with_status}

@@ -4,7 +4,7 @@ use Rattle.std.specs.Prelude.{ℕ, false, [], slice_index_or, Option, Some, None
 use Rattle.signalling_types.specs.declared.cause.Cause.TheVariants.{UnknownDestination, PoolFull, ManagementFull, ShareFull}
 use Rattle.signalling_types.specs.declared.outcome.Outcome.{Outcome}
 use Rattle.signalling_types.specs.declared.outcome.Outcome.TheVariants.{Refused, Ignored}
-use Rattle.settings_rows.specs.Configuration.{Configuration, LinkEntry}
+use Rattle.settings.specs.Configuration.{Configuration, LinkEntry}
 use Rattle.std.specs.Option.{option_and_then, option_map_or}
 use Rattle.signalling_types.specs.declared.point.Flow.{Flow}
 use Rattle.settings.specs.Readings.{destination_place}

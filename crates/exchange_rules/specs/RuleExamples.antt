@@ -6,8 +6,8 @@ use Rattle.signalling_types.specs.declared.cause.Cause.TheVariants.{PoolFull}
 use Rattle.signalling_types.specs.declared.outcome.Outcome.TheVariants.{Queued, Refused}
 use Rattle.signalling_types.specs.declared.notice.FailureReason.TheVariants as reasons
 use Rattle.signalling_types.specs.declared.notice.Notice.TheVariants.{Failed}
-use Rattle.settings_rows.specs.Configuration.{Configuration}
-use Rattle.settings_rows.specs.declared.timer_ticks.TimerTicks.{TimerTicks}
+use Rattle.settings.specs.Configuration.{Configuration}
+use Rattle.settings.specs.declared.timer_ticks.TimerTicks.{TimerTicks}
 use Rattle.link.specs.declared.alignment.Alignment.TheVariants.{InService}
 use Rattle.link.specs.Queue.{first_queue}
 use Rattle.routes.specs.declared.route.Route.{Route}

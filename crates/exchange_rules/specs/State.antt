@@ -1,7 +1,7 @@
 -- The state of an exchange, with queues of any kind.
 use Rattle.std.specs.Prelude.{ℕ, zero, suc, Bool, true, false, List, Option, Result, if◌then◌else◌, nat_lt, length, slice_set, [], ◌∷◌, ◌++◌, ◌+◌, ◌-◌, ◌%◌, ◌^◌, min}
 use Rattle.signalling_types.specs.Message.{Message}
-use Rattle.settings_rows.specs.Configuration.{Configuration, TitleEntry}
+use Rattle.settings.specs.Configuration.{Configuration, TitleEntry}
 use Rattle.signalling_types.specs.declared.cause.Cause.{Cause}
 use Rattle.signalling_types.specs.declared.notice.Notice.{Notice}
 use Rattle.signalling_types.specs.declared.outcome.Outcome.{Outcome}

@@ -1,7 +1,7 @@
 -- HMRT, message routing (Q.704 §2.3): management that this node makes, or that a link left over when it failed.
 use Rattle.std.specs.Prelude.{ℕ, ◌+◌, ◌*◌, ◌%◌, nat_eq, slice_index_or, slice_set, is_some, Option, Some, None, Bool, ◌&&◌, ◌||◌, not, nat_lt, List, [], ◌∷◌, Result, Ok, Err, if◌then◌else◌}
 use Rattle.signalling_types.specs.Message.{Message, dpc_of, flow_of, opc_of, service_indicator}
-use Rattle.settings_rows.specs.Configuration.{Configuration}
+use Rattle.settings.specs.Configuration.{Configuration}
 use Rattle.signalling_types.specs.declared.cause.Cause.{Cause}
 use Rattle.signalling_types.specs.declared.cause.Cause.TheVariants.{NoRoute}
 use Rattle.signalling_types.specs.declared.notice.Notice.TheVariants as notices

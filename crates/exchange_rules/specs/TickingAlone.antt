@@ -1,8 +1,8 @@
 -- What ticks alone end: laws.
 use Rattle.std.specs.Prelude.{◌≡◌, ◌≤◌, ◌+◌, ℕ, zero, suc, max, false, length, List, [], ◌∷◌, unwrap_or, if◌then◌else◌}
 use Rattle.signalling_types.specs.declared.limits.TheConstants.Limits.{LINKS}
-use Rattle.settings_rows.specs.Configuration.{Configuration}
-use Rattle.settings_rows.specs.declared.timer_ticks.TimerTicks.{TimerTicks}
+use Rattle.settings.specs.Configuration.{Configuration}
+use Rattle.settings.specs.declared.timer_ticks.TimerTicks.{TimerTicks}
 use Rattle.timers.specs.declared.name.TimerName.TheVariants.{L4, L6, L7, Slt1, Slt2}
 use Rattle.timers.specs.Timers.{Running, is_running}
 use Rattle.flow_hold.specs.declared.procedure.Procedure.{Procedure}

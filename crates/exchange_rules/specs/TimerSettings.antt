@@ -1,8 +1,8 @@
 -- Timers are set to their settings: laws.
 use Rattle.std.specs.Prelude.{◌≡◌, ◌≤◌, ◌⊎◌, ℕ, Bool, true, false, max, List, Option, Some, None, unwrap_or}
 use Rattle.std.specs.Option.{option_map_or}
-use Rattle.settings_rows.specs.Configuration.{Configuration}
-use Rattle.settings_rows.specs.declared.timer_ticks.TimerTicks.{TimerTicks}
+use Rattle.settings.specs.Configuration.{Configuration}
+use Rattle.settings.specs.declared.timer_ticks.TimerTicks.{TimerTicks}
 use Rattle.timers.specs.declared.name.TimerName.{TimerName}
 use Rattle.timers.specs.declared.name.TimerName.TheVariants.{L1, L2, L3, L4, L6, L7, T1, T2, T3, T4, T6, T8, T10}
 use Rattle.timers.specs.declared.name.TimerName.TheVariants.{Slt1, Slt2}

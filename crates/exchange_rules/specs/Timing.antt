@@ -1,7 +1,7 @@
 -- The timers of links (Q.703 §12.3).
 use Rattle.std.specs.Prelude.{ℕ, Bool, Option, Some, None, nat_eq, if◌then◌else◌, unwrap_or}
-use Rattle.settings_rows.specs.Configuration.{Configuration}
-use Rattle.settings_rows.specs.declared.timer_ticks.TimerTicks.{TimerTicks}
+use Rattle.settings.specs.Configuration.{Configuration}
+use Rattle.settings.specs.declared.timer_ticks.TimerTicks.{TimerTicks}
 use Rattle.link.specs.declared.action.LinkTimer.{LinkTimer}
 use Rattle.link.specs.declared.action.LinkTimer.TheVariants.{L1, L2, L3, L4, L6, L7}
 use Rattle.link.specs.declared.action.Transition.{Transition}

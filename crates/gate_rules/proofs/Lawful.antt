@@ -1,7 +1,7 @@
 -- The laws of gates beside nodes.
 use Rattle.std.proofs.Common.{◌≡◌, ℕ, Bool, List, Some, map, refl, ap, sym, ◌∙◌, subst}
 use Rattle.std.specs.List.{Contains}
-use Rattle.settings_rows.specs.Configuration.{Configuration}
+use Rattle.settings.specs.Configuration.{Configuration}
 use Rattle.sctp_rules.specs.Wishing.{Fits}
 use Rattle.sctp_rules.proofs.Passing.{Right}
 use Rattle.sctp_moves.proofs.Members.{in-from, contains-from, in-map}

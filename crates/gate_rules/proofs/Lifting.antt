@@ -1,6 +1,6 @@
 -- What is done at one end of a link of a node is done at the node.
 use Rattle.std.proofs.Common.{◌≡◌, ◌≢◌, ℕ, true, List, [], ◌∷◌, Option, Some, None, map, refl, ap, sym, ◌∙◌, subst}
-use Rattle.settings_rows.specs.Configuration.{Configuration}
+use Rattle.settings.specs.Configuration.{Configuration}
 use Rattle.m2pa_codec.specs.Frames.{FrameValue, spelled}
 use Rattle.exchange_rules.specs.Exchange.{frame_to_take, wants_of}
 use Rattle.exchange_rules.specs.First.{Abstract}

@@ -6,7 +6,7 @@ use Rattle.std.proofs.Common.{◌≡◌, ℕ, Bool, true, false, List, [], ◌�
 use Rattle.std.specs.Prelude.{if◌then◌else◌}
 use Rattle.signalling_types.specs.Message.{Message, flow_of}
 use Rattle.signalling_types.specs.declared.outcome.Outcome.{Outcome}
-use Rattle.settings_rows.specs.Configuration.{Configuration}
+use Rattle.settings.specs.Configuration.{Configuration}
 use Rattle.m2pa_codec.specs.Frames.{FrameValue}
 unfoldable use Rattle.exchange_rules.specs.Exchange.{apply}
 use Rattle.exchange_rules.specs.Exchange.{after, frame_to_take, go_by, go_each, handle_event, outcome_of, settled, wants_of}

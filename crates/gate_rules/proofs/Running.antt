@@ -1,6 +1,6 @@
 -- Runs of two nodes with gates are runs of two nodes of `node_rules`, and so have their promises.
 use Rattle.std.proofs.Common.{◌≡◌, ℕ, List, [], ◌∷◌, ◌++◌, map, refl, ap, sym, ◌∙◌, subst}
-use Rattle.settings_rows.specs.Configuration.{Configuration}
+use Rattle.settings.specs.Configuration.{Configuration}
 use Rattle.exchange_rules.specs.Exchange.{frame_to_take}
 use Rattle.exchange_rules.specs.Queues.{WholeQueues, whole}
 use Rattle.sctp_ends.proofs.Keyed.{keyed-good}

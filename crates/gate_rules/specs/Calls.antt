@@ -1,7 +1,7 @@
 -- What a gate does at its end of a link, whatever its node keeps; and of two nodes, as steps of that node.
 use Rattle.std.specs.Prelude.{◌≡◌, ◌+◌, ℕ, Bool, true, false, List, [], ◌∷◌, Some, None, map}
 use Rattle.std.specs.List.{Contains}
-use Rattle.settings_rows.specs.Configuration.{Configuration}
+use Rattle.settings.specs.Configuration.{Configuration}
 use Rattle.sctp_codec.specs.Packets.{PacketValue}
 use Rattle.sctp_rules.specs.State.{Datagram}
 use Rattle.sctp_rules.specs.Wishing.{Wish, Idle, Seeking, Served}

@@ -4,7 +4,7 @@
 use Rattle.std.specs.Prelude.{◌≡◌, ℕ, Bool, true, false, List, [], ◌∷◌, ◌++◌, Option, Some, None, replicate}
 use Rattle.link.specs.declared.alignment.Alignment.{Alignment}
 use Rattle.link.specs.declared.alignment.Alignment.TheVariants.{Down, InService}
-use Rattle.settings_rows.specs.Configuration.{Configuration}
+use Rattle.settings.specs.Configuration.{Configuration}
 use Rattle.signalling_types.specs.Message.{Message}
 use Rattle.exchange_rules.specs.State.{Ticked, Submitted, late_any, link_at}
 use Rattle.sctp_codec.specs.Packets.{PacketValue}

@@ -1,7 +1,7 @@
 -- How late a packet may come: a law.
 use Rattle.std.specs.Prelude.{◌<◌, ◌+◌, ◌^◌, ℕ, Some}
 use Rattle.std.specs.List.{Contains}
-use Rattle.settings_rows.specs.Configuration.{Configuration}
+use Rattle.settings.specs.Configuration.{Configuration}
 use Rattle.sctp_rules.specs.Settings.{Address}
 use Rattle.sctp_ends.specs.Worlds.{Emitted}
 use Rattle.sctp_gate.specs.Calling.{Hears}

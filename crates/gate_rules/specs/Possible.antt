@@ -1,7 +1,7 @@
 -- What is promised isn't promised of nothing: what may be done at a node, whatever was done before.
 use Rattle.std.specs.Prelude.{◌≤◌, ℕ, None, Some}
 use Rattle.std.specs.List.{Contains}
-use Rattle.settings_rows.specs.Configuration.{Configuration}
+use Rattle.settings.specs.Configuration.{Configuration}
 use Rattle.signalling_types.specs.Message.{Message}
 use Rattle.sctp_rules.specs.Settings.{Address}
 use Rattle.sctp_ends.specs.Worlds.{Emitted}

@@ -4,7 +4,7 @@
 -- happen.
 use Rattle.std.specs.Prelude.{◌≡◌, ◌≤◌, ◌+◌, ◌*◌, ℕ, Bool, List, [], ◌∷◌, ◌++◌, Some, None, map, nat_eq, if◌then◌else◌}
 use Rattle.std.specs.List.{Contains}
-use Rattle.settings_rows.specs.Configuration.{Configuration}
+use Rattle.settings.specs.Configuration.{Configuration}
 use Rattle.sctp_codec.specs.Packets.{PacketValue}
 use Rattle.sctp_rules.specs.Settings.{Settings}
 use Rattle.sctp_moves.specs.Numbers.{modulus, window}

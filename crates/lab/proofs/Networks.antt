@@ -3,7 +3,7 @@ use Rattle.std.proofs.Common.{◌≡◌, ◌∙◌, ◌<◌, ◌≤◌, ◌+◌,
 use Rattle.std.specs.List.{prefix_len}
 use Rattle.std.specs.Option.{option_or}
 use Rattle.std.proofs.lemmas.List.{length-map, get_or-map, drop_more, drop_all}
-use Rattle.settings_rows.specs.Configuration.{Configuration, LinkEntry}
+use Rattle.settings.specs.Configuration.{Configuration, LinkEntry}
 use Rattle.exchange.specs.Calls.{Kept}
 use Rattle.lab.specs.Network.{settings_in, link_fault, link_faults, node_fault, node_faults}
 use Rattle.lab.specs.declared.network.NetworkFault.{NetworkFault}

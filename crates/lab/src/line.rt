@@ -2,8 +2,8 @@
 
 use console::Command;
 use console::words::cut;
-use point_format::PointFormat;
 use script::{Line, Malformed, is_skipped, line_with_one_word};
+use settings::PointFormat;
 
 /// An end of a link. In a lab of two nodes it is one of them.
 #[derive(Clone, Copy, PartialEq, Eq)]

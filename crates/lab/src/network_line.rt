@@ -3,8 +3,8 @@
 use crate::line::{LabLine, asked_at};
 use console::words::cut;
 use exchange::Exchange;
-use point_format::{PointFormat, parse_point};
 use script::{Malformed, is_skipped};
+use settings::{PointFormat, parse_point};
 
 /// Whether a line asks to carry what there is on all links.
 pub(crate) fn is_carry(line: &[u8]) -> bool {

@@ -7,7 +7,7 @@ use Rattle.std.proofs.lemmas.List.{get_or_past, get_or-set_same}
 use Rattle.std.specs.List.{list_any}
 use Rattle.std.specs.Prelude.{◌&&◌, drop, nat_eq, option_to_list, slice_get, slice_set, take}
 use Rattle.signalling_types.specs.Message.{Message, dpc_of, opc_of, service_indicator}
-use Rattle.settings_rows.specs.Configuration.{Configuration}
+use Rattle.settings.specs.Configuration.{Configuration}
 use Rattle.m2pa_codec.specs.Frames.{read_frame}
 use Rattle.exchange_rules.specs.Laws.{carried_message}
 use Rattle.exchange_rules.specs.Routing.{adjacent_of}

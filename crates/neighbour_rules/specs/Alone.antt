@@ -1,6 +1,6 @@
 -- A pair of nodes that have only each other, as a pair that may have further neighbours.
 use Rattle.std.specs.Prelude.{◌≡◌, List, map}
-use Rattle.settings_rows.specs.Configuration.{Configuration}
+use Rattle.settings.specs.Configuration.{Configuration}
 use Rattle.pair_rules.specs.Pairs as pairs
 use Rattle.pair_rules.specs.Pairs.{PairState, first_pair}
 use Rattle.pair_rules.specs.Accepting.{AreForFarPoint}

@@ -3,7 +3,7 @@
 use Rattle.std.specs.Prelude.{◌≡◌, ◌<◌, ◌-◌, ◌^◌, ◌||◌, ℕ, Bool, true, false, List, [], ◌∷◌, slice_set}
 use Rattle.std.specs.List.{list_any}
 use Rattle.signalling_types.specs.Message.{Message}
-use Rattle.settings_rows.specs.Configuration.{Configuration}
+use Rattle.settings.specs.Configuration.{Configuration}
 use Rattle.exchange_rules.specs.LoneRoutes.{is_user_to}
 use Rattle.pair_rules.specs.Pairs.{PairState, turned, may_follow, may_open_at, first_end, first_pair}
 use Rattle.pair_rules.specs.Promises.{BothWays}

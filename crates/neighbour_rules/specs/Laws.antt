@@ -2,7 +2,7 @@
 -- direction: for what the near end has for the far end. A link and the far end of it have each their own number.
 use Rattle.std.specs.Prelude.{◌≡◌, ◌≢◌, ◌≤◌, ◌-◌, ◌⊎◌, ◌||◌, ◌&&◌, ℕ, Bool, true, false, not, List, [], ◌++◌, drop, take, Contains, length, slice_get, Option, Some, None, if◌then◌else◌}
 use Rattle.signalling_types.specs.Message.{Message, opc_of}
-use Rattle.settings_rows.specs.Configuration.{Configuration}
+use Rattle.settings.specs.Configuration.{Configuration}
 use Rattle.mtp3_codec.specs.Management.{read_management}
 use Rattle.link.specs.Queue.{first_queue, named_count, last_accepted}
 use Rattle.changeover.specs.Changeover.{accepted_count, behind}

@@ -5,7 +5,7 @@ use Rattle.std.specs.Prelude.{None, slice_get, slice_set, option_to_list, if◌t
 use Rattle.std.specs.List.{list_any}
 use Rattle.signalling_types.specs.Message.{Message, dpc_of, opc_of, service_indicator}
 use Rattle.signalling_types.specs.declared.outcome.Outcome.TheVariants.{Handled}
-use Rattle.settings_rows.specs.Configuration.{Configuration, LinkEntry}
+use Rattle.settings.specs.Configuration.{Configuration, LinkEntry}
 use Rattle.m2pa_codec.specs.Frames.{FrameValue, read_frame}
 use Rattle.exchange_rules.specs.Conserving.{brought_in}
 use Rattle.exchange_rules.specs.declared.wants.Wants.{Wants}

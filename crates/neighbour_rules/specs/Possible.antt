@@ -1,7 +1,7 @@
 -- What is promised of two nodes is promised against this: what the network between them and third nodes may do.
 use Rattle.std.specs.Prelude.{◌≡◌, ◌≢◌, ◌⊎◌, ℕ, List, ◌∷◌, Some, slice_get}
 use Rattle.signalling_types.specs.Message.{Message, dpc_of, opc_of, service_indicator}
-use Rattle.settings_rows.specs.Configuration.{LinkEntry}
+use Rattle.settings.specs.Configuration.{LinkEntry}
 use Rattle.m2pa_codec.specs.Frames.{read_frame}
 use Rattle.exchange_rules.specs.State.{CameUp, FrameCame, Ticked, WentDown}
 use Rattle.exchange_rules.specs.Exchange.{after}

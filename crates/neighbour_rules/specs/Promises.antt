@@ -3,7 +3,7 @@
 use Rattle.std.specs.Prelude.{◌≡◌, ◌+◌, ℕ, Bool, true, List, [], ◌∷◌, ◌++◌, All, count_by, drop, length, unwrap_or, slice_index_or, Option, Some, None}
 use Rattle.signalling_types.specs.Message.{Message}
 use Rattle.signalling_types.specs.declared.point.Flow.{Flow}
-use Rattle.settings_rows.specs.Configuration.{Configuration}
+use Rattle.settings.specs.Configuration.{Configuration}
 use Rattle.settings.specs.Readings.{destination_place}
 use Rattle.settings.specs.Sharing.{LeadsAlone}
 use Rattle.routes.specs.Routes.{first_route, chosen_link}

@@ -2,7 +2,7 @@
 -- for the far point, and goes on to it, once.
 use Rattle.std.specs.Prelude.{◌≡◌, ℕ, true, false, None, Some, List, [], ◌∷◌, ◌++◌}
 use Rattle.signalling_types.specs.Message.{Message}
-use Rattle.settings_rows.specs.Configuration.{Configuration}
+use Rattle.settings.specs.Configuration.{Configuration}
 use Rattle.m2pa_codec.specs.Frames.{MessageFrame, StatusFrame, spelled}
 use Rattle.m2pa_codec.specs.declared.status.LinkStatus.{LinkStatus}
 use Rattle.m2pa_codec.specs.declared.status.LinkStatus.TheVariants.{Alignment, ProvingNormal, Ready}

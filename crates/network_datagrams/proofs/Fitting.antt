@@ -1,6 +1,6 @@
 -- The next frame of a link fits an endpoint: each node and a neighbour are like two of a pair, whose frames do.
 use Rattle.std.proofs.Common.{◌≡◌, ℕ, List, Some, ap, sym, ◌∙◌, subst}
-use Rattle.settings_rows.specs.Configuration.{Configuration}
+use Rattle.settings.specs.Configuration.{Configuration}
 use Rattle.m2pa_codec.specs.Frames.{FrameValue}
 use Rattle.exchange_rules.specs.Exchange.{frame_to_take}
 use Rattle.exchange_rules.specs.First.{Abstract}

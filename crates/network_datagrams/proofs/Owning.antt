@@ -1,7 +1,7 @@
 -- What happens at a node and is of no link: one step of the network.
 use Rattle.std.proofs.Common.{◌≡◌, ◌≢◌, ℕ, refl, ap, sym, subst, ⊎_elim}
 use Rattle.std.proofs.lemmas.Bool.{cases_eq}
-use Rattle.settings_rows.specs.Configuration.{Configuration}
+use Rattle.settings.specs.Configuration.{Configuration}
 use Rattle.exchange_rules.specs.State.{Happening, CameUp, WentDown, FrameCame, Submitted, Ticked, Activated, Deactivated, Released, TitleAdded, TitleRemoved}
 use Rattle.pair_rules.specs.Pairs as pairs
 use Rattle.pair_rules.specs.Pairs.{Streams, behind_data, behind_statuses, emptied, in_flight, launched, may_follow, nothing_in_flight, without_data, without_status}

@@ -1,6 +1,6 @@
 -- Over datagrams nodes pass on in order, and so does a path, by the lemmas of networks.
 use Rattle.std.proofs.Common.{◌≡◌, ℕ, Bool, List, [], ◌∷◌, map, refl, ap, sym, ◌∙◌, subst}
-use Rattle.settings_rows.specs.Configuration.{Configuration}
+use Rattle.settings.specs.Configuration.{Configuration}
 use Rattle.network_rules.specs.Anew.{Steps, after_all}
 use Rattle.network_rules.specs.Networks.{NetworkNode, NetworkState, Step, after_step, after_steps, first_network}
 use Rattle.signalling_types.specs.declared.point.Flow.{Flow}

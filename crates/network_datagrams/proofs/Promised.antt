@@ -1,6 +1,6 @@
 -- The laws of networks hold over datagrams: none of them speaks of what is in flight.
 use Rattle.std.proofs.Common.{◌≡◌, ℕ, true, List, ap, sym, subst}
-use Rattle.settings_rows.specs.Configuration.{Configuration}
+use Rattle.settings.specs.Configuration.{Configuration}
 use Rattle.pair_rules.specs.Awaiting.{HoldInNoVain}
 use Rattle.pair_rules.specs.Pairs.{PairState}
 use Rattle.pair_rules.specs.Promises.{BothWays, IsPunctual, LostNothing}

@@ -1,6 +1,6 @@
 -- Runs over datagrams are runs of a network.
 use Rattle.std.proofs.Common.{◌≡◌, ℕ, false, List, [], ◌∷◌, ◌++◌, Option, Some, None, length, map, refl, ap, sym, ◌∙◌, subst}
-use Rattle.settings_rows.specs.Configuration.{Configuration}
+use Rattle.settings.specs.Configuration.{Configuration}
 use Rattle.m2pa_codec.specs.Frames.{FrameValue, spelled}
 use Rattle.exchange_rules.specs.State.{Happening}
 use Rattle.exchange_rules.specs.Exchange.{frame_to_take}

@@ -4,7 +4,7 @@ use Rattle.std.proofs.Common.{◌≡◌, ◌≢◌, ℕ, Bool, List, [], length,
 use Rattle.std.specs.Prelude.{if◌then◌else◌}
 use Rattle.std.proofs.lemmas.Bool.{cases_eq, eq-eqb}
 use Rattle.network_rules.proofs.Places.{not-equal}
-use Rattle.settings_rows.specs.Configuration.{Configuration}
+use Rattle.settings.specs.Configuration.{Configuration}
 use Rattle.sctp_moves.specs.Ends.{Message}
 use Rattle.pair_rules.specs.Pairs.{nothing_in_flight}
 use Rattle.network_rules.specs.Networks.{NetworkNode, NetworkState}

@@ -1,7 +1,7 @@
 -- What the nodes of a network promise over datagrams: what those of `network_rules` promise from their first state on.
 use Rattle.std.specs.Prelude.{◌≡◌, ℕ, true, List, Some}
 use Rattle.signalling_types.specs.declared.point.Flow.{Flow}
-use Rattle.settings_rows.specs.Configuration.{Configuration}
+use Rattle.settings.specs.Configuration.{Configuration}
 use Rattle.m2pa_codec.specs.Frames.{FrameValue}
 use Rattle.exchange_rules.specs.Exchange.{frame_to_take}
 use Rattle.exchange_rules.specs.Queues.{whole}

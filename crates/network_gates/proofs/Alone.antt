@@ -5,7 +5,7 @@ use Rattle.std.proofs.lemmas.List.{append-nil, map-append}
 use Rattle.std.proofs.lemmas.List.Elements.{filter-append}
 use Rattle.signalling_types.specs.Message.{Message}
 use Rattle.changeover.specs.Changeover.{users_of}
-use Rattle.settings_rows.specs.Configuration.{Configuration}
+use Rattle.settings.specs.Configuration.{Configuration}
 use Rattle.exchange_rules.specs.Conserving.{brought_in}
 use Rattle.exchange_rules.specs.Exchange as exchange
 use Rattle.exchange_rules.specs.Queues.{WholeQueues, whole}

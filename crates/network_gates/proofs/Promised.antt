@@ -1,6 +1,6 @@
 -- The laws of a network over datagrams hold of gates: none of them speaks of endpoints.
 use Rattle.std.proofs.Common.{◌≡◌, ℕ, List, subst}
-use Rattle.settings_rows.specs.Configuration.{Configuration}
+use Rattle.settings.specs.Configuration.{Configuration}
 use Rattle.network_rules.specs.Networks.{NetworkState}
 use Rattle.network_datagrams.specs.NetworkWorlds as datagrams
 use Rattle.network_datagrams.specs.NetworkPromises as datagrams_promise

@@ -1,6 +1,6 @@
 -- What the nodes of a network promise whose links have gates: what those of `network_datagrams` promise.
 use Rattle.std.specs.Prelude.{◌≡◌, ℕ, List}
-use Rattle.settings_rows.specs.Configuration.{Configuration}
+use Rattle.settings.specs.Configuration.{Configuration}
 use Rattle.network_rules.specs.Networks.{NetworkState}
 use Rattle.network_rules.specs.Totals.{IsJoined}
 use Rattle.node_rules.specs.Worlds as nodes

@@ -1,7 +1,7 @@
 -- What a network promises anew: from each state on in which nothing is left between two of its nodes, or in all of it,
 -- whatever was lost before, and however often nodes have started again.
 use Rattle.std.specs.Prelude.{◌≡◌, ◌≢◌, ◌<◌, ℕ, ⊤, true, false, List, [], ◌∷◌, All, length, slice_set}
-use Rattle.settings_rows.specs.Configuration.{Configuration}
+use Rattle.settings.specs.Configuration.{Configuration}
 use Rattle.pair_rules.specs.Pairs.{PairState, turned, may_follow, may_open_at}
 use Rattle.pair_rules.specs.Promises.{BothWays}
 use Rattle.pair_rules.specs.Sharing.{AreSharing}

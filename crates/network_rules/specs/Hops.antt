@@ -4,7 +4,7 @@
 use Rattle.std.specs.Prelude.{◌≡◌, ℕ, ⊤, false, List, [], ◌∷◌, Some}
 use Rattle.std.specs.List.{list_any}
 use Rattle.signalling_types.specs.declared.point.Flow.{Flow}
-use Rattle.settings_rows.specs.Configuration.{Configuration}
+use Rattle.settings.specs.Configuration.{Configuration}
 use Rattle.settings.specs.Readings.{destination_place, set_place}
 use Rattle.settings.specs.Sharing.{sets_to}
 use Rattle.pair_rules.specs.Promises.{IsPunctual, LostNothing}

@@ -2,7 +2,7 @@
 use Rattle.std.specs.Prelude.{◌&&◌, ℕ, Bool, true, false, not, nat_eq, nat_lt, List, [], ◌∷◌, length, Option, Some, None, option_to_list, slice_get}
 use Rattle.std.specs.List.{list_any}
 use Rattle.signalling_types.specs.Message.{Message, dpc_of, opc_of, service_indicator}
-use Rattle.settings_rows.specs.Configuration.{Configuration, LinkEntry}
+use Rattle.settings.specs.Configuration.{Configuration, LinkEntry}
 use Rattle.m2pa_codec.specs.Frames.{read_frame}
 use Rattle.exchange_rules.specs.Laws.{carried_message}
 use Rattle.exchange_rules.specs.Routing.{adjacent_of}

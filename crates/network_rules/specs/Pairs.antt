@@ -2,7 +2,7 @@
 -- promise holds between any two nodes of a network that share a set.
 use Rattle.std.specs.Prelude.{◌≡◌, ◌⊎◌, ℕ, true, false, not, List, [], filter, length, map, Some, slice_get}
 use Rattle.signalling_types.specs.Message.{Message}
-use Rattle.settings_rows.specs.Configuration.{Configuration}
+use Rattle.settings.specs.Configuration.{Configuration}
 use Rattle.settings.specs.Well.{IsWell}
 use Rattle.pair_rules.specs.Pairs.{End, PairState, Streams, first_pair, in_flight, may_follow}
 use Rattle.pair_rules.specs.Awaiting.{HoldInNoVain}

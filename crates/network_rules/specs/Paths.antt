@@ -3,7 +3,7 @@
 use Rattle.std.specs.Prelude.{◌≡◌, ◌+◌, ℕ, ⊤, Bool, List, [], ◌∷◌, ◌++◌, All, Option, Some, None, count_by, drop, filter, length, map}
 use Rattle.signalling_types.specs.Message.{Message}
 use Rattle.signalling_types.specs.declared.point.Flow.{Flow}
-use Rattle.settings_rows.specs.Configuration.{Configuration}
+use Rattle.settings.specs.Configuration.{Configuration}
 use Rattle.changeover.specs.Changeover.{users_of}
 use Rattle.pair_moves.specs.Order.{join_to}
 use Rattle.pair_rules.specs.Pairs.{PairState}

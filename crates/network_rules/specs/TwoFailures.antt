@@ -3,7 +3,7 @@
 use Rattle.std.specs.Prelude.{◌≡◌, ℕ, false, true, nat_eq, not, List, [], ◌∷◌, ◌++◌, filter, None, if◌then◌else◌}
 use Rattle.signalling_types.specs.Message.{flow_of, is_management}
 use Rattle.signalling_types.specs.declared.outcome.Outcome.TheVariants.{Queued}
-use Rattle.settings_rows.specs.Configuration.{Configuration}
+use Rattle.settings.specs.Configuration.{Configuration}
 use Rattle.m2pa_codec.specs.Frames.{MessageFrame, spelled}
 use Rattle.exchange_rules.specs.Conserving.{standing}
 use Rattle.exchange_rules.specs.Exchange.{outcome_of}

@@ -3,7 +3,7 @@ use Rattle.std.proofs.Common.{◌≡◌, ℕ, Bool, false, not, List, [], ◌∷
 use Rattle.std.specs.Prelude.{slice_get}
 use Rattle.std.proofs.lemmas.Bool.{eq-eqb}
 use Rattle.std.proofs.lemmas.Option.{get_or_from_slice_get}
-use Rattle.settings_rows.specs.Configuration.{Configuration, LinkEntry}
+use Rattle.settings.specs.Configuration.{Configuration, LinkEntry}
 use Rattle.settings.specs.Facing.{IsFacing}
 use Rattle.exchange_rules.specs.Routing.{adjacent_of, entry_of}
 use Rattle.exchange_rules.specs.State.{CameUp, FrameCame}

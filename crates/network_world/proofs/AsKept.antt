@@ -1,6 +1,6 @@
 -- A network whose nodes are kept, by whatever it came to be: no more is asked by what becomes of things done there.
 use Rattle.std.proofs.Common.{◌≡◌, ℕ, List, ap, ◌∙◌}
-use Rattle.settings_rows.specs.Configuration.{Configuration}
+use Rattle.settings.specs.Configuration.{Configuration}
 use Rattle.network_rules.specs.Networks.{NetworkState}
 use Rattle.network_rules.specs.Totals.{IsPlaced}
 use Rattle.network_world.specs.KeptNodes.{KeptNode}

@@ -2,7 +2,7 @@
 use Rattle.std.proofs.Common.{◌≡◌, ◌≤◌, ℕ, Bool, true, false, List, [], ◌∷◌, length, nat_eq, refl, sym, subst}
 use Rattle.std.specs.Prelude.{if◌then◌else◌}
 use Rattle.std.proofs.lemmas.List.{length-replicate}
-use Rattle.settings_rows.specs.Configuration.{Configuration}
+use Rattle.settings.specs.Configuration.{Configuration}
 use Rattle.signalling_types.specs.declared.limits.TheConstants.Limits.{LINKS}
 use Rattle.exchange_rules.proofs.LastingPlaces.{places-first}
 use Rattle.network_rules.specs.Anew.{Change, GivesUp, Restarts, Steps, after_all, after_change, begun_anew, given_up, restarted}

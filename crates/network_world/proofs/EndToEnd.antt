@@ -1,6 +1,6 @@
 -- What a network promises from end to end.
 use Rattle.std.proofs.Common.{◌≡◌, ◌<◌, ℕ, true, List, length, refl, ap, sym, subst, ◌∙◌}
-use Rattle.settings_rows.specs.Configuration.{Configuration}
+use Rattle.settings.specs.Configuration.{Configuration}
 use Rattle.exchange_rules.specs.Routing.{peer_of}
 use Rattle.pair_rules.specs.Sharing.{AreSharing}
 use Rattle.network_rules.specs.Networks.{NetworkState, first_network}

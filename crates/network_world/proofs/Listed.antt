@@ -3,7 +3,7 @@ use Rattle.std.proofs.Common.{◌≡◌, ◌≢◌, ◌<◌, ◌||◌, ℕ, Bool
 use Rattle.std.specs.Prelude.{None, if◌then◌else◌, slice_get, slice_index_or}
 use Rattle.std.proofs.lemmas.Bool.Decides.{nat_tests}
 use Rattle.std.proofs.lemmas.Option.{get_or_from_slice_get, slice_get_within}
-use Rattle.settings_rows.specs.Configuration.{Configuration, LinkEntry}
+use Rattle.settings.specs.Configuration.{Configuration, LinkEntry}
 use Rattle.settings.specs.Well.{IsLink, IsSet, IsWell}
 use Rattle.exchange_rules.specs.Routing.{adjacent_of}
 use Rattle.network_rules.specs.Totals.{IsPlaced, is_listed}

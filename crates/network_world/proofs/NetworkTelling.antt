@@ -2,7 +2,7 @@
 -- other.
 use Rattle.std.proofs.Common.{◌≡◌, ℕ, Bool, false, List, length, Option, Some, None, drop, refl, ap, sym, subst}
 use Rattle.std.specs.Prelude.{slice_get}
-use Rattle.settings_rows.specs.Configuration.{Configuration}
+use Rattle.settings.specs.Configuration.{Configuration}
 use Rattle.settings.specs.Facing.{IsFacing}
 use Rattle.exchange_rules.specs.First.{Abstract}
 use Rattle.exchange_rules.specs.Messages.{own_of}

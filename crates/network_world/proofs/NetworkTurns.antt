@@ -3,7 +3,7 @@ use Rattle.std.proofs.Common.{◌≡◌, ◌≢◌, ◌<◌, ℕ, Bool, true, fa
 use Rattle.std.specs.Prelude.{if◌then◌else◌, slice_get}
 use Rattle.std.specs.Option.{option_and_then, option_map}
 use Rattle.signalling_types.specs.declared.outcome.Outcome.TheVariants.{Ignored}
-use Rattle.settings_rows.specs.Configuration.{Configuration, LinkEntry}
+use Rattle.settings.specs.Configuration.{Configuration, LinkEntry}
 use Rattle.m2pa_codec.specs.Frames.{FrameValue}
 use Rattle.exchange_rules.specs.declared.wants.Wants.{Wants}
 use Rattle.exchange_rules.specs.declared.wants.Wants.TheVariants as wants

@@ -1,7 +1,7 @@
 -- What holds of each node, and of all together, of a network each of whose links has its other end in it.
 use Rattle.std.proofs.Common.{◌≡◌, ◌<◌, ℕ, List, length, refl, ap, sym, subst, ◌∙◌}
 use Rattle.std.specs.Prelude.{is_some}
-use Rattle.settings_rows.specs.Configuration.{Configuration}
+use Rattle.settings.specs.Configuration.{Configuration}
 use Rattle.network_rules.specs.Networks.{NetworkState, first_network}
 use Rattle.network_rules.specs.Outside.{Move, after_move}
 use Rattle.network_rules.proofs.Joined.{HasOther, ends-are, has-other}

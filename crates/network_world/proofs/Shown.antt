@@ -5,7 +5,7 @@ use Rattle.settings.specs.Sharing.{LeadsAlone, SharesSet}
 use Rattle.settings.specs.Well.{IsWell}
 use Rattle.std.specs.Option.{option_and_then, option_map}
 use Rattle.signalling_types.specs.Message.{Message}
-use Rattle.settings_rows.specs.Configuration.{Configuration}
+use Rattle.settings.specs.Configuration.{Configuration}
 use Rattle.settings.specs.Readings.{set_place}
 use Rattle.exchange_rules.specs.First.{IsSound}
 use Rattle.exchange.specs.Calls as exchanges

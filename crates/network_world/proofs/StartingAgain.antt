@@ -1,7 +1,7 @@
 -- A node that starts again, or gives up following the other end of a link, does so in the abstract network.
 use Rattle.std.proofs.Common.{◌≡◌, ℕ, List, Option, Some, None, is_some, refl, ap, sym, subst, ◌∙◌}
 use Rattle.signalling_types.specs.declared.outcome.Outcome.TheVariants.{Handled}
-use Rattle.settings_rows.specs.Configuration.{Configuration}
+use Rattle.settings.specs.Configuration.{Configuration}
 use Rattle.settings.specs.Well.{IsWell}
 use Rattle.pair_rules.specs.Pairs.{may_follow}
 use Rattle.network_rules.specs.Anew.{Change, GivesUp, Restarts, given_up, restarted}

@@ -1,7 +1,7 @@
 -- The settings of the nodes of a network.
 use Rattle.std.specs.Prelude.{◌≡◌, ℕ, Bool, true, ◌&&◌, not, nat_eq, List, [], ◌∷◌, find, slice_get, Option, Some, None}
 use Rattle.std.specs.List.{list_any}
-use Rattle.settings_rows.specs.Configuration.{Configuration, LinkEntry}
+use Rattle.settings.specs.Configuration.{Configuration, LinkEntry}
 use Rattle.settings.specs.Sharing.{SharesSet}
 use Rattle.settings.specs.Well.{IsWell}
 use Rattle.exchange_rules.specs.Routing.{adjacent_of}

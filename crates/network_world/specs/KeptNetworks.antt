@@ -3,7 +3,7 @@ use Rattle.std.specs.Prelude.{ℕ, Bool, nat_eq, List, find, map, position, slic
 use Rattle.std.specs.Option.{option_and_then, option_map}
 use Rattle.signalling_types.specs.declared.outcome.Outcome.{Outcome}
 use Rattle.signalling_types.specs.declared.outcome.Outcome.TheVariants.{Ignored}
-use Rattle.settings_rows.specs.Configuration.{Configuration, LinkEntry}
+use Rattle.settings.specs.Configuration.{Configuration, LinkEntry}
 use Rattle.exchange_rules.specs.Routing.{adjacent_of}
 use Rattle.pair_rules.specs.Pairs.{Doing, Takes, OpensFirst}
 use Rattle.neighbour_rules.specs.Neighbours.{end_there}

@@ -5,7 +5,7 @@ use Rattle.std.specs.Option.{option_map}
 use Rattle.signalling_types.specs.Message.{Message}
 use Rattle.signalling_types.specs.declared.outcome.Outcome.{Outcome}
 use Rattle.signalling_types.specs.declared.outcome.Outcome.TheVariants.{Handled, Ignored}
-use Rattle.settings_rows.specs.Configuration.{Configuration}
+use Rattle.settings.specs.Configuration.{Configuration}
 use Rattle.m2pa_codec.specs.Frames.{link_status, spelled, read_frame}
 use Rattle.exchange_rules.specs.State.{Happening, CameUp, FrameCame, Submitted}
 use Rattle.exchange_rules.specs.declared.wants.Wants.{Wants}

@@ -1,7 +1,7 @@
 -- When a network of the code stands for an abstract one whatever was lost there, and however often nodes have started
 -- again, and what it promises since its books began anew.
 use Rattle.std.specs.Prelude.{◌≡◌, ℕ, Bool, true, ⊤, List, [], ◌∷◌, ◌++◌, All, if◌then◌else◌}
-use Rattle.settings_rows.specs.Configuration.{Configuration}
+use Rattle.settings.specs.Configuration.{Configuration}
 use Rattle.neighbour_rules.specs.Anew.{IsQuietPair, LostNothingSince}
 use Rattle.network_rules.specs.Networks.{NetworkState, first_network}
 use Rattle.network_rules.specs.Pairs.{pair_of}

@@ -7,7 +7,7 @@ use Rattle.std.proofs.lemmas.List.{get_or_past, length-set}
 use Rattle.std.specs.Prelude.{drop, if◌then◌else◌, slice_get, slice_index_or, slice_set, take, map}
 use Rattle.std.specs.Option.{option_to_list}
 use Rattle.signalling_types.specs.Message.{Message}
-use Rattle.settings_rows.specs.Configuration.{Configuration}
+use Rattle.settings.specs.Configuration.{Configuration}
 use Rattle.m2pa_codec.specs.Frames.{FrameValue, EmptyFrame, MessageFrame, StatusFrame, spelled}
 use Rattle.exchange_rules.specs.Conserving.{brought_in}
 use Rattle.exchange_rules.specs.Exchange.{outcome_of}

@@ -1,7 +1,7 @@
 -- The node law of networks.
 use Rattle.std.proofs.Common.{◌≡◌, ◌+◌, ◌≤◌, ℕ, List, ap, sym, subst, ◌∙◌, arith}
 use Rattle.std.specs.Prelude.{min}
-use Rattle.settings_rows.specs.Configuration.{Configuration}
+use Rattle.settings.specs.Configuration.{Configuration}
 use Rattle.exchange_rules.specs.Queues.{WholeQueues}
 use Rattle.exchange_rules.specs.State.{Node, lost_any}
 use Rattle.node_moves.specs.Laws as law

@@ -2,7 +2,7 @@
 use Rattle.std.proofs.Common.{◌≡◌, ◌||◌, ℕ, Bool, true, false, [], refl, sym, subst}
 use Rattle.std.specs.Prelude.{count_by, if◌then◌else◌, nat_eq}
 use Rattle.settings.specs.Well.{IsWell}
-use Rattle.settings_rows.specs.Configuration.{Configuration}
+use Rattle.settings.specs.Configuration.{Configuration}
 use Rattle.node_moves.specs.MatedPair.{end_settings, mated, transfer_settings, without_links}
 use Rattle.node_moves.proofs.Basics.{eqb-true}
 use Rattle.node_moves.proofs.Mated.{mated-theirs}

@@ -5,7 +5,7 @@ use Rattle.std.proofs.lemmas.Option.{slice_get-get_or}
 use Rattle.std.specs.Prelude.{is_some, slice_get}
 use Rattle.std.specs.Option.{option_map}
 use Rattle.settings.specs.Well.{IsWell}
-use Rattle.settings_rows.specs.Configuration.{Configuration, LinkEntry}
+use Rattle.settings.specs.Configuration.{Configuration, LinkEntry}
 use Rattle.exchange_rules.specs.Messages.{link_with_code}
 use Rattle.exchange_rules.specs.Routing.{adjacent_of, entry_of, peer_of}
 use Rattle.node_moves.specs.Laws.{AreTheirs}

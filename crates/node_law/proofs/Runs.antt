@@ -5,7 +5,7 @@ use Rattle.std.proofs.lemmas.List.{length-replicate}
 use Rattle.std.proofs.lemmas.Option.{slice_get_within}
 use Rattle.std.specs.Prelude.{drop, is_some, slice_get, slice_index_or, take}
 use Rattle.std.specs.Option.{option_map}
-use Rattle.settings_rows.specs.Configuration.{Configuration, LinkEntry}
+use Rattle.settings.specs.Configuration.{Configuration, LinkEntry}
 use Rattle.settings.specs.Well.{IsWell}
 use Rattle.exchange_rules.proofs.LastingPlaces.{places-first}
 use Rattle.exchange_rules.proofs.Lists.{each-replicate}

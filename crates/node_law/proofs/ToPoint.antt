@@ -6,7 +6,7 @@ use Rattle.std.specs.Prelude.{count_by, filter, if◌then◌else◌, sum_by}
 use Rattle.signalling_types.specs.Message.{Message, dpc_of, network_indicator}
 use Rattle.signalling_types.specs.declared.cause.Cause.TheVariants.{NoLabel, TooLong, WrongNetwork}
 use Rattle.signalling_types.specs.declared.limits.TheConstants.Limits.{SIF_OCTETS}
-use Rattle.settings_rows.specs.Configuration.{Configuration}
+use Rattle.settings.specs.Configuration.{Configuration}
 use Rattle.mtp3_codec.specs.Headings.{fault_or_destination, label_at}
 use Rattle.mtp3_codec.specs.declared.discrimination.Discrimination.TheVariants as whither
 use Rattle.mtp3_codec.specs.declared.label.Label.{Label}

@@ -1,7 +1,7 @@
 -- A network of `network_rules` each of whose links has its other end in it has the nodes of one of `node_moves`.
 use Rattle.std.specs.Prelude.{◌≡◌, ◌<◌, ℕ, true, nat_eq, List, filter, is_some, length, map}
 use Rattle.signalling_types.specs.Message.{Message}
-use Rattle.settings_rows.specs.Configuration.{Configuration}
+use Rattle.settings.specs.Configuration.{Configuration}
 use Rattle.node_moves.specs.Laws.{AreTheirs}
 use Rattle.node_moves.specs.Networks as nodes
 use Rattle.node_moves.specs.Networks.{IsNode, messages_of}

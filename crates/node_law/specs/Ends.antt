@@ -2,7 +2,7 @@
 -- however many ways lead to a point.
 use Rattle.std.specs.Prelude.{◌≡◌, ◌≤◌, ◌+◌, ◌-◌, ℕ, Bool, true, List, [], length, min, Option, Some, None}
 use Rattle.signalling_types.specs.Message.{Message}
-use Rattle.settings_rows.specs.Configuration.{Configuration}
+use Rattle.settings.specs.Configuration.{Configuration}
 use Rattle.network_moves.specs.Networks.{sum_to}
 use Rattle.node_moves.specs.Laws.{most, users_that}
 use Rattle.network_rules.specs.Networks.{NetworkState, Place, first_network, other_end}

@@ -1,7 +1,7 @@
 -- From end to end, over all nodes of a network, whatever the routes, and however many ways lead to a point.
 use Rattle.std.specs.Prelude.{◌≡◌, ◌+◌, ◌&&◌, ℕ, Bool, true, List, sum_by}
 use Rattle.signalling_types.specs.Message.{Message}
-use Rattle.settings_rows.specs.Configuration.{Configuration}
+use Rattle.settings.specs.Configuration.{Configuration}
 use Rattle.node_moves.specs.Laws.{users_that}
 use Rattle.network_rules.specs.Networks.{NetworkState}
 use Rattle.network_rules.specs.Totals.{HaveLostNothing, is_for, is_listed, received_at, waiting_at}

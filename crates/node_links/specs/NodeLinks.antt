@@ -12,7 +12,7 @@ use Rattle.link.specs.declared.action.Input.{Input}
 use Rattle.link.specs.declared.period.Period.{Period}
 use Rattle.link.specs.declared.period.Period.TheVariants.{Fixed}
 use Rattle.link.specs.Table.{action_at, opening}
-use Rattle.settings_rows.specs.Configuration.{LinkEntry, DestinationEntry}
+use Rattle.settings.specs.Configuration.{LinkEntry, DestinationEntry}
 use Rattle.routes.specs.declared.route.Route.{Route}
 use Rattle.routes.specs.Routes.{Facts, first_sets, first_routes}
 use Rattle.routes.specs.declared.route.RouteStatus.{RouteStatus}

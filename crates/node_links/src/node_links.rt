@@ -11,7 +11,7 @@ use crate::link_state::LinkState;
 use arrayvec::ArrayVec;
 use link::{Action, Input, Period};
 use routes::{RouteFacts, Routes};
-use settings_rows::{DestinationRow, LinkRow};
+use settings::{DestinationRow, LinkRow};
 use signalling_types::{Limits, LinkId, SetId, Sls};
 use std::alloc::{AllocError, Global};
 use std::marker::Model;

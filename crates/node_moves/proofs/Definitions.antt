@@ -15,6 +15,6 @@ pub use Rattle.mtp3_codec.specs.declared.fault.MgmtFault.{MgmtFault}
 pub use Rattle.mtp3_codec.specs.declared.management.Management.{Management}
 pub use Rattle.node_links.specs.NodeLinks.{Link, is_down, is_in_service, down_link}
 pub use Rattle.settings.specs.Well.{IsWell, IsLink, IsSet, is_same_code, is_set_to_same_point}
-pub use Rattle.settings_rows.specs.Configuration.{Configuration, LinkEntry, SetEntry}
+pub use Rattle.settings.specs.Configuration.{Configuration, LinkEntry, SetEntry}
 pub use Rattle.signalling_types.specs.Message.{Message, flow_of, is_management, dpc_of, opc_of, service_indicator}
 pub use Rattle.signalling_types.specs.declared.limits.TheConstants.Limits.{SIF_OCTETS, WINDOW}

@@ -4,7 +4,7 @@ use Rattle.signalling_types.specs.Message.{Message}
 use Rattle.signalling_types.specs.declared.cause.Cause.TheVariants.{NoSuchName}
 use Rattle.signalling_types.specs.declared.notice.FrameFault.{FrameFault}
 use Rattle.signalling_types.specs.declared.outcome.Outcome.TheVariants.{Ignored}
-use Rattle.settings_rows.specs.Configuration.{Configuration}
+use Rattle.settings.specs.Configuration.{Configuration}
 use Rattle.m2pa_codec.specs.Frames.{FrameValue, EmptyFrame, MessageFrame, StatusFrame, read_frame}
 use Rattle.link.specs.Queue.{count_confirmed}
 use Rattle.node_links.specs.NodeLinks.{acts_on}

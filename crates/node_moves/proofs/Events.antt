@@ -25,7 +25,7 @@ use Rattle.changeover.specs.Changeover.{is_barred}
 use Rattle.link.specs.declared.action.LinkTimer.TheVariants as its
 use Rattle.sccp_codec.specs.declared.title.TitleKey.{TitleKey}
 use Rattle.sccp_relay.specs.Rows.{has_row, place_of, with_row, without_row}
-use Rattle.settings_rows.specs.Configuration.{TitleEntry}
+use Rattle.settings.specs.Configuration.{TitleEntry}
 use Rattle.signalling_types.specs.declared.cause.Cause.{Cause}
 use Rattle.signalling_types.specs.declared.cause.Cause.TheVariants as causes
 use Rattle.signalling_types.specs.declared.notice.ChangeoverTimer.TheVariants as which

@@ -23,7 +23,7 @@ use Rattle.exchange_rules.specs.State.{Happening, WentDown, Ticked, Submitted, A
 use Rattle.network_moves.specs.Carrying.{with_statuses_left}
 use Rattle.signalling_types.specs.declared.outcome.Outcome.{Outcome}
 use Rattle.sccp_codec.specs.declared.title.TitleKey.{TitleKey}
-use Rattle.settings_rows.specs.Configuration.{TitleEntry}
+use Rattle.settings.specs.Configuration.{TitleEntry}
 
 pub outcome-same : (c : Configuration) (what : Happening) (n : Node WholeQueues) → outcome_of whole what (record { settings = c; node = n; reroutings = first_reroutings c }) ≡ (handle_event whole c what n).outcome
 unfolding apply

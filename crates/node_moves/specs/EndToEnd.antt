@@ -1,7 +1,7 @@
 -- From end to end, over all nodes of a network: what becomes of the user messages for one point, and of all together.
 use Rattle.std.specs.Prelude.{◌≡◌, ◌≤◌, ◌+◌, ◌&&◌, ℕ, Bool, not, nat_eq, List, if◌then◌else◌}
 use Rattle.signalling_types.specs.Message.{Message, dpc_of}
-use Rattle.settings_rows.specs.Configuration.{Configuration}
+use Rattle.settings.specs.Configuration.{Configuration}
 use Rattle.network_moves.specs.Networks.{sum_to}
 use Rattle.node_moves.specs.Fates.{is_delivered, is_refused, sccp_takes, is_sccp, made_at, met_at, submitted_at}
 use Rattle.node_moves.specs.Laws.{AreTheirs, IsUnbroken, any_fate, gone_at, users_that, waits_at}

@@ -4,7 +4,7 @@ use Rattle.std.specs.Prelude.{min, count_by, Option, Some, None, is_some}
 use Rattle.signalling_types.specs.Message.{Message, is_management}
 use Rattle.signalling_types.specs.declared.limits.TheConstants.Limits.{SIF_OCTETS}
 use Rattle.settings.specs.Well.{IsWell}
-use Rattle.settings_rows.specs.Configuration.{Configuration}
+use Rattle.settings.specs.Configuration.{Configuration}
 use Rattle.exchange_rules.specs.Queues.{queue_at}
 use Rattle.network_moves.specs.Networks.{sum_to}
 use Rattle.node_moves.specs.Networks.{Fate, NetworkState, LinkEnd, Step, IsNode, other_end, after_steps, first_network}

@@ -1,7 +1,7 @@
 -- While no node has raised its flag of losses, no node is broken, and no message is gone.
 use Rattle.std.specs.Prelude.{◌≡◌, ◌+◌, ℕ, Bool, false, List}
 use Rattle.signalling_types.specs.Message.{Message}
-use Rattle.settings_rows.specs.Configuration.{Configuration}
+use Rattle.settings.specs.Configuration.{Configuration}
 use Rattle.exchange_rules.specs.State.{Parts, lost_any}
 use Rattle.node_moves.specs.EndToEnd.{to_point, to_user_parts, total}
 use Rattle.node_moves.specs.Fates.{is_delivered, is_refused, sccp_takes, made_at, met_at, submitted_at}

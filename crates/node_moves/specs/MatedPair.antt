@@ -1,7 +1,7 @@
 -- A mated pair: points 1 and 2, joined by a link, transfer for points 3 and 4, each of which has a link to either.
 use Rattle.std.specs.Prelude.{ℕ, true, false, [], ◌∷◌, Some, None, nat_eq, if◌then◌else◌}
-use Rattle.settings_rows.specs.Configuration.{Configuration, LinkEntry}
-use Rattle.settings_rows.specs.declared.timer_ticks.TimerTicks.{TimerTicks}
+use Rattle.settings.specs.Configuration.{Configuration, LinkEntry}
+use Rattle.settings.specs.declared.timer_ticks.TimerTicks.{TimerTicks}
 
 -- proving takes one tick, a bar lasts long, and no other timer runs out soon
 abbrev pub ticks : TimerTicks

@@ -1,6 +1,6 @@
 -- What is promised of a network is promised against this: what the links between its nodes may do.
 use Rattle.std.specs.Prelude.{◌≡◌, ◌<◌, ℕ, List, ◌∷◌, length}
-use Rattle.settings_rows.specs.Configuration.{Configuration}
+use Rattle.settings.specs.Configuration.{Configuration}
 use Rattle.exchange_rules.specs.State.{Ticked, WentDown}
 use Rattle.node_moves.specs.Networks.{NetworkState, IsNode, DoublesStatus, Loses, LosesStatus, Ticks, after_event}
 use Rattle.node_moves.specs.Networks.{after_step}

@@ -1,7 +1,7 @@
 -- The two ends of a link between the nodes, by their numbers.
 use Rattle.std.proofs.Common.{◌≡◌, ◌≢◌, ℕ, true, Some, None, sym, ◌∙◌, subst}
 use Rattle.std.specs.Prelude.{slice_get}
-use Rattle.settings_rows.specs.Configuration.{Configuration}
+use Rattle.settings.specs.Configuration.{Configuration}
 use Rattle.exchange_rules.specs.Routing.{set_of}
 use Rattle.neighbour_rules.specs.Neighbours.{end_there, leads_elsewhere_by}
 use Rattle.neighbour_rules.proofs.Sharing.{AreFacing, near_joint, facing_back}

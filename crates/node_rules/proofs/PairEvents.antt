@@ -2,7 +2,7 @@
 use Rattle.std.proofs.Common.{◌≡◌, ◌<◌, ℕ, Bool, true, false, not, List, [], ◌++◌, Option, Some, None, length, refl, ap, sym, ◌∙◌, subst, append-nil}
 use Rattle.std.specs.Prelude.{slice_get}
 use Rattle.signalling_types.specs.Message.{Message}
-use Rattle.settings_rows.specs.Configuration.{Configuration, LinkEntry}
+use Rattle.settings.specs.Configuration.{Configuration, LinkEntry}
 use Rattle.exchange_rules.specs.Routing.{peer_of}
 use Rattle.exchange_rules.proofs.FacingNodes.{peer-sole}
 use Rattle.std.proofs.lemmas.Bool.{eq-eqb}

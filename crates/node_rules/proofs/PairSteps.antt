@@ -5,7 +5,7 @@ use Rattle.std.proofs.lemmas.List.Elements.{filter-append}
 use Rattle.std.specs.Prelude.{if◌then◌else◌, slice_index_or, slice_set, slice_get, option_to_list}
 use Rattle.signalling_types.specs.Message as signalling
 use Rattle.signalling_types.specs.Message.{dpc_of, is_management}
-use Rattle.settings_rows.specs.Configuration.{Configuration}
+use Rattle.settings.specs.Configuration.{Configuration}
 use Rattle.changeover.specs.Changeover.{may_restart, users_of}
 use Rattle.exchange_rules.specs.State.{Happening, CameUp, FrameCame, Submitted, down}
 use Rattle.exchange_rules.specs.ChangingOver.{changeover_of}

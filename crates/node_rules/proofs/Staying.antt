@@ -1,7 +1,7 @@
 -- A link that may open stays so, whatever happens, until its association comes up.
 use Rattle.link.specs.declared.period.Period.{Period}
 use Rattle.exchange_rules.proofs.Basics.{◌≡◌, ◌≢◌, ℕ, zero, suc, Bool, true, false, ◌&&◌, and_parts, not, List, [], ◌∷◌, refl, ap, sym, ◌∙◌, subst, get_or, set}
-use Rattle.settings_rows.specs.Configuration.{Configuration}
+use Rattle.settings.specs.Configuration.{Configuration}
 use Rattle.link.specs.Table.{action_at}
 use Rattle.link.specs.declared.action.Transition.{Transition}
 use Rattle.link.specs.declared.action.Input.{Input}

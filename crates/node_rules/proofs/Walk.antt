@@ -7,7 +7,7 @@ use Rattle.exchange_rules.specs.Exchange.{frame_to_take, taken}
 use Rattle.exchange_rules.specs.Queues.{whole}
 use Rattle.m2pa_codec.specs.Frames.{FrameValue}
 use Rattle.sctp_rules.specs.State.{Told, Up, Heard, Down, Failed}
-use Rattle.settings_rows.specs.Configuration.{Configuration}
+use Rattle.settings.specs.Configuration.{Configuration}
 use Rattle.pair_rules.specs.Pairs.{PairState}
 use Rattle.neighbour_rules.proofs.Sharing.{AreFacing}
 use Rattle.node_rules.specs.Worlds.{Books, happened, handed_all, is_frame}

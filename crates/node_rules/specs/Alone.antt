@@ -1,7 +1,7 @@
 -- Two nodes that have only each other, as two that may have further neighbours: the promises speak of all that they
 -- accepted and received.
 use Rattle.std.specs.Prelude.{◌≡◌, ◌<◌, ℕ, false, List, [], Some, length, slice_get}
-use Rattle.settings_rows.specs.Configuration.{Configuration}
+use Rattle.settings.specs.Configuration.{Configuration}
 use Rattle.sctp_ends.specs.Shown.{AreGood}
 use Rattle.pair_rules.specs.Pairs.{End, PairState, Step, first_pair, after_steps, nothing_in_flight}
 use Rattle.pair_rules.specs.Promises.{AreJoined, LostNothing, EachOnce, InOrder, IsPunctual, BothWays}

@@ -5,7 +5,7 @@ use Rattle.std.proofs.lemmas.List.Elements.{All-head, All-nil, All-tail}
 use Rattle.std.proofs.lemmas.Option.{slice_get-get_or}
 use Rattle.std.specs.Option.{option_map}
 use Rattle.std.specs.Prelude.{All, find, if◌then◌else◌, map, slice_get}
-use Rattle.settings_rows.specs.Configuration.{Configuration, LinkEntry}
+use Rattle.settings.specs.Configuration.{Configuration, LinkEntry}
 use Rattle.settings.specs.Sharing.{SharesSet}
 use Rattle.settings.specs.Well.{IsWell}
 use Rattle.sctp_moves.proofs.Members.{in-from, some-same}

@@ -1,6 +1,6 @@
 -- What worlds of gates promise, those of the code promise.
 use Rattle.std.proofs.Common.{◌≡◌, ℕ, List, subst, sym}
-use Rattle.settings_rows.specs.Configuration.{Configuration}
+use Rattle.settings.specs.Configuration.{Configuration}
 use Rattle.pair_rules.specs.Promises.{AreJoined}
 use Rattle.network_rules.specs.Networks.{NetworkState}
 use Rattle.gate_rules.specs.Promises.{IsSpecial}

@@ -1,6 +1,6 @@
 -- Worlds that are reached by steps, and one step more.
 use Rattle.std.proofs.Common.{◌≡◌, ◌<◌, ℕ, List, [], ◌∷◌, ◌++◌, length, refl, ap, sym, subst, ◌∙◌}
-use Rattle.settings_rows.specs.Configuration.{Configuration}
+use Rattle.settings.specs.Configuration.{Configuration}
 use Rattle.network_rules.specs.Totals.{IsJoined}
 use Rattle.network_rules.proofs.Joined.{HasOther, ends-are, has-other}
 use Rattle.network_datagrams.specs.NetworkWorlds.{HasEnd}

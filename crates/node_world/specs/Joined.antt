@@ -1,7 +1,7 @@
 -- When the settings of nodes are those of a world.
 use Rattle.std.specs.Prelude.{◌≡◌, ℕ, Bool, true, ◌&&◌, not, nat_eq, List, [], ◌∷◌, slice_get, Some}
 use Rattle.std.specs.List.{list_any}
-use Rattle.settings_rows.specs.Configuration.{Configuration, LinkEntry}
+use Rattle.settings.specs.Configuration.{Configuration, LinkEntry}
 use Rattle.settings.specs.Sharing.{SharesSet}
 use Rattle.settings.specs.Well.{IsWell}
 use Rattle.exchange_rules.specs.Routing.{adjacent_of}

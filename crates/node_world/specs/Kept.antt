@@ -2,7 +2,7 @@
 use Rattle.std.specs.Prelude.{◌≡◌, ◌<◌, ℕ, Bool, true, false, nat_eq, All, List, [], length, map, position, Option, Some, None, is_some, slice_get}
 use Rattle.std.specs.List.{Contains}
 use Rattle.std.specs.Option.{option_and_then, option_map}
-use Rattle.settings_rows.specs.Configuration.{Configuration, LinkEntry}
+use Rattle.settings.specs.Configuration.{Configuration, LinkEntry}
 use Rattle.sctp_bundling.specs.Watching.{Sent}
 use Rattle.sctp_gate.specs.Watching.{Sight}
 use Rattle.sctp_gate.specs.Gates.{Gate, due}

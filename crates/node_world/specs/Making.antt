@@ -1,6 +1,6 @@
 -- What nodes with gates are made of, and what is kept of them at first.
 use Rattle.std.specs.Prelude.{◌≡◌, ◌≤◌, ◌+◌, ◌^◌, ℕ, true, false, nat_eq, All, List, [], ◌∷◌, find, map, Option, Some, None, slice_get, length}
-use Rattle.settings_rows.specs.Configuration.{Configuration}
+use Rattle.settings.specs.Configuration.{Configuration}
 use Rattle.sctp_sending.specs.declared.bounds.Bounds.{Bounds}
 use Rattle.sctp_rules.specs.Settings.{Settings}
 use Rattle.sctp_rules.specs.WrittenPackets.{HasPorts}

@@ -1,6 +1,6 @@
 -- What a world in code promises: what each world of gates promises for which it stands.
 use Rattle.std.specs.Prelude.{ℕ, List}
-use Rattle.settings_rows.specs.Configuration.{Configuration}
+use Rattle.settings.specs.Configuration.{Configuration}
 use Rattle.pair_rules.specs.Promises.{AreJoined, BothWays, EachOnce, InOrder, IsPunctual, LostNothing}
 use Rattle.network_rules.specs.Networks.{NetworkState}
 use Rattle.gate_rules.specs.Promises.{whole_ends}

@@ -75,7 +75,7 @@ pub use Rattle.routes.specs.declared.route.RouteStatus.{RouteStatus}
 pub use Rattle.settings.specs.Facing.{IsFacing, LeadsOnlyTo}
 pub use Rattle.settings.specs.Readings.{destination_place, set_place}
 pub use Rattle.settings.specs.Well.{IsWell, IsDestination, IsLink, IsSet, IsTitle, IsWithin, all_ticks, is_led_first}
-pub use Rattle.settings_rows.specs.Configuration.{Configuration, DestinationEntry, LinkEntry, TitleEntry, SetEntry}
+pub use Rattle.settings.specs.Configuration.{Configuration, DestinationEntry, LinkEntry, TitleEntry, SetEntry}
 pub use Rattle.signalling_types.specs.Message.{Message, flow_of, is_management, dpc_of, service_indicator, opc_of, label_number, network_indicator}
 pub use Rattle.signalling_types.specs.declared.cause.Cause.{Cause}
 pub use Rattle.signalling_types.specs.declared.limits.TheConstants.Limits.{SELECTIONS, CHANGEBACK_CODES, LINKS, SETS, DESTINATIONS, POOL, WINDOW, TICKS, SIF_OCTETS}

@@ -2,7 +2,7 @@
 use Rattle.std.proofs.Common.{◌≡◌, ◌+◌, ℕ, Bool, List, zero, suc, refl, ap, ◌∙◌}
 use Rattle.std.specs.Prelude.{count_by}
 use Rattle.signalling_types.specs.Message.{Message}
-use Rattle.settings_rows.specs.Configuration.{Configuration}
+use Rattle.settings.specs.Configuration.{Configuration}
 use Rattle.pair_moves.specs.Laws.{sum_to}
 use Rattle.pair_moves.specs.Order.{join_to}
 use Rattle.pair_moves.proofs.Counts.{count-append}

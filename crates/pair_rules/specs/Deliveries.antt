@@ -5,7 +5,7 @@ use Rattle.signalling_types.specs.declared.cause.Cause.{Cause}
 use Rattle.signalling_types.specs.declared.cause.Cause.TheVariants.{NoUserPart}
 use Rattle.signalling_types.specs.declared.outcome.Outcome.{Outcome}
 use Rattle.signalling_types.specs.declared.outcome.Outcome.TheVariants.{Queued, Held, Local, Handled, Ignored, Refused}
-use Rattle.settings_rows.specs.Configuration.{Configuration}
+use Rattle.settings.specs.Configuration.{Configuration}
 use Rattle.sccp_relay.specs.Points.{OwnValue}
 use Rattle.sccp_relay.specs.Relay.{RelayedValue, relay}
 use Rattle.sccp_relay.specs.Returning.{returned}

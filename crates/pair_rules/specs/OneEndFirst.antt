@@ -2,8 +2,8 @@
 -- falls there before the other follows. The message comes by the other link, once.
 use Rattle.std.specs.Prelude.{◌≡◌, ℕ, true, false, None, List, [], ◌∷◌, ◌++◌}
 use Rattle.signalling_types.specs.Message.{Message, flow_of}
-use Rattle.settings_rows.specs.Configuration.{Configuration}
-use Rattle.settings_rows.specs.declared.timer_ticks.TimerTicks.{TimerTicks}
+use Rattle.settings.specs.Configuration.{Configuration}
+use Rattle.settings.specs.declared.timer_ticks.TimerTicks.{TimerTicks}
 use Rattle.pair_rules.specs.Pairs.{PairState, Step, AtNear, AtFar, Submits, Takes, Delivers, DeliversStatus, Loses, Ticks}
 use Rattle.pair_rules.specs.Pairs.{OpensFirst, OpensSecond, after_steps, first_pair, may_follow}
 use Rattle.pair_rules.specs.Promises.{AreJoined, IsPunctual, LostNothing, of_flow, waiting_on}

@@ -3,7 +3,7 @@ use Rattle.std.specs.Prelude.{◌&&◌, ℕ, Bool, true, false, List, [], ◌∷
 use Rattle.signalling_types.specs.Message.{Message}
 use Rattle.signalling_types.specs.declared.outcome.Outcome.{Outcome}
 use Rattle.signalling_types.specs.declared.outcome.Outcome.TheVariants.{Handled, Ignored}
-use Rattle.settings_rows.specs.Configuration.{Configuration, TitleEntry}
+use Rattle.settings.specs.Configuration.{Configuration, TitleEntry}
 use Rattle.sccp_codec.specs.declared.title.TitleKey.{TitleKey}
 use Rattle.m2pa_codec.specs.Frames.{FrameValue, EmptyFrame, MessageFrame, StatusFrame, spelled}
 use Rattle.changeover.specs.Changeover.{users_of, may_restart}

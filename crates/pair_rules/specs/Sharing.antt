@@ -1,6 +1,6 @@
 -- Two nodes that share a link set, whatever other neighbours each has: what their orders and answers say.
 use Rattle.std.specs.Prelude.{◌≡◌, ◌<◌, ◌^◌, ℕ, length, Some}
-use Rattle.settings_rows.specs.Configuration.{Configuration}
+use Rattle.settings.specs.Configuration.{Configuration}
 use Rattle.settings.specs.Well.{IsWell}
 use Rattle.settings.specs.Sharing.{SharesSet}
 use Rattle.exchange_rules.specs.Routing.{entry_of, set_of}

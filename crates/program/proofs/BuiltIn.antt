@@ -4,12 +4,12 @@ use Rattle.std.specs.Prelude.{unwrap_or, position}
 use Rattle.std.specs.Str.{bytes_eq}
 use Rattle.settings.specs.Meaning.{settings_of, set_of, link_of, destination_of, set_number}
 use Rattle.settings.specs.FirstFault.{first_fault}
-use Rattle.settings_rows.specs.declared.fault.DraftFault.{DraftFault}
-use Rattle.settings_rows.specs.declared.fault.DraftFault.TheVariants.{NoMemory}
-use Rattle.settings_rows.specs.declared.draft.Draft.{Draft}
-use Rattle.settings_rows.specs.declared.draft.SetDraft.{SetDraft}
-use Rattle.settings_rows.specs.declared.draft.LinkDraft.{LinkDraft}
-use Rattle.settings_rows.specs.declared.draft.DestinationDraft.{DestinationDraft}
+use Rattle.settings.specs.declared.fault.DraftFault.{DraftFault}
+use Rattle.settings.specs.declared.fault.DraftFault.TheVariants.{NoMemory}
+use Rattle.settings.specs.declared.draft.Draft.{Draft}
+use Rattle.settings.specs.declared.draft.SetDraft.{SetDraft}
+use Rattle.settings.specs.declared.draft.LinkDraft.{LinkDraft}
+use Rattle.settings.specs.declared.draft.DestinationDraft.{DestinationDraft}
 use Rattle.script.specs.BuiltIn.{IsBuiltIn, IsSets, IsLinks, IsDestination, IsDestinations, built_in_settings}
 use Rattle.settings_file.specs.declared.fault.SettingsFault.TheVariants as settings_fault
 use Rattle.settings_file.specs.Faults.{no_memory}

@@ -5,13 +5,13 @@ use Rattle.std.specs.Prelude.{String}
 use Rattle.settings.specs.FirstFault.{first_fault, scalars_fault, timers_fault, link_tests_fault, bar_fault, arrays_fault, tables_fault, sets_fault, links_fault, destinations_fault, unreached_fault, set_list_fault, is_first_name}
 use Rattle.settings.specs.TitleFaults.{titles_fault}
 use Rattle.settings.specs.Checks.{numbers_fault}
-use Rattle.settings_rows.specs.declared.key.Key.{Key}
-use Rattle.settings_rows.specs.declared.key.Key.TheVariants.{Users, Subsystems}
-use Rattle.settings_rows.specs.declared.draft.Draft.{Draft}
-use Rattle.settings_rows.specs.declared.draft.SetDraft.{SetDraft}
-use Rattle.settings_rows.specs.declared.draft.LinkDraft.{LinkDraft}
-use Rattle.settings_rows.specs.declared.draft.DestinationDraft.{DestinationDraft}
-use Rattle.settings_rows.specs.declared.draft.TitleDraft.{TitleDraft}
+use Rattle.settings.specs.declared.key.Key.{Key}
+use Rattle.settings.specs.declared.key.Key.TheVariants.{Users, Subsystems}
+use Rattle.settings.specs.declared.draft.Draft.{Draft}
+use Rattle.settings.specs.declared.draft.SetDraft.{SetDraft}
+use Rattle.settings.specs.declared.draft.LinkDraft.{LinkDraft}
+use Rattle.settings.specs.declared.draft.DestinationDraft.{DestinationDraft}
+use Rattle.settings.specs.declared.draft.TitleDraft.{TitleDraft}
 use Rattle.script.specs.BuiltIn.{IsBuiltIn, IsSets, IsLinks, IsDestinations, built_in_ticks}
 
 scalars : (d : Draft) → IsBuiltIn d → scalars_fault d ≡ None

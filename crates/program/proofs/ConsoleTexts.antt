@@ -4,8 +4,8 @@ use Rattle.std.specs.Prelude.{codes, decimal, nat_eq, nat_le, ◌||◌, take, if
 use Rattle.std.specs.Fmt.{digits}
 use Rattle.std.proofs.lemmas.Bool.Decides.{nat_tests}
 use Rattle.std.proofs.lemmas.Bool.{leb-true}
-use Rattle.settings_rows.specs.Configuration.{Configuration}
-use Rattle.point_format.specs.declared.point.PointFormat.{PointFormat}
+use Rattle.settings.specs.Configuration.{Configuration}
+use Rattle.settings.specs.declared.point.PointFormat.{PointFormat}
 use Rattle.signalling_types.specs.Causes.{cause_number, cause_name}
 use Rattle.signalling_types.specs.declared.cause.Cause.{Cause}
 use Rattle.signalling_types.specs.declared.cause.Cause.TheVariants as cause

@@ -4,7 +4,7 @@ use Rattle.std.specs.Prelude.{OnOk, String}
 use Rattle.std.specs.Global.{Global}
 use Rattle.std.specs.Io.KnownBytes.{IsAtEnd}
 use Rattle.settings_file.specs.Faults.{no_memory}
-use Rattle.settings_rows.specs.Configuration.{Configuration}
+use Rattle.settings.specs.Configuration.{Configuration}
 use Rattle.lab.specs.Script.{LeavesAll}
 use Rattle.program.specs.Explaining.{IsLabEndExplained}
 use Rattle.script.specs.Faults.{Counts}

@@ -2,7 +2,7 @@
 use Rattle.std.proofs.Common.{◌≡◌, List, ℕ, Some, Result, Ok, Err, string_bytes, inl, inr}
 use Rattle.std.specs.Prelude.{String, IfOk}
 use Rattle.std.specs.Global.{Global}
-use Rattle.settings_rows.specs.declared.key.Key.{Key}
+use Rattle.settings.specs.declared.key.Key.{Key}
 use Rattle.settings_file.specs.Sentences.{Names, IsAbout, key_of}
 use Rattle.settings_file.specs.declared.fault.SettingsFault.{SettingsFault}
 use Rattle.program.specs.Explaining.{IsToldMade, IsToldOf, IsFaultExplained}

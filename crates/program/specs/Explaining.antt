@@ -2,7 +2,7 @@
 use Rattle.std.specs.Prelude.{◌≡◌, ◌⊎◌, ℕ, List, ◌++◌, codes, decimal, Some, Result, Ok, Err, String, string_bytes}
 use Rattle.std.specs.Global.{Global}
 use Rattle.std.specs.Io.KnownBytes.{Appends}
-use Rattle.settings_rows.specs.declared.key.Key.{Key}
+use Rattle.settings.specs.declared.key.Key.{Key}
 use Rattle.settings_file.specs.Sentences.{Names, IsAbout, key_of}
 use Rattle.settings_file.specs.Warnings.{AreWarnings}
 use Rattle.settings_file.specs.declared.fault.SettingsFault.{SettingsFault}

@@ -2,7 +2,7 @@
 use Rattle.std.specs.Prelude.{ℕ, ◌≡◌, ◌⊎◌, List, Vec, Result, Ok, Err}
 use Rattle.std.specs.Global.{Global}
 use Rattle.std.specs.Str.{IsUtf8}
-use Rattle.settings_rows.specs.Configuration.{Configuration}
+use Rattle.settings.specs.Configuration.{Configuration}
 use Rattle.settings_file.specs.Faults.{no_memory}
 use Rattle.settings_file.specs.Reading.{IsReadAs, IsFirstFault}
 use Rattle.settings_file.specs.declared.fault.SettingsFault.{SettingsFault}

@@ -1,7 +1,7 @@
 -- What is printed and told of nodes that aren't a network.
 use Rattle.std.specs.Prelude.{ℕ, List, [], ◌++◌, codes, decimal, option_map, slice_get}
 use Rattle.std.specs.Option.{unwrap_or}
-use Rattle.settings_rows.specs.Configuration.{Configuration}
+use Rattle.settings.specs.Configuration.{Configuration}
 use Rattle.console.specs.Names.{name_in}
 use Rattle.lab.specs.declared.network.NetworkFault.{NetworkFault}
 use Rattle.lab.specs.declared.network.NetworkFault.TheVariants.{SamePoint, NotJoined, OtherNetwork}

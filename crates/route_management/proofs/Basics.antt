@@ -20,4 +20,4 @@ pub use Rattle.routes.proofs.Telling.{other_routes}
 pub use Rattle.routes.specs.Routes.{Facts}
 pub use Rattle.routes.specs.declared.route.RouteStatus.{RouteStatus}
 pub use Rattle.routes.specs.declared.route.RouteStatus.TheVariants.{Allowed, Prohibited, Restricted}
-pub use Rattle.settings_rows.specs.Configuration.{DestinationEntry, SetEntry}
+pub use Rattle.settings.specs.Configuration.{DestinationEntry, SetEntry}

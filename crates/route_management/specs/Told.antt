@@ -1,6 +1,6 @@
 -- What adjacent points were told of destinations (Q.704 §13.2 to §13.4).
 use Rattle.std.specs.Prelude.{ℕ, Bool, false, List, [], Option, Some, None, length, map, replicate, nat_eq, position, slice_get, slice_index_or, slice_set, ◌&&◌, ◌==◌, not, ◌∷◌, if◌then◌else◌, ◌||◌}
-use Rattle.settings_rows.specs.Configuration.{SetEntry, DestinationEntry}
+use Rattle.settings.specs.Configuration.{SetEntry, DestinationEntry}
 use Rattle.routes.specs.declared.route.RouteStatus.{RouteStatus}
 use Rattle.routes.specs.declared.route.RouteStatus.TheVariants.{Allowed, Prohibited, Restricted}
 use Rattle.std.specs.List.{list_any, range_with_len, filter_map, flat_map}

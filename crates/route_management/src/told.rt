@@ -11,7 +11,7 @@ use crate::heard::{Heard, RouteTest, heard_of};
 use crate::row::ToldRow;
 use node_links::NodeLinks;
 use routes::{Route, RouteFacts, RouteStatus};
-use settings_rows::{DestinationRow, SetRow};
+use settings::{DestinationRow, SetRow};
 use signalling_types::SetId;
 use std::alloc::{AllocError, Global};
 use std::marker::Model;

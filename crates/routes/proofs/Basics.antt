@@ -26,5 +26,5 @@ pub use Rattle.routes.specs.declared.link_group.Member.{Member}
 pub use Rattle.routes.specs.declared.route.Route.{Route}
 pub use Rattle.routes.specs.declared.route.RouteStatus.{RouteStatus}
 pub use Rattle.routes.specs.declared.route.RouteStatus.TheVariants.{Allowed, Prohibited, Restricted}
-pub use Rattle.settings_rows.specs.Configuration.{LinkEntry}
+pub use Rattle.settings.specs.Configuration.{LinkEntry}
 pub use Rattle.signalling_types.specs.declared.limits.TheConstants.Limits.{SELECTIONS}

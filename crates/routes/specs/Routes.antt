@@ -3,7 +3,7 @@
 use Rattle.std.specs.Prelude.{ℕ, zero, suc, Bool, ◌&&◌, List, [], ◌++◌, Option, position, nat_eq, false, ◌∷◌, length, map, replicate, slice_index_or, slice_set, if◌then◌else◌, ◌/◌, ◌%◌, find, slice_get, ◌==◌, Some, None, codes, unwrap_or}
 use Rattle.std.specs.List.{list_any, remove, filter, flat_map}
 use Rattle.std.specs.Option.{option_to_list, option_map}
-use Rattle.settings_rows.specs.Configuration.{LinkEntry, DestinationEntry}
+use Rattle.settings.specs.Configuration.{LinkEntry, DestinationEntry}
 use Rattle.routes.specs.declared.route.Route.{Route}
 use Rattle.routes.specs.declared.route.RouteStatus.{RouteStatus}
 use Rattle.routes.specs.declared.route.RouteStatus.TheVariants.{Allowed, Restricted, Prohibited}

@@ -7,7 +7,7 @@ ghost use Rattle.routes.specs.Routes.{is_in_service, first_facts, first_sets, fi
 use crate::LinkSet;
 use crate::route::{RouteList, RouteStatus};
 use arrayvec::ArrayVec;
-use settings_rows::{DestinationRow, LinkRow};
+use settings::{DestinationRow, LinkRow};
 use signalling_types::{Limits, LinkId, SetId};
 use std::alloc::{AllocError, Global};
 use std::marker::Model;

@@ -6,7 +6,7 @@ ghost use Rattle.arrayvec.specs.ArrayVec.{array_vec_len};
 ghost use Rattle.routes.specs.Routes.{has_code, has_member, link_with, links_of, has_link, is_in_service};
 
 use arrayvec::ArrayVec;
-use settings_rows::LinkRow;
+use settings::LinkRow;
 use signalling_types::{Limits, LinkId, SetId};
 use std::marker::Model;
 

@@ -4,7 +4,7 @@ ghost use Rattle.std.specs.Prelude.{◌≡◌, ◌==◌, ◌≤◌, length, map}
 ghost use Rattle.routes.specs.Routes.{first_routes, first_route, with_second_joined, with_status_over, status_name, status_number};
 
 use arrayvec::ArrayVec;
-use settings_rows::DestinationRow;
+use settings::DestinationRow;
 use signalling_types::{Limits, SetId};
 use std::marker::Model;
 

@@ -10,7 +10,7 @@ use crate::known::KnownRoutes;
 use crate::route::RouteStatus;
 use crate::route_facts::RouteFacts;
 use arrayvec::ArrayVec;
-use settings_rows::{DestinationRow, LinkRow};
+use settings::{DestinationRow, LinkRow};
 use signalling_types::{Limits, LinkId, SetId, Sls};
 use std::alloc::{AllocError, Global};
 use std::marker::Model;

@@ -32,10 +32,10 @@ pub use Rattle.sccp_relay.specs.Translation.{IsTranslation, has_key, leads, long
 pub use Rattle.sccp_relay.specs.Ways.{IsRoute, IsRow, IsSsn, key_digits, lead_of, leads_of, route_number, route_of, row_led, way_of}
 pub use Rattle.sccp_relay.specs.declared.node.Node.{Node}
 pub use Rattle.sccp_relay.specs.declared.node.NodeId.{NodeId}
-pub use Rattle.settings_rows.specs.Configuration.{TitleEntry}
-pub use Rattle.settings_rows.specs.Titles.{HasTitleRanges}
-pub use Rattle.settings_rows.specs.declared.title_row.TitleRoute.{TitleRoute}
-pub use Rattle.settings_rows.specs.declared.title_row.TitleRoute.TheVariants.{Ssn, Title}
+pub use Rattle.settings.specs.Configuration.{TitleEntry}
+pub use Rattle.settings.specs.TitleRanges.{HasTitleRanges}
+pub use Rattle.settings.specs.declared.title_row.TitleRoute.{TitleRoute}
+pub use Rattle.settings.specs.declared.title_row.TitleRoute.TheVariants.{Ssn, Title}
 pub use Rattle.signalling_types.specs.declared.cause.Cause.{Cause}
 pub use Rattle.signalling_types.specs.declared.cause.Cause.TheVariants.{NoDigits, NoNature}
 pub use Rattle.signalling_types.specs.declared.limits.TheConstants.Limits.{TITLES}

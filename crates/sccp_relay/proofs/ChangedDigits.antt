@@ -7,7 +7,7 @@ use Rattle.std.specs.Prelude.{slice_index, Ok, Err, ◌≢◌}
 use Rattle.std.specs.Int.{div_ceil}
 use Rattle.std.proofs.lemmas.Grind.{div_ceil_times}
 use Rattle.signalling_types.specs.declared.cause.Cause.TheVariants.{TooLong}
-use Rattle.settings_rows.specs.Configuration.{ChangeEntry}
+use Rattle.settings.specs.Configuration.{ChangeEntry}
 use Rattle.sccp_codec.specs.declared.title.TitleKey.{TitleKey}
 use Rattle.sccp_codec.specs.Titles.{packed, title_octets}
 use Rattle.sccp_relay.specs.Changing.{changed_digits, octets_of_title}

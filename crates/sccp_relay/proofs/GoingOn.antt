@@ -5,7 +5,7 @@ use Rattle.std.proofs.lemmas.Bool.Decides.{nat_tests}
 use Rattle.std.specs.Prelude.{◌&&◌, if◌then◌else◌, nat_eq, nat_le}
 use Rattle.signalling_types.specs.declared.cause.Cause.{Cause}
 use Rattle.signalling_types.specs.declared.cause.Cause.TheVariants.{NotInProfile, HopCounter, Unequipped}
-use Rattle.settings_rows.specs.Configuration.{TitleEntry}
+use Rattle.settings.specs.Configuration.{TitleEntry}
 use Rattle.mtp3_codec.specs.declared.label.Label.{Label}
 use Rattle.mtp3_codec.specs.Headings.{label_at}
 use Rattle.sccp_codec.specs.declared.fault.SccpFault.{SccpFault}

@@ -3,9 +3,9 @@ use Rattle.std.proofs.Common.{◌≡◌, ℕ, ◌^◌, ◌<◌, Bool, true, fals
 use Rattle.std.proofs.lemmas.List.Elements.{All-get_or}
 use Rattle.std.specs.Prelude.{All, IfSome}
 use Rattle.signalling_types.specs.declared.cause.Cause.{Cause}
-use Rattle.settings_rows.specs.Configuration.{TitleEntry}
-use Rattle.settings_rows.specs.declared.title_row.TitleRoute.{TitleRoute}
-use Rattle.settings_rows.specs.declared.title_row.TitleRoute.TheVariants as route
+use Rattle.settings.specs.Configuration.{TitleEntry}
+use Rattle.settings.specs.declared.title_row.TitleRoute.{TitleRoute}
+use Rattle.settings.specs.declared.title_row.TitleRoute.TheVariants as route
 use Rattle.mtp3_codec.specs.Headings.{IsLabel, label_at}
 use Rattle.sccp_codec.specs.declared.title.TitleKey.{TitleKey}
 use Rattle.sccp_codec.specs.declared.address.Routing.{Routing}

@@ -7,8 +7,8 @@ use Rattle.std.specs.List.{AllByRecursion, flat_map}
 use Rattle.std.specs.Prelude.{◌==◌, ◌&&◌, if◌then◌else◌, nat_eq, nat_lt, All, IfSome, is_none, unwrap_or}
 use Rattle.signalling_types.specs.declared.cause.Cause.{Cause}
 use Rattle.signalling_types.specs.declared.cause.Cause.TheVariants.{NoDigits, TooLong, NoNature}
-use Rattle.settings_rows.specs.Configuration.{ChangeEntry, unchanged}
-use Rattle.settings_rows.specs.Titles.{HasChangeRanges}
+use Rattle.settings.specs.Configuration.{ChangeEntry, unchanged}
+use Rattle.settings.specs.TitleRanges.{HasChangeRanges}
 use Rattle.sccp_codec.specs.declared.title.EncodingScheme.{EncodingScheme}
 use Rattle.sccp_codec.specs.declared.title.EncodingScheme.TheVariants.{Odd, Even}
 use Rattle.sccp_codec.specs.declared.title.TitleKey.{TitleKey}

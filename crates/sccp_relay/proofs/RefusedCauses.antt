@@ -4,7 +4,7 @@ use Rattle.std.specs.List.{list_any}
 use Rattle.std.specs.Prelude.{◌%◌, nat_eq, nat_lt, if◌then◌else◌}
 use Rattle.signalling_types.specs.declared.cause.Cause.{Cause}
 use Rattle.signalling_types.specs.declared.cause.Cause.TheVariants.{NoNature, NoDigits, SubsystemProhibited, NotInProfile, BadSccp, Unequipped, HopCounter, TooLong}
-use Rattle.settings_rows.specs.Configuration.{ChangeEntry, TitleEntry}
+use Rattle.settings.specs.Configuration.{ChangeEntry, TitleEntry}
 use Rattle.mtp3_codec.specs.declared.label.Label.{Label}
 use Rattle.mtp3_codec.specs.Headings.{label_at}
 use Rattle.sccp_codec.specs.Titles.{TitleValue, digits_in, read_octets, read_title, title_octets}

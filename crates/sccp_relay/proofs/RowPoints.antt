@@ -1,8 +1,8 @@
 -- The point that a row leads to.
 use Rattle.std.proofs.Common.{◌≡◌, ℕ, ◌<◌, ◌^◌, Bool, true, false, List, Option, Some, None, Result, Ok, Err, refl, sym, subst, ◌∙◌, not}
 use Rattle.std.specs.Prelude.{◌&&◌, if◌then◌else◌, IfSome}
-use Rattle.settings_rows.specs.Configuration.{TitleEntry}
-use Rattle.settings_rows.specs.declared.title_row.TitleRoute.{TitleRoute}
+use Rattle.settings.specs.Configuration.{TitleEntry}
+use Rattle.settings.specs.declared.title_row.TitleRoute.{TitleRoute}
 use Rattle.signalling_types.specs.declared.cause.Cause.{Cause}
 use Rattle.signalling_types.specs.declared.cause.Cause.TheVariants.{SubsystemProhibited}
 use Rattle.sccp_relay.specs.Points.{OwnValue, is_backup_open, is_barred, is_open, point_by, point_or, unless_barred}

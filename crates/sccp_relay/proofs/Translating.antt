@@ -1,6 +1,6 @@
 -- The longest way that exists along the digits of a key is that of the row by which its addresses are translated.
 use Rattle.sccp_relay.proofs.Basics.{◌≡◌, ℕ, ◌+◌, ◌*◌, ◌<◌, ◌≤◌, ◌^◌, ◌/◌, ◌%◌, Bool, true, cond, List, ◌++◌, length, get_or, take, Option, Some, None, refl, sym, ap, subst, ◌∙◌, inl, inr, arith, and_parts, cases_lt, eq-eqb, eqb-true, ne_eqb, lt-ltb, le-ltb, get_or_default, length-take, length-take-le, All-get_or, bytes_decides, filter, list_any, starts_with, NoNature, NoDigits, All, Err, nat_eq, DigitMap, behind, Cause, TitleKey, TitleEntry, HasTitleRanges, TitleRoute, Title, Ssn, key_of, leads, has_key, IsTranslation, translation, translation_refusal, or_refusal, IsRow, IsRoute, IsSsn, key_digits, way_of, lead_of, leads_of, route_number, route_of, row_led}
-use Rattle.settings_rows.specs.Configuration.{ChangeEntry, unchanged}
+use Rattle.settings.specs.Configuration.{ChangeEntry, unchanged}
 use Rattle.sccp_relay.specs.Changing.{is_unchanged}
 use Rattle.sccp_relay.specs.Ways.{is_plain}
 use Rattle.sccp_relay.proofs.ReadTitles.{same-unchanged}

@@ -4,7 +4,7 @@ use Rattle.std.proofs.lemmas.Bool.Decides.{nat_tests}
 use Rattle.std.specs.Prelude.{◌^◌, ◌&&◌, nat_le, nat_lt, unwrap_or}
 use Rattle.signalling_types.specs.declared.cause.Cause.{Cause}
 use Rattle.signalling_types.specs.declared.limits.TheConstants.Limits.{SIF_OCTETS}
-use Rattle.settings_rows.specs.Configuration.{TitleEntry}
+use Rattle.settings.specs.Configuration.{TitleEntry}
 use Rattle.mtp3_codec.specs.declared.label.Label.{Label}
 use Rattle.mtp3_codec.specs.Headings.{label_at, label_octets}
 use Rattle.sccp_codec.specs.declared.address.Routing.{Routing}

@@ -3,7 +3,7 @@
 use Rattle.std.specs.Prelude.{ℕ, Bool, ◌&&◌, if◌then◌else◌, nat_eq, nat_lt, List, ◌++◌, length, drop, is_none, unwrap_or, Result, Ok, Err}
 use Rattle.signalling_types.specs.declared.cause.Cause.{Cause}
 use Rattle.signalling_types.specs.declared.cause.Cause.TheVariants.{NoDigits, TooLong}
-use Rattle.settings_rows.specs.Configuration.{ChangeEntry}
+use Rattle.settings.specs.Configuration.{ChangeEntry}
 use Rattle.sccp_codec.specs.declared.title.TitleKey.{TitleKey}
 use Rattle.sccp_codec.specs.Messages.{AddressValue}
 use Rattle.sccp_codec.specs.Titles.{TitleValue, read_title, digits_in, title_octets}

@@ -1,7 +1,7 @@
 -- What adding and removing a row leave of a translation table: laws.
 use Rattle.std.specs.Prelude.{◌≡◌, ◌≢◌, ℕ, List, [], ◌∷◌, filter}
 use Rattle.std.specs.declared.cmp.Ordering.TheVariants.{Equal}
-use Rattle.settings_rows.specs.Configuration.{TitleEntry}
+use Rattle.settings.specs.Configuration.{TitleEntry}
 use Rattle.sccp_relay.specs.Rows.{row_place, place_order, is_at, with_row, without_row}
 
 -- the rows that are at a place

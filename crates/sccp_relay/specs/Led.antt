@@ -1,8 +1,8 @@
 -- What goes on, and what is returned, as it reads where it arrives: laws (Q.714 §2.3, §2.4, §4.2, §5.3.4).
 use Rattle.std.specs.Prelude.{◌≡◌, ◌≢◌, ℕ, ◌+◌, ◌-◌, ◌/◌, ◌<◌, ◌≤◌, ◌^◌, ◌⊎◌, true, false, All, List, [], ◌∷◌, ◌++◌, length, drop, Option, Some, None, IfSome, Ok, unwrap_or}
 use Rattle.signalling_types.specs.declared.cause.Cause.{Cause}
-use Rattle.settings_rows.specs.Configuration.{ChangeEntry, TitleEntry, unchanged}
-use Rattle.settings_rows.specs.declared.title_row.TitleRoute.TheVariants as route
+use Rattle.settings.specs.Configuration.{ChangeEntry, TitleEntry, unchanged}
+use Rattle.settings.specs.declared.title_row.TitleRoute.TheVariants as route
 use Rattle.mtp3_codec.specs.declared.label.Label.{Label}
 use Rattle.mtp3_codec.specs.Headings.{label_at}
 use Rattle.sccp_codec.specs.declared.address.Routing.TheVariants.{Title, Ssn}

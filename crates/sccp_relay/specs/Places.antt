@@ -1,6 +1,6 @@
 -- The index of a place's row among sorted rows, or the one that it would have.
 use Rattle.std.specs.Prelude.{◌≡◌, ℕ, ◌<◌, ◌≤◌, true, false, List, length, slice_get, insert, remove, Some}
-use Rattle.settings_rows.specs.Configuration.{TitleEntry}
+use Rattle.settings.specs.Configuration.{TitleEntry}
 use Rattle.sccp_relay.specs.Rows.{row_place, has_row, with_row, without_row}
 
 -- the i-th row is at the place

@@ -1,6 +1,6 @@
 -- SCLC, SCCP connectionless control: the message that returns one that was refused, a UDTS or an XUDTS (Q.714 §4.2).
 use Rattle.std.specs.Prelude.{ℕ, Bool, false, if◌then◌else◌, nat_eq, List, [], ◌∷◌, ◌++◌, drop, Option, Some, None, unwrap_or, Result, Ok, Err}
-use Rattle.settings_rows.specs.Configuration.{TitleEntry}
+use Rattle.settings.specs.Configuration.{TitleEntry}
 use Rattle.signalling_types.specs.declared.cause.Cause.{Cause}
 use Rattle.signalling_types.specs.declared.cause.Cause.TheVariants.{NoNature, NoDigits, SubsystemProhibited, Unequipped, HopCounter, TooLong, UnknownDestination, NoRoute}
 use Rattle.mtp3_codec.specs.declared.label.Label.{Label}

@@ -6,7 +6,7 @@ use Rattle.std.specs.Cmp.Lexicographic.{slice_cmp}
 use Rattle.std.specs.Ordering.{nat_cmp, is_lt, is_eq, is_gt}
 use Rattle.std.specs.declared.cmp.Ordering.{Ordering}
 use Rattle.std.specs.declared.cmp.Ordering.TheVariants.{Less}
-use Rattle.settings_rows.specs.Configuration.{TitleEntry}
+use Rattle.settings.specs.Configuration.{TitleEntry}
 use Rattle.signalling_types.specs.declared.cause.Cause.{Cause}
 use Rattle.signalling_types.specs.declared.cause.Cause.TheVariants.{DuplicateRow, TableFull}
 use Rattle.signalling_types.specs.declared.limits.TheConstants.Limits.{TITLES}

@@ -2,9 +2,9 @@
 -- prohibited. All others are allowed.
 use Rattle.std.specs.Prelude.{ℕ, Bool, false, not, ◌&&◌, ◌||◌, nat_eq, nat_le, if◌then◌else◌, List, [], ◌∷◌, ◌++◌, filter, length, ◌-◌, Option, Some, None}
 use Rattle.std.specs.List.{list_any}
-use Rattle.settings_rows.specs.Configuration.{TitleEntry}
-use Rattle.settings_rows.specs.declared.title_row.TitleRoute.{TitleRoute}
-use Rattle.settings_rows.specs.declared.title_row.TitleRoute.TheVariants as route
+use Rattle.settings.specs.Configuration.{TitleEntry}
+use Rattle.settings.specs.declared.title_row.TitleRoute.{TitleRoute}
+use Rattle.settings.specs.declared.title_row.TitleRoute.TheVariants as route
 use Rattle.sccp_relay.specs.Rows.{table_of}
 use Rattle.sccp_relay.specs.declared.subsystem.ProhibitedSubsystem.{ProhibitedSubsystem}
 use Rattle.sccp_relay.specs.declared.subsystem.Subsystem.{Subsystem}

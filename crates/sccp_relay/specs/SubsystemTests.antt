@@ -2,7 +2,7 @@
 -- again without an answer (Q.714 §5.2.2, §5.2.3, §5.3.4).
 use Rattle.std.specs.Prelude.{ℕ, Bool, not, ◌&&◌, ◌||◌, List, ◌++◌, filter, map}
 use Rattle.std.specs.List.{list_any}
-use Rattle.settings_rows.specs.Configuration.{TitleEntry}
+use Rattle.settings.specs.Configuration.{TitleEntry}
 use Rattle.mtp3_codec.specs.Headings.{label_octets}
 use Rattle.sccp_codec.specs.Management.{ManagementValue}
 use Rattle.sccp_codec.specs.declared.management.ManagementKind.TheVariants.{SubsystemStatusTest}

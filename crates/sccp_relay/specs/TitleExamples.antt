@@ -1,8 +1,8 @@
 -- The law of translation at two rows, one of which begins the other: a definition that takes another prefix than the
 -- longest makes it false here.
 use Rattle.std.specs.Prelude.{◌≡◌, ℕ, List, [], ◌∷◌, Ok, None}
-use Rattle.settings_rows.specs.Configuration.{TitleEntry, unchanged}
-use Rattle.settings_rows.specs.declared.title_row.TitleRoute.TheVariants.{Title}
+use Rattle.settings.specs.Configuration.{TitleEntry, unchanged}
+use Rattle.settings.specs.declared.title_row.TitleRoute.TheVariants.{Title}
 use Rattle.sccp_codec.specs.declared.title.TitleKey.{TitleKey}
 use Rattle.sccp_relay.specs.Rows.{IsOrdered}
 use Rattle.sccp_relay.specs.Translation.{IsTranslation, translation}

@@ -3,10 +3,10 @@ use Rattle.std.specs.Prelude.{ℕ, Bool, ◌&&◌, is_none, ◌+◌, ◌*◌, �
 use Rattle.std.specs.Str.{bytes_eq}
 use Rattle.sccp_relay.specs.Digits.{DigitMap}
 use Rattle.sccp_codec.specs.declared.title.TitleKey.{TitleKey}
-use Rattle.settings_rows.specs.Configuration.{TitleEntry, unchanged}
-use Rattle.settings_rows.specs.Titles.{HasTitleRanges, HasChangeRanges}
-use Rattle.settings_rows.specs.declared.title_row.TitleRoute.{TitleRoute}
-use Rattle.settings_rows.specs.declared.title_row.TitleRoute.TheVariants.{Title, Ssn}
+use Rattle.settings.specs.Configuration.{TitleEntry, unchanged}
+use Rattle.settings.specs.TitleRanges.{HasTitleRanges, HasChangeRanges}
+use Rattle.settings.specs.declared.title_row.TitleRoute.{TitleRoute}
+use Rattle.settings.specs.declared.title_row.TitleRoute.TheVariants.{Title, Ssn}
 use Rattle.sccp_relay.specs.Changing.{is_unchanged}
 use Rattle.sccp_relay.specs.Rows.{key_of}
 

@@ -1,7 +1,7 @@
 //! The titles of addresses, as the rows that lead them on leave them.
 
 ghost use Rattle.std.specs.Prelude.{◌≡◌, ◌+◌, ◌*◌, ◌^◌, ◌<◌, ◌≤◌, length, slice_index, Ok};
-ghost use Rattle.settings_rows.specs.Titles.{HasChangeRanges};
+ghost use Rattle.settings.specs.TitleRanges.{HasChangeRanges};
 ghost use Rattle.sccp_codec.specs.Titles.{digits_in, scheme_number, title_of, title_octets};
 ghost use Rattle.sccp_codec.specs.Values.{address_of};
 ghost use Rattle.sccp_relay.specs.Changing as rule;
@@ -9,7 +9,7 @@ ghost use Rattle.sccp_relay.specs.Values.{GivesAs, made_or};
 
 use arrayvec::ArrayVec;
 use sccp_codec::{Address, GlobalTitle};
-use settings_rows::{TitleChange, TitleRow};
+use settings::{TitleChange, TitleRow};
 use signalling_types::Cause;
 
 /// The most octets of a title: those of an address, 255, less the first (Q.713 §3.4).

@@ -1,7 +1,7 @@
 //! Laws of translation tables, for whoever keeps one. Each function states its law in its contract, and does nothing.
 
 ghost use Rattle.std.specs.Prelude.{◌≡◌, ℕ, List, Ok};
-ghost use Rattle.settings_rows.specs.Configuration.{TitleEntry};
+ghost use Rattle.settings.specs.Configuration.{TitleEntry};
 ghost use Rattle.sccp_codec.specs.declared.title.TitleKey.{TitleKey};
 ghost use Rattle.sccp_relay.specs.Rows.{IsOrdered};
 ghost use Rattle.sccp_relay.specs.Translation.{IsTranslation, translation};

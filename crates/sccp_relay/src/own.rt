@@ -7,7 +7,7 @@ ghost use Rattle.sccp_relay.specs.Values.{own_value};
 
 use crate::subsystem::Subsystem;
 use crate::titles::Titles;
-use settings_rows::{TitleRoute, TitleRow};
+use settings::{TitleRoute, TitleRow};
 use signalling_types::{Cause, PointCode, Sls};
 
 /// The number of SCCP management (Q.713 §3.4.2.2).

@@ -8,7 +8,7 @@ ghost use Rattle.sccp_relay.specs.Places.{StandsAt, FitsAt};
 ghost use Rattle.sccp_relay.specs.Translation.{has_key};
 
 use sccp_codec::TitleKey;
-use settings_rows::TitleRow;
+use settings::TitleRow;
 use signalling_types::Cause;
 use std::cmp::Ordering;
 

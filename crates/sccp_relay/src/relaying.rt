@@ -18,7 +18,7 @@ use crate::relayed::Relayed;
 use crate::writing::{led, ssn_by, write_lowered};
 use mtp3_codec::Label;
 use sccp_codec::{Address, Field, Parts, Routing, SccpFault};
-use settings_rows::TitleRow;
+use settings::TitleRow;
 use signalling_types::{Cause, Limits, PointCode, Sls};
 
 /// Octets of the routing label, which comes before the message (Q.704 §2.2).

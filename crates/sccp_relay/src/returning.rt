@@ -21,7 +21,7 @@ use mtp3_codec::Label;
 use sccp_codec::{
     Address, ExtendedKind, ExtendedUnitdata, Field, OptionalPart, Parts, Routing, Udts,
 };
-use settings_rows::TitleRow;
+use settings::TitleRow;
 use signalling_types::{Cause, Limits, PointCode};
 
 /// The name of segmentation, which has four octets (Q.713 §3.17).

@@ -14,7 +14,7 @@ use crate::prohibited::Prohibited;
 use crate::subsystem::{PROHIBITED_SUBSYSTEMS, ProhibitedSubsystem, Subsystem, SubsystemNews};
 use arrayvec::ArrayVec;
 use sccp_codec::TitleKey;
-use settings_rows::TitleRow;
+use settings::TitleRow;
 use signalling_types::{Cause, Limits};
 use std::alloc::{AllocError, Global};
 use std::marker::Model;

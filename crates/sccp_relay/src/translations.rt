@@ -15,7 +15,7 @@ use crate::places::{has_key, key_of, place, row_at, sort};
 use crate::subsystem::Subsystem;
 use crate::ways::{MORE, enter, key_digits, row_led, trie_of, way_of};
 use sccp_codec::TitleKey;
-use settings_rows::{TitleRoute, TitleRow};
+use settings::{TitleRoute, TitleRow};
 use signalling_types::{Cause, Limits};
 use std::alloc::{AllocError, Global};
 use std::marker::Model;
@@ -31,7 +31,7 @@ pub struct Translations {
 
 impl Model for Translations {
     ghost use Rattle.std.specs.Prelude.{List};
-    ghost use Rattle.settings_rows.specs.Configuration.{TitleEntry};
+    ghost use Rattle.settings.specs.Configuration.{TitleEntry};
 
     ghost Value = { List TitleEntry };
 

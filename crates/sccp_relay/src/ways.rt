@@ -3,7 +3,7 @@
 ghost use Rattle.std.specs.Prelude.{◌≡◌, ◌%◌, ◌^◌, ◌<◌, All, IfSome, IfOk, OnOk, OnErr, None, is_some};
 ghost use Rattle.sccp_relay.specs.Digits.{with_value};
 ghost use Rattle.sccp_relay.specs.Nodes.{stored};
-ghost use Rattle.settings_rows.specs.Titles.{HasTitleRanges, HasChangeRanges};
+ghost use Rattle.settings.specs.TitleRanges.{HasTitleRanges, HasChangeRanges};
 ghost use Rattle.sccp_relay.specs.Ways.{IsRow, IsRoute, IsSsn, key_digits, way_of, is_plain, lead_of, route_number, ssn_number, route_of, row_led, leads_of};
 
 use crate::changing::is_unchanged;
@@ -11,7 +11,7 @@ use crate::places::key_of;
 use crate::{Trie, TrieFault};
 use arrayvec::ArrayVec;
 use sccp_codec::TitleKey;
-use settings_rows::{TitleRoute, TitleRow};
+use settings::{TitleRoute, TitleRow};
 use signalling_types::{Limits, PointCode, Ssn};
 use std::alloc::{AllocError, Global};
 

@@ -11,7 +11,7 @@ use crate::changing::TitleOctets;
 use crate::message::{Message, lowered_hops};
 use mtp3_codec::Label;
 use sccp_codec::{Address, ExtendedUnitdata, Field, Parts, Routing, Udt, Udts, Unitdata};
-use settings_rows::{TitleRoute, TitleRow};
+use settings::{TitleRoute, TitleRow};
 use signalling_types::{Limits, PointCode, Ssn};
 
 /// Writes a message for another point with these parts at the front of the field, after a label from this one with the

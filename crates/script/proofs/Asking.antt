@@ -1,6 +1,6 @@
 -- What lines of four words and more ask for.
 use Rattle.script.proofs.Basics.{◌≡◌, ℕ, List, [], ◌∷◌, Some, refl, ◌<◌, length, arith, option_map, words, parted-some, AskOrder, asked_behind}
-use Rattle.point_format.specs.declared.point.PointFormat.{PointFormat}
+use Rattle.settings.specs.declared.point.PointFormat.{PointFormat}
 use Rattle.console.specs.Orders.{instructed_by}
 use Rattle.console.specs.declared.commands.Command.{Command}
 

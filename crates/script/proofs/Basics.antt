@@ -16,7 +16,7 @@ pub use Rattle.exchange_rules.specs.Exchange.{after}
 pub use Rattle.exchange_rules.specs.State.{Ticked}
 pub use Rattle.exchange_rules.specs.Queues.{whole, WholeQueues}
 pub use Rattle.exchange_rules.specs.First.{Abstract}
-pub use Rattle.point_format.specs.declared.point.PointFormat.TheVariants.{Plain}
+pub use Rattle.settings.specs.declared.point.PointFormat.TheVariants.{Plain}
 pub use Rattle.script.specs.Asking.{AskOrder, asked_behind, Asked, Reading, Asks, IsMalformed, parsed_line, Skips, asked_line}
 pub use Rattle.script.specs.Doing.{printed, done, after_tick, after_ticks, Meaning, Calls, Passes, Shows, Refuses, meaning, answer_text, meaning_printed, meaning_done}
 pub use Rattle.script.specs.Lines.{is_octets, octets_of, lines}

@@ -5,7 +5,7 @@ use Rattle.std.specs.Option.{option_map}
 use Rattle.console.specs.Commands.{command_named}
 use Rattle.console.specs.Numbers.{number_within}
 use Rattle.console.specs.Orders.{Instruction, ToActivate, ToDeactivate, ToRelease, instruction, instructed_by, is_some_word}
-use Rattle.point_format.specs.declared.point.PointFormat.{PointFormat}
+use Rattle.settings.specs.declared.point.PointFormat.{PointFormat}
 use Rattle.console.specs.Words.{words}
 use Rattle.console.specs.declared.commands.Command.{Command}
 use Rattle.console.specs.declared.commands.Command.TheVariants as command

@@ -1,7 +1,7 @@
 -- What a line of a script prints, and the state after it, by the calls of an exchange.
 use Rattle.std.specs.Prelude.{ℕ, Bool, zero, suc, List, [], drop, length, nat_lt, if◌then◌else◌, Option, Some, None, slice_index}
 use Rattle.signalling_types.specs.Message.{Message}
-use Rattle.settings_rows.specs.Configuration.{Configuration}
+use Rattle.settings.specs.Configuration.{Configuration}
 use Rattle.settings.specs.Readings.{link_place}
 use Rattle.signalling_types.specs.declared.limits.TheConstants.Limits.{SIF_OCTETS}
 use Rattle.signalling_types.specs.declared.cause.Cause.{Cause}

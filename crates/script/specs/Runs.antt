@@ -8,7 +8,7 @@ use Rattle.script.specs.Streams.{AppendsFirst, AppendsAtLeast}
 use Rattle.script.specs.Lines.{lines}
 use Rattle.script.specs.Texts.{line_fault}
 use Rattle.script.specs.Asking.{Reading, Skips, IsMalformed, Asks, parsed_line}
-use Rattle.point_format.specs.declared.point.PointFormat.TheVariants.{Plain}
+use Rattle.settings.specs.declared.point.PointFormat.TheVariants.{Plain}
 use Rattle.script.specs.Doing.{printed, done}
 use Rattle.script.specs.declared.fault.TheConstants.{LINE_OCTETS, READS}
 use Rattle.script.specs.declared.fault.ScriptFault.{ScriptFault}

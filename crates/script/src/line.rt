@@ -8,7 +8,7 @@ ghost use Rattle.script.specs.Asking.{show_named, asked_of, reading_of};
 use crate::hex_octets::HexOctets;
 use console::words::cut;
 use console::{Command, OrderText, order_by, read_number};
-use point_format::PointFormat;
+use settings::PointFormat;
 
 /// What a skipped line begins with.
 const REMARK: u8 = b'#';

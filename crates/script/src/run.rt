@@ -19,7 +19,7 @@ use crate::source::Source;
 use crate::text::line_fault;
 use arrayvec::ArrayVec;
 use exchange::Exchange;
-use point_format::PointFormat;
+use settings::PointFormat;
 use std::marker::Model;
 
 /// Octets that one read asks for.

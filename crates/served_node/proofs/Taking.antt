@@ -8,7 +8,7 @@ use Rattle.served_node.specs.Clients.{ClientState, EndsNoLine, IsOneLine, withou
 use Rattle.served_node.specs.WholeLines.{DoesLine}
 use Rattle.served_link.specs.Counting.{NodeCounters}
 use Rattle.served_node.specs.Captured.{Captured}
-use Rattle.point_format.specs.declared.point.PointFormat.{PointFormat}
+use Rattle.settings.specs.declared.point.PointFormat.{PointFormat}
 use Rattle.served_node.specs.declared.console_session.client.Ending.{Ending}
 use Rattle.served_node.specs.declared.console_session.client.TheConstants.{LINE_OCTETS}
 

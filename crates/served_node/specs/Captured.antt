@@ -1,7 +1,7 @@
 -- Which links of a node are captured, and what a client of the console is told of it.
 use Rattle.std.specs.Prelude.{ℕ, Bool, true, false, if◌then◌else◌, List, [], ◌++◌, codes, length, replicate}
 use Rattle.std.specs.Prelude.{slice_index_or, slice_set, Option, None, Some}
-use Rattle.settings_rows.specs.Configuration.{Configuration}
+use Rattle.settings.specs.Configuration.{Configuration}
 use Rattle.settings.specs.Readings.{link_place}
 use Rattle.exchange.specs.Calls.{Kept}
 use Rattle.console.specs.Names.{name_in}

@@ -12,7 +12,7 @@ use Rattle.served_node.specs.Captured.{Captured, after_order, answer_to, capture
 use Rattle.served_node.specs.declared.console_session.help.TheConstants.{HELP}
 use Rattle.served_node.specs.declared.console_session.client.TheConstants.{MALFORMED, WATCHING, STOPPING}
 use Rattle.served_link.specs.Counting.{NodeCounters}
-use Rattle.point_format.specs.declared.point.PointFormat.{PointFormat}
+use Rattle.settings.specs.declared.point.PointFormat.{PointFormat}
 use Rattle.served_node.specs.declared.console_session.client.Ending.{Ending}
 use Rattle.served_node.specs.declared.console_session.client.Ending.TheVariants.{Stays, Closes, Stops}
 use Rattle.served_node.specs.declared.console_session.client.News.TheVariants.{Message, Notice, Frame}

@@ -1,12 +1,13 @@
 //! The files of a ring that a capture goes into.
 
 use crate::capture_place::{CaptureFault, FileId, new_file};
-use capture_ring::{CaptureRing, LAST_NUMBER, Placing, file_name, number_of};
 use std::alloc::Global;
 use std::fs::{File, ReadDir};
 use std::io::{ErrorKind, Write};
 use std::{fs, io};
-use trace::{FILE_HEADER_OCTETS, file_header};
+use trace::{
+    CaptureRing, FILE_HEADER_OCTETS, LAST_NUMBER, Placing, file_header, file_name, number_of,
+};
 
 /// A ring of files, in the folder of the capture. Each has the capture's name, a dot and a number.
 #[derive(Drop)]

@@ -32,20 +32,20 @@ pub use Rattle.settings.specs.Told.{tell, tell_all}
 pub use Rattle.settings.specs.Meaning.{settings_of, ticks_of, test_ticks_of, set_of, destination_of, set_place, set_number, link_of, title_of, digit_of, route_of, change_of, is_by_title, points_of}
 pub use Rattle.settings.specs.Titles.{title_key}
 pub use Rattle.settings.specs.Well.{IsWell, is_same_point, is_led_first, is_first, IsWithin, all_ticks, test_ticks, ticks_if_any, IsDestination, IsLink, is_link_of_same_name, is_same_code, IsFarPoint, IsSet, is_set_of_same_name, is_set_to_same_point, IsTitle, HasSubsystem, is_same_row}
-pub use Rattle.settings_rows.specs.Configuration.{Configuration, SetEntry, DestinationEntry, LinkEntry}
-pub use Rattle.settings_rows.specs.Names.{is_name}
-pub use Rattle.settings_rows.specs.declared.draft.DestinationDraft.{DestinationDraft}
-pub use Rattle.settings_rows.specs.declared.draft.Draft.{Draft}
-pub use Rattle.settings_rows.specs.declared.draft.LinkDraft.{LinkDraft}
-pub use Rattle.settings_rows.specs.declared.draft.LinkTestsDraft.{LinkTestsDraft}
-pub use Rattle.settings_rows.specs.declared.draft.TimersDraft.{TimersDraft}
-pub use Rattle.settings_rows.specs.declared.draft.SetDraft.{SetDraft}
-pub use Rattle.settings_rows.specs.declared.draft.TitleDraft.{TitleDraft}
-pub use Rattle.settings_rows.specs.declared.draft.ChangeDraft.{ChangeDraft}
-pub use Rattle.settings_rows.specs.declared.fault.DraftFault.{DraftFault}
-pub use Rattle.settings_rows.specs.declared.fault.FaultKind.{FaultKind}
-pub use Rattle.settings_rows.specs.declared.fault.FaultKind.TheVariants.{Range, Duplicate, UnknownName, TooMany}
-pub use Rattle.settings_rows.specs.declared.key.Key.{Key}
-pub use Rattle.settings_rows.specs.declared.key.TimerKey.TheVariants.{Slt1, Slt2, L4e, Sst, T2Bar}
-pub use Rattle.settings_rows.specs.declared.key.Key.TheVariants.{Own, Network, Window, Pool, Users, Subsystems, Timer, Destination, DestinationPoint, DestinationSets, DestinationJoined, SetAdjacent, Link, LinkName, LinkSet, LinkSlc, LinkShare, Set, SetName, Title, TitleTranslation, TitlePlan, TitleNature, TitleDigits, TitlePoint, TitleBackup, TitleRoute, TitleSsn, TitleNewPlan, TitleNewNature, TitleRemove, TitleAdd}
+pub use Rattle.settings.specs.Configuration.{Configuration, SetEntry, DestinationEntry, LinkEntry}
+pub use Rattle.settings.specs.Names.{is_name}
+pub use Rattle.settings.specs.declared.draft.DestinationDraft.{DestinationDraft}
+pub use Rattle.settings.specs.declared.draft.Draft.{Draft}
+pub use Rattle.settings.specs.declared.draft.LinkDraft.{LinkDraft}
+pub use Rattle.settings.specs.declared.draft.LinkTestsDraft.{LinkTestsDraft}
+pub use Rattle.settings.specs.declared.draft.TimersDraft.{TimersDraft}
+pub use Rattle.settings.specs.declared.draft.SetDraft.{SetDraft}
+pub use Rattle.settings.specs.declared.draft.TitleDraft.{TitleDraft}
+pub use Rattle.settings.specs.declared.draft.ChangeDraft.{ChangeDraft}
+pub use Rattle.settings.specs.declared.fault.DraftFault.{DraftFault}
+pub use Rattle.settings.specs.declared.fault.FaultKind.{FaultKind}
+pub use Rattle.settings.specs.declared.fault.FaultKind.TheVariants.{Range, Duplicate, UnknownName, TooMany}
+pub use Rattle.settings.specs.declared.key.Key.{Key}
+pub use Rattle.settings.specs.declared.key.TimerKey.TheVariants.{Slt1, Slt2, L4e, Sst, T2Bar}
+pub use Rattle.settings.specs.declared.key.Key.TheVariants.{Own, Network, Window, Pool, Users, Subsystems, Timer, Destination, DestinationPoint, DestinationSets, DestinationJoined, SetAdjacent, Link, LinkName, LinkSet, LinkSlc, LinkShare, Set, SetName, Title, TitleTranslation, TitlePlan, TitleNature, TitleDigits, TitlePoint, TitleBackup, TitleRoute, TitleSsn, TitleNewPlan, TitleNewNature, TitleRemove, TitleAdd}
 pub use Rattle.signalling_types.specs.declared.limits.TheConstants.Limits.{WINDOW, POOL, TICKS, DESTINATIONS, SETS_PER_DESTINATION, LINKS, LINKS_PER_SET, SETS, TITLES, TITLE_DIGITS}

@@ -15,3 +15,5 @@ pub mod Well
 pub mod Telling
 pub mod FirstOfAll
 pub mod Seen
+pub mod Short
+pub mod Saying

@@ -1,6 +1,6 @@
 -- Settings without a fault satisfy every limit, and every name is known.
 use Rattle.settings.proofs.Basics.{◌≡◌, arith, None, natural, range_fault, numbers_fault, settings_of, first_fault, scalars_fault, timers_fault, tables_fault, arrays_fault, sets_fault, links_fault, destinations_fault, titles_fault, unreached_fault, Own, Network, Window, Pool, Users, Subsystems, WINDOW, POOL, IsWithin, IsWell}
-use Rattle.settings_rows.specs.declared.draft.Draft.{Draft}
+use Rattle.settings.specs.declared.draft.Draft.{Draft}
 use Rattle.settings.proofs.Rows.{three_none, four_none, five_none}
 use Rattle.settings.proofs.WellNumbers.{in_range, numbers_within, numbers_differ}
 use Rattle.settings.proofs.WellTimers.{timers_within, bar_longer}

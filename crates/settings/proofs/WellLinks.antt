@@ -1,7 +1,7 @@
 -- Links without a fault satisfy what is asked of them.
 use Rattle.settings.proofs.Basics.{refl, sym, ap, ◌∙◌, ◌≡◌, ◌≤◌, ◌<◌, ℕ, Bool, true, false, not, ◌&&◌, nat_eq, List, [], ◌∷◌, map, length, get_or, All, arith, Option, None, Some, is_some, unwrap_or, string_bytes, IsDistinct, AllByRecursion, filter, count_by, bytes_eq, int_eq, eqb, length-map, All-from_recursion, position-Some, length-filter, bytes_eq-Decides, nat_tests, natural, is_within, entries_fault, count_fault, set_of, link_of, set_place, set_number, links_fault, link_fault, link_name_fault, link_set_fault, link_slc_fault, optional_fault, has_link_named, has_link_code, LinkEntry, is_name, SetDraft, Link, LinkName, LinkSet, LinkSlc, LinkShare, Range, Duplicate, UnknownName, LINKS, LINKS_PER_SET, POOL, IsWithin, IsLink, is_link_of_same_name, is_same_code, and_from, not-true, and_parts}
 use Rattle.std.proofs.lemmas.Map.Steps.{length-le_from_distinct_below}
-use Rattle.settings_rows.specs.declared.draft.LinkDraft.{LinkDraft}
+use Rattle.settings.specs.declared.draft.LinkDraft.{LinkDraft}
 use Rattle.settings.proofs.Rows.{two_none, four_none, two_pass, within_from_test, each_entry, each_made, entries_differ, differ_made, none_of_any, none_differ, every, each_passes, each_filtered, differ_filter, below_from_each}
 use Rattle.settings.proofs.WellNumbers.{optional_in_range, count_within}
 use Rattle.settings.proofs.WellSets.{int_eq-natural}

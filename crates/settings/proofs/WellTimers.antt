@@ -1,8 +1,8 @@
 -- Timers without a fault run as many ticks as they may.
 use Rattle.settings.proofs.Basics.{◌≡◌, ℕ, ℤ, true, List, [], ◌∷◌, ◌++◌, map, All, AllByRecursion, All-from_recursion, Option, None, Some, IfSome, ◌<◌, nat_lt, arith, nat_tests, option_map, natural, fault_unless, range_fault, optional_fault, entries_fault, link_tests_fault, bar_fault, timers_fault, Range, ticks_fault, timers_written, ticks_in, timer_in, ticks_of, test_ticks_of, Timer, Slt1, Slt2, L4e, Sst, T2Bar, TICKS, IsWithin, all_ticks, test_ticks, ticks_if_any}
-use Rattle.settings_rows.specs.declared.draft.TimersDraft.{TimersDraft}
-use Rattle.settings_rows.specs.declared.draft.LinkTestsDraft.{LinkTestsDraft}
-use Rattle.settings_rows.specs.declared.key.TimerKey.{TimerKey}
+use Rattle.settings.specs.declared.draft.TimersDraft.{TimersDraft}
+use Rattle.settings.specs.declared.draft.LinkTestsDraft.{LinkTestsDraft}
+use Rattle.settings.specs.declared.key.TimerKey.{TimerKey}
 use Rattle.settings.proofs.Rows.{two_none, five_none, passes, each_entry, each_made}
 use Rattle.settings.proofs.WellNumbers.{in_range}
 

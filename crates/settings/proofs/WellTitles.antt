@@ -1,7 +1,7 @@
 -- Translation rows without a fault satisfy what is asked of them.
 use Rattle.settings.proofs.Basics.{refl, sym, ◌≡◌, ◌≤◌, ◌<◌, ◌^◌, ℕ, Bool, true, false, not, ◌&&◌, nat_eq, nat_lt, nat_le, List, [], ◌∷◌, map, length, All, arith, Option, None, Some, IfSome, ℤ, string_bytes, IsDistinct, AllByRecursion, list_all, list_any, option_map, bytes_eq, int_eq, length-map, All-from_recursion, bytes_eq-Decides, nat_tests, natural, is_within, is_digit, fault_unless, range_fault, entries_fault, optional_fault, ssn_fault, route_fault, digits_fault, added_fault, title_of, digit_of, route_of, change_of, is_by_title, titles_fault, title_fault, title_numbers_fault, title_digits_fault, title_target_fault, title_change_fault, is_same_title, TitleDraft, ChangeDraft, Key, Title, TitleTranslation, TitlePlan, TitleNature, TitleDigits, TitlePoint, TitleBackup, TitleRoute, TitleSsn, TitleNewPlan, TitleNewNature, TitleRemove, TitleAdd, Range, Duplicate, TooMany, TITLES, TITLE_DIGITS, IsWithin, IsTitle, HasSubsystem, is_same_row, and_from, not-true, and_parts}
 use Rattle.std.proofs.lemmas.Option.{IfSome_then}
-use Rattle.settings_rows.specs.Titles.{HasChangeRanges}
+use Rattle.settings.specs.TitleRanges.{HasChangeRanges}
 use Rattle.settings.proofs.Rows.{two_none, three_none, four_none, passes, two_pass, within_from_test, each_entry, each_made, each_of_all, entries_differ, differ_made, none_of_any, none_differ}
 use Rattle.settings.proofs.WellNumbers.{in_range, optional_in_range}
 use Rattle.settings.proofs.WellSets.{int_eq-natural}

@@ -23,23 +23,23 @@ use Rattle.settings.specs.FirstFault.{set_checks, link_name_fault, has_link_code
 use Rattle.settings.specs.FirstFault.{ticks_fault, timers_written, link_tests_checks, scalars_checks}
 unfoldable use Rattle.settings.specs.FirstFault.{bar_fault}
 use Rattle.settings.specs.TitleFaults.{is_same_title, title_numbers_checks, title_numbers_fault, title_change_checks}
-use Rattle.settings_rows.specs.Names.{is_name}
-use Rattle.settings_rows.specs.declared.fault.DraftFault.{DraftFault}
-use Rattle.settings_rows.specs.declared.fault.FaultKind.TheVariants.{Range, Duplicate, UnknownName, TooMany}
-use Rattle.settings_rows.specs.declared.key.TimerKey.TheVariants.{L4e, Sst}
-use Rattle.settings_rows.specs.declared.key.Key.{Key}
-use Rattle.settings_rows.specs.declared.key.Key.TheVariants.{Users, Subsystems, Timer, Set, Link, LinkSet, LinkSlc, LinkShare}
-use Rattle.settings_rows.specs.declared.key.Key.TheVariants.{Destination, DestinationPoint, DestinationSets}
-use Rattle.settings_rows.specs.declared.key.Key.TheVariants.{Title, TitleDigits, TitlePoint, TitleBackup, TitleRoute, TitleSsn}
+use Rattle.settings.specs.Names.{is_name}
+use Rattle.settings.specs.declared.fault.DraftFault.{DraftFault}
+use Rattle.settings.specs.declared.fault.FaultKind.TheVariants.{Range, Duplicate, UnknownName, TooMany}
+use Rattle.settings.specs.declared.key.TimerKey.TheVariants.{L4e, Sst}
+use Rattle.settings.specs.declared.key.Key.{Key}
+use Rattle.settings.specs.declared.key.Key.TheVariants.{Users, Subsystems, Timer, Set, Link, LinkSet, LinkSlc, LinkShare}
+use Rattle.settings.specs.declared.key.Key.TheVariants.{Destination, DestinationPoint, DestinationSets}
+use Rattle.settings.specs.declared.key.Key.TheVariants.{Title, TitleDigits, TitlePoint, TitleBackup, TitleRoute, TitleSsn}
 use Rattle.signalling_types.specs.declared.limits.TheConstants.Limits.{POOL, TICKS, LINKS, SETS, TITLES}
 use Rattle.signalling_types.specs.declared.limits.TheConstants.Limits.{DESTINATIONS, SETS_PER_DESTINATION}
 use Rattle.settings.specs.declared.timers.Written.{Written}
-use Rattle.settings_rows.specs.declared.draft.Draft.{Draft}
-use Rattle.settings_rows.specs.declared.draft.TimersDraft.{TimersDraft}
-use Rattle.settings_rows.specs.declared.draft.SetDraft.{SetDraft}
-use Rattle.settings_rows.specs.declared.draft.LinkDraft.{LinkDraft}
-use Rattle.settings_rows.specs.declared.draft.DestinationDraft.{DestinationDraft}
-use Rattle.settings_rows.specs.declared.draft.TitleDraft.{TitleDraft}
+use Rattle.settings.specs.declared.draft.Draft.{Draft}
+use Rattle.settings.specs.declared.draft.TimersDraft.{TimersDraft}
+use Rattle.settings.specs.declared.draft.SetDraft.{SetDraft}
+use Rattle.settings.specs.declared.draft.LinkDraft.{LinkDraft}
+use Rattle.settings.specs.declared.draft.DestinationDraft.{DestinationDraft}
+use Rattle.settings.specs.declared.draft.TitleDraft.{TitleDraft}
 
 -- the point that others must differ from: the node's own; if that is malformed, 16384, which no point is
 abbrev pub own_point : ℤ → ℕ

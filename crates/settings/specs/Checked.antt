@@ -1,6 +1,6 @@
 -- What checked numbers and rows are.
-use Rattle.settings_rows.specs.Configuration.{Configuration}
-use Rattle.settings_rows.specs.declared.draft.Draft.{Draft}
+use Rattle.settings.specs.Configuration.{Configuration}
+use Rattle.settings.specs.declared.draft.Draft.{Draft}
 use Rattle.settings.specs.declared.check.Checked.{Checked}
 use Rattle.settings.specs.declared.check.Services.{Services}
 

@@ -3,12 +3,12 @@ use Rattle.std.specs.Prelude.{codes, ℕ, Bool, true, false, not, ◌&&◌, ◌|
 use Rattle.std.specs.Prelude.{List, [], ◌∷◌, ◌++◌, Option, Some, None, is_some, length, map}
 use Rattle.std.specs.List.{list_any, list_all}
 use Rattle.std.specs.Str.{bytes_eq}
-use Rattle.settings_rows.specs.declared.fault.DraftFault.{DraftFault}
-use Rattle.settings_rows.specs.declared.fault.DraftFault.TheVariants.{At}
-use Rattle.settings_rows.specs.declared.fault.FaultKind.{FaultKind}
-use Rattle.settings_rows.specs.declared.fault.FaultKind.TheVariants.{Range, Duplicate, TooMany}
-use Rattle.settings_rows.specs.declared.key.Key.{Key}
-use Rattle.settings_rows.specs.Names.{is_name}
+use Rattle.settings.specs.declared.fault.DraftFault.{DraftFault}
+use Rattle.settings.specs.declared.fault.DraftFault.TheVariants.{At}
+use Rattle.settings.specs.declared.fault.FaultKind.{FaultKind}
+use Rattle.settings.specs.declared.fault.FaultKind.TheVariants.{Range, Duplicate, TooMany}
+use Rattle.settings.specs.declared.key.Key.{Key}
+use Rattle.settings.specs.Names.{is_name}
 use Rattle.signalling_types.specs.declared.limits.TheConstants.Limits.{TITLE_DIGITS}
 
 -- the first fault of several, in their order

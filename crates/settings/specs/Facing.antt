@@ -1,6 +1,6 @@
 -- Two nodes that face each other: one link set joins them, and neither has another.
 use Rattle.std.specs.Prelude.{ℕ, ◌≡◌, List, [], ◌∷◌, map}
-use Rattle.settings_rows.specs.Configuration.{Configuration}
+use Rattle.settings.specs.Configuration.{Configuration}
 
 -- the points that the sets lead to, the destinations, and the signalling link codes, in the order of the settings
 abbrev pub adjacent_points : Configuration → List ℕ

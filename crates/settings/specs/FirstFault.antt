@@ -9,27 +9,27 @@ use Rattle.settings.specs.Checks.{natural, first_of, fault_unless, range_fault, 
 use Rattle.settings.specs.Checks.{entries_fault, numbers_fault, count_fault, name_fault, optional_fault}
 use Rattle.settings.specs.Meaning.{set_place, points_of}
 use Rattle.settings.specs.TitleFaults.{titles_fault}
-use Rattle.settings_rows.specs.Names.{is_name}
-use Rattle.settings_rows.specs.declared.fault.DraftFault.{DraftFault}
-use Rattle.settings_rows.specs.declared.fault.FaultKind.TheVariants.{Range, Duplicate, UnknownName}
-use Rattle.settings_rows.specs.declared.key.TimerKey.{TimerKey}
-use Rattle.settings_rows.specs.declared.key.TimerKey.TheVariants.{L1, L2, L3, L4, L6, L7, T1, T2, T3, T4, T6, T8, T10}
-use Rattle.settings_rows.specs.declared.key.TimerKey.TheVariants.{Slt1, Slt2, L4e, Sst, T2Bar}
-use Rattle.settings_rows.specs.declared.key.Key.{Key}
-use Rattle.settings_rows.specs.declared.key.Key.TheVariants.{Own, Network, Window, Pool, Users, Subsystems, Timer, Set}
-use Rattle.settings_rows.specs.declared.key.Key.TheVariants.{SetName, SetAdjacent, Link, LinkName, LinkSet, LinkSlc}
-use Rattle.settings_rows.specs.declared.key.Key.TheVariants.{LinkShare}
-use Rattle.settings_rows.specs.declared.key.Key.TheVariants.{Destination, DestinationPoint, DestinationSets}
-use Rattle.settings_rows.specs.declared.key.Key.TheVariants.{DestinationJoined}
+use Rattle.settings.specs.Names.{is_name}
+use Rattle.settings.specs.declared.fault.DraftFault.{DraftFault}
+use Rattle.settings.specs.declared.fault.FaultKind.TheVariants.{Range, Duplicate, UnknownName}
+use Rattle.settings.specs.declared.key.TimerKey.{TimerKey}
+use Rattle.settings.specs.declared.key.TimerKey.TheVariants.{L1, L2, L3, L4, L6, L7, T1, T2, T3, T4, T6, T8, T10}
+use Rattle.settings.specs.declared.key.TimerKey.TheVariants.{Slt1, Slt2, L4e, Sst, T2Bar}
+use Rattle.settings.specs.declared.key.Key.{Key}
+use Rattle.settings.specs.declared.key.Key.TheVariants.{Own, Network, Window, Pool, Users, Subsystems, Timer, Set}
+use Rattle.settings.specs.declared.key.Key.TheVariants.{SetName, SetAdjacent, Link, LinkName, LinkSet, LinkSlc}
+use Rattle.settings.specs.declared.key.Key.TheVariants.{LinkShare}
+use Rattle.settings.specs.declared.key.Key.TheVariants.{Destination, DestinationPoint, DestinationSets}
+use Rattle.settings.specs.declared.key.Key.TheVariants.{DestinationJoined}
 use Rattle.signalling_types.specs.declared.limits.TheConstants.Limits.{WINDOW, POOL, TICKS, LINKS, SETS}
 use Rattle.signalling_types.specs.declared.limits.TheConstants.Limits.{DESTINATIONS, SETS_PER_DESTINATION}
 use Rattle.settings.specs.declared.timers.Written.{Written}
-use Rattle.settings_rows.specs.declared.draft.Draft.{Draft}
-use Rattle.settings_rows.specs.declared.draft.TimersDraft.{TimersDraft}
-use Rattle.settings_rows.specs.declared.draft.LinkTestsDraft.{LinkTestsDraft}
-use Rattle.settings_rows.specs.declared.draft.SetDraft.{SetDraft}
-use Rattle.settings_rows.specs.declared.draft.LinkDraft.{LinkDraft}
-use Rattle.settings_rows.specs.declared.draft.DestinationDraft.{DestinationDraft}
+use Rattle.settings.specs.declared.draft.Draft.{Draft}
+use Rattle.settings.specs.declared.draft.TimersDraft.{TimersDraft}
+use Rattle.settings.specs.declared.draft.LinkTestsDraft.{LinkTestsDraft}
+use Rattle.settings.specs.declared.draft.SetDraft.{SetDraft}
+use Rattle.settings.specs.declared.draft.LinkDraft.{LinkDraft}
+use Rattle.settings.specs.declared.draft.DestinationDraft.{DestinationDraft}
 
 -- whether a set of this name is among these
 abbrev pub has_set_named : List SetDraft → List ℕ → Bool

@@ -1,7 +1,7 @@
 -- How checked settings are kept.
 use Rattle.std.specs.Prelude.{◌≡◌, map}
 use Rattle.settings.specs.Checked.{configuration_in}
-use Rattle.settings_rows.specs.Configuration.{Configuration}
+use Rattle.settings.specs.Configuration.{Configuration}
 use Rattle.settings.specs.Well.{IsWell}
 use Rattle.settings.specs.declared.settings.Settings.TheInside.{Inside}
 

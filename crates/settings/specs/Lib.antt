@@ -1,3 +1,10 @@
+pub mod Configuration
+pub mod Names
+pub mod TitleRanges
+pub mod TitleRoom
+pub mod TitleInPlace
+pub mod Keys
+pub mod Faults
 pub mod Checks
 pub mod Meaning
 pub mod Titles
@@ -15,3 +22,4 @@ pub mod Kept
 pub mod Facing
 pub mod Sharing
 pub mod Naming
+pub mod Points

@@ -4,20 +4,20 @@ use Rattle.std.specs.Prelude.{string_bytes}
 use Rattle.std.specs.Option.{option_map}
 use Rattle.std.specs.Str.{bytes_eq}
 use Rattle.settings.specs.Checks.{natural}
-use Rattle.settings_rows.specs.Configuration.{Configuration, SetEntry, LinkEntry, DestinationEntry, ChangeEntry}
-use Rattle.settings_rows.specs.Configuration.{TitleEntry}
-use Rattle.settings_rows.specs.declared.title_row.TitleRoute.{TitleRoute}
-use Rattle.settings_rows.specs.declared.title_row.TitleRoute.TheVariants.{Title, Ssn}
-use Rattle.settings_rows.specs.declared.timer_ticks.TimerTicks.{TimerTicks}
-use Rattle.settings_rows.specs.declared.timer_ticks.LinkTestTicks.{LinkTestTicks}
-use Rattle.settings_rows.specs.declared.draft.Draft.{Draft}
-use Rattle.settings_rows.specs.declared.draft.TimersDraft.{TimersDraft}
-use Rattle.settings_rows.specs.declared.draft.LinkTestsDraft.{LinkTestsDraft}
-use Rattle.settings_rows.specs.declared.draft.SetDraft.{SetDraft}
-use Rattle.settings_rows.specs.declared.draft.LinkDraft.{LinkDraft}
-use Rattle.settings_rows.specs.declared.draft.DestinationDraft.{DestinationDraft}
-use Rattle.settings_rows.specs.declared.draft.TitleDraft.{TitleDraft}
-use Rattle.settings_rows.specs.declared.draft.ChangeDraft.{ChangeDraft}
+use Rattle.settings.specs.Configuration.{Configuration, SetEntry, LinkEntry, DestinationEntry, ChangeEntry}
+use Rattle.settings.specs.Configuration.{TitleEntry}
+use Rattle.settings.specs.declared.title_row.TitleRoute.{TitleRoute}
+use Rattle.settings.specs.declared.title_row.TitleRoute.TheVariants.{Title, Ssn}
+use Rattle.settings.specs.declared.timer_ticks.TimerTicks.{TimerTicks}
+use Rattle.settings.specs.declared.timer_ticks.LinkTestTicks.{LinkTestTicks}
+use Rattle.settings.specs.declared.draft.Draft.{Draft}
+use Rattle.settings.specs.declared.draft.TimersDraft.{TimersDraft}
+use Rattle.settings.specs.declared.draft.LinkTestsDraft.{LinkTestsDraft}
+use Rattle.settings.specs.declared.draft.SetDraft.{SetDraft}
+use Rattle.settings.specs.declared.draft.LinkDraft.{LinkDraft}
+use Rattle.settings.specs.declared.draft.DestinationDraft.{DestinationDraft}
+use Rattle.settings.specs.declared.draft.TitleDraft.{TitleDraft}
+use Rattle.settings.specs.declared.draft.ChangeDraft.{ChangeDraft}
 
 abbrev pub test_ticks_of : LinkTestsDraft → LinkTestTicks
 test_ticks_of t = record { slt1 = natural t.slt1; slt2 = natural t.slt2 }

@@ -1,7 +1,7 @@
 -- What is read from checked settings.
 use Rattle.std.specs.Prelude.{ℕ, Option, Some, None, option_and_then, position, nat_eq, slice_get, if◌then◌else◌, List}
 use Rattle.std.specs.Str.{bytes_eq}
-use Rattle.settings_rows.specs.Configuration.{Configuration, SetEntry}
+use Rattle.settings.specs.Configuration.{Configuration, SetEntry}
 
 -- the number of the link of this name
 abbrev pub link_place : Configuration → List ℕ → Option ℕ

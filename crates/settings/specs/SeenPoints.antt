@@ -2,7 +2,7 @@
 use Rattle.std.specs.Prelude.{◌≡◌, ◌<◌, ◌^◌, ℕ, ℤ, pos, negsuc, Bool, true, false, List, length}
 use Rattle.std.specs.Prelude.{slice_set, slice_index_or}
 use Rattle.settings.specs.AllFaults.{has_point}
-use Rattle.settings_rows.specs.declared.draft.DestinationDraft.{DestinationDraft}
+use Rattle.settings.specs.declared.draft.DestinationDraft.{DestinationDraft}
 use Rattle.settings.specs.declared.faults.points.SeenPoints.TheInside.{Inside}
 
 -- there is a truth for each point code

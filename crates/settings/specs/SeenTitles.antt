@@ -5,7 +5,7 @@ use Rattle.std.specs.Str.{bytes_eq}
 use Rattle.std.specs.Ordering.{int_eq}
 use Rattle.settings.specs.TitleFaults.{is_same_title}
 use Rattle.settings.specs.declared.titles.TitleKey.{TitleKey}
-use Rattle.settings_rows.specs.declared.draft.TitleDraft.{TitleDraft}
+use Rattle.settings.specs.declared.draft.TitleDraft.{TitleDraft}
 use Rattle.signalling_types.specs.declared.limits.TheConstants.Limits.{TITLE_DIGITS}
 
 -- whether a translation row has this key and these digits

@@ -1,7 +1,7 @@
 -- Two nodes that share a link set, whatever other sets, links and destinations each of them has.
 use Rattle.std.specs.Prelude.{ℕ, Bool, false, ◌&&◌, ◌≡◌, List, [], ◌∷◌, Option, Some, None, nat_eq, slice_index_or}
 use Rattle.std.specs.List.{list_any}
-use Rattle.settings_rows.specs.Configuration.{Configuration, LinkEntry}
+use Rattle.settings.specs.Configuration.{Configuration, LinkEntry}
 use Rattle.settings.specs.Readings.{set_place, destination_place}
 
 -- the sets that lead to a destination, by its number, the preferred one first

@@ -6,14 +6,14 @@ use Rattle.std.specs.Ordering.{int_eq}
 use Rattle.settings.specs.Checks.{first_of, fault_unless, range_fault, entries_fault, optional_fault}
 use Rattle.settings.specs.Checks.{digits_fault, added_fault, route_fault, ssn_fault}
 use Rattle.settings.specs.Meaning.{is_by_title}
-use Rattle.settings_rows.specs.declared.fault.DraftFault.{DraftFault}
-use Rattle.settings_rows.specs.declared.fault.FaultKind.TheVariants.{Duplicate, TooMany}
-use Rattle.settings_rows.specs.declared.key.Key.TheVariants.{Title, TitleTranslation, TitlePlan, TitleNature}
-use Rattle.settings_rows.specs.declared.key.Key.TheVariants.{TitleDigits, TitlePoint, TitleBackup, TitleRoute, TitleSsn}
-use Rattle.settings_rows.specs.declared.key.Key.TheVariants.{TitleNewPlan, TitleNewNature, TitleRemove, TitleAdd}
+use Rattle.settings.specs.declared.fault.DraftFault.{DraftFault}
+use Rattle.settings.specs.declared.fault.FaultKind.TheVariants.{Duplicate, TooMany}
+use Rattle.settings.specs.declared.key.Key.TheVariants.{Title, TitleTranslation, TitlePlan, TitleNature}
+use Rattle.settings.specs.declared.key.Key.TheVariants.{TitleDigits, TitlePoint, TitleBackup, TitleRoute, TitleSsn}
+use Rattle.settings.specs.declared.key.Key.TheVariants.{TitleNewPlan, TitleNewNature, TitleRemove, TitleAdd}
 use Rattle.signalling_types.specs.declared.limits.TheConstants.Limits.{TITLES, TITLE_DIGITS}
-use Rattle.settings_rows.specs.declared.draft.TitleDraft.{TitleDraft}
-use Rattle.settings_rows.specs.declared.draft.ChangeDraft.{ChangeDraft}
+use Rattle.settings.specs.declared.draft.TitleDraft.{TitleDraft}
+use Rattle.settings.specs.declared.draft.ChangeDraft.{ChangeDraft}
 
 -- whether two translation rows have one key and the same digits
 abbrev pub is_same_title : TitleDraft → TitleDraft → Bool

@@ -1,6 +1,6 @@
 -- What may be in one translation row alone.
 use Rattle.std.specs.Prelude.{string_bytes}
-use Rattle.settings_rows.specs.declared.draft.TitleDraft.{TitleDraft}
+use Rattle.settings.specs.declared.draft.TitleDraft.{TitleDraft}
 use Rattle.settings.specs.declared.titles.TitleKey.{TitleKey}
 
 -- the key and the digits of a translation row, as they were written

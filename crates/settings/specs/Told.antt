@@ -1,7 +1,7 @@
 -- Faults as they are told, one after another: as many as are told at most.
 use Rattle.std.specs.Prelude.{◌≤◌, nat_lt, List, [], ◌∷◌, ◌++◌, Option, Some, None, length, vec_capacity}
 use Rattle.std.specs.Prelude.{if◌then◌else◌}
-use Rattle.settings_rows.specs.declared.fault.DraftFault.{DraftFault}
+use Rattle.settings.specs.declared.fault.DraftFault.{DraftFault}
 use Rattle.settings.specs.declared.faults.TheConstants.{MOST_FAULTS}
 use Rattle.settings.specs.declared.faults.told.Told.TheInside.{Inside}
 

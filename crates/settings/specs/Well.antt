@@ -4,13 +4,13 @@ use Rattle.std.specs.Prelude.{Some, None, IfSome}
 use Rattle.std.specs.Prelude.{All, IsTrue, length, nat_eq, slice_get}
 use Rattle.std.specs.List.{IsDistinct, count_by, list_any}
 use Rattle.std.specs.Str.{bytes_eq}
-use Rattle.settings_rows.specs.Configuration.{Configuration, SetEntry, LinkEntry, DestinationEntry, TitleEntry}
-use Rattle.settings_rows.specs.Names.{is_name}
-use Rattle.settings_rows.specs.Titles.{HasTitleRanges, HasChangeRanges}
-use Rattle.settings_rows.specs.declared.timer_ticks.TimerTicks.{TimerTicks}
-use Rattle.settings_rows.specs.declared.timer_ticks.LinkTestTicks.{LinkTestTicks}
-use Rattle.settings_rows.specs.declared.title_row.TitleRoute.{TitleRoute}
-use Rattle.settings_rows.specs.declared.title_row.TitleRoute.TheVariants.{Title, Ssn}
+use Rattle.settings.specs.Configuration.{Configuration, SetEntry, LinkEntry, DestinationEntry, TitleEntry}
+use Rattle.settings.specs.Names.{is_name}
+use Rattle.settings.specs.TitleRanges.{HasTitleRanges, HasChangeRanges}
+use Rattle.settings.specs.declared.timer_ticks.TimerTicks.{TimerTicks}
+use Rattle.settings.specs.declared.timer_ticks.LinkTestTicks.{LinkTestTicks}
+use Rattle.settings.specs.declared.title_row.TitleRoute.{TitleRoute}
+use Rattle.settings.specs.declared.title_row.TitleRoute.TheVariants.{Title, Ssn}
 use Rattle.signalling_types.specs.declared.limits.TheConstants.Limits.{LINKS, LINKS_PER_SET, SETS, SETS_PER_DESTINATION}
 use Rattle.signalling_types.specs.declared.limits.TheConstants.Limits.{DESTINATIONS, TITLES, POOL, WINDOW, TICKS}
 

@@ -9,7 +9,7 @@ ghost use Rattle.settings.specs.TitleFaults.{title_change_fault};
 use crate::digits::added_digits;
 use crate::numbers::{number, optional_number};
 use crate::titles::{LAST_NATURE, LAST_PLAN};
-use settings_rows::{ChangeDraft, DraftFault, FaultKind, Key, TitleChange};
+use crate::{ChangeDraft, DraftFault, FaultKind, Key, TitleChange};
 use signalling_types::Limits;
 
 /// The octet, if it wasn't left out and is at most `last`.

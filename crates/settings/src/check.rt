@@ -13,9 +13,7 @@ use crate::points::PointIndex;
 use crate::sets::{all_reached, checked_sets};
 use crate::timers::timer_ticks;
 use crate::titles::checked_titles;
-use settings_rows::{
-    DestinationRow, Draft, DraftFault, Key, LinkRow, SetRow, TimerTicks, TitleRow,
-};
+use crate::{DestinationRow, Draft, DraftFault, Key, LinkRow, SetRow, TimerTicks, TitleRow};
 use signalling_types::{Limits, PointCode};
 use std::alloc::Global;
 

@@ -3,7 +3,7 @@
 ghost use Rattle.std.specs.Prelude.{◌≡◌, ◌∷◌, ◌++◌, ◌<◌, ◌≤◌, ◌⊎◌, [], None, Some, string_eq, length, map};
 ghost use Rattle.std.specs.Prelude.{IfOk, OnOk, IfErr, string_bytes};
 ghost use Rattle.std.specs.List.{list_all};
-ghost use Rattle.settings_rows.specs.Names.{is_name};
+ghost use Rattle.settings.specs.Names.{is_name};
 ghost use Rattle.settings.specs.Checks.{natural, fault_unless, has_repeat, entries_fault};
 ghost use Rattle.settings.specs.Meaning.{set_number, destination_of, points_of};
 ghost use Rattle.settings.specs.FirstFault.{destination_point_fault, is_set_name, set_list_fault};
@@ -13,8 +13,8 @@ use crate::names::is_name;
 use crate::numbers::{count, ensure, far_point};
 use crate::points::PointIndex;
 use crate::sets::set_place;
+use crate::{DestinationDraft, DestinationRow, DraftFault, FaultKind, Key, SetDraft};
 use arrayvec::ArrayVec;
-use settings_rows::{DestinationDraft, DestinationRow, DraftFault, FaultKind, Key, SetDraft};
 use signalling_types::{Limits, PointCode, SetId};
 use std::alloc::Global;
 

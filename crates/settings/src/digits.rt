@@ -6,8 +6,8 @@ ghost use Rattle.settings.specs.Checks.{fault_unless, is_digit, digits_fault, ad
 ghost use Rattle.settings.specs.Meaning.{digit_of};
 
 use crate::numbers::ensure;
+use crate::{DraftFault, FaultKind, Key};
 use arrayvec::ArrayVec;
-use settings_rows::{DraftFault, FaultKind, Key};
 use signalling_types::Limits;
 
 /// Digits of a translation row.

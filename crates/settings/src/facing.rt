@@ -4,7 +4,7 @@ ghost use Rattle.std.specs.Prelude.{◌≡◌, ◌↔◌, IsTrue, map};
 ghost use Rattle.settings.specs.Facing.{IsFacing, LeadsOnlyTo};
 
 use crate::settings::Settings;
-use settings_rows::{DestinationRow, LinkRow, SetRow};
+use crate::{DestinationRow, LinkRow, SetRow};
 use signalling_types::PointCode;
 
 impl Settings {

@@ -5,7 +5,7 @@ ghost use Rattle.settings.specs.Checks.{natural};
 ghost use Rattle.settings.specs.FirstFault.{first_fault, scalars_checks};
 ghost use Rattle.settings.specs.AllFaults.{own_point, lists_checks, arrays_checks, all_checks, all_faults, first_in};
 ghost use Rattle.settings.specs.Told.{tell_all};
-ghost use Rattle.settings_rows.specs.declared.draft.Draft.{Draft};
+ghost use Rattle.settings.specs.declared.draft.Draft.{Draft};
 
 mod destinations;
 mod links;
@@ -23,7 +23,7 @@ use crate::faults::sets::{tell_sets, tell_unreached};
 use crate::faults::timers::tell_timers;
 use crate::faults::titles::tell_titles;
 use crate::faults::told::Told;
-use settings_rows::{Draft, DraftFault, Key};
+use crate::{Draft, DraftFault, Key};
 use signalling_types::Limits;
 use std::alloc::{AllocError, Global};
 

@@ -10,7 +10,7 @@ ghost use Rattle.settings.specs.FirstFault.{has_link_named, has_link_code, links
 use crate::names::{ensure_name, is_name};
 use crate::numbers::{count, ensure, number, optional_number};
 use crate::sets::set_place;
-use settings_rows::{DraftFault, FaultKind, Key, LinkDraft, LinkRow, SetDraft};
+use crate::{DraftFault, FaultKind, Key, LinkDraft, LinkRow, SetDraft};
 use signalling_types::{Limits, SetId};
 use std::alloc::Global;
 

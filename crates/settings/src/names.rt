@@ -2,11 +2,11 @@
 
 ghost use Rattle.std.specs.Prelude.{◌≡◌, None, Some, IsTrue, OnOk, IfErr};
 ghost use Rattle.std.specs.List.{list_all};
-ghost use Rattle.settings_rows.specs.Names.{is_name, is_name_octet};
+ghost use Rattle.settings.specs.Names.{is_name, is_name_octet};
 ghost use Rattle.settings.specs.Checks.{name_fault};
 
 use crate::numbers::ensure;
-use settings_rows::{DraftFault, FaultKind, Key};
+use crate::{DraftFault, FaultKind, Key};
 use signalling_types::Limits;
 
 /// Whether an octet may be in a name.

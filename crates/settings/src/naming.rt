@@ -3,8 +3,8 @@
 ghost use Rattle.std.specs.Prelude.{◌≡◌, ◌↔◌, IsTrue, map};
 ghost use Rattle.settings.specs.Naming.{link_names};
 
+use crate::LinkRow;
 use crate::settings::Settings;
-use settings_rows::LinkRow;
 
 impl Settings {
     /// Whether both nodes have as many links, and each link of one has the name of the other's link of the same number.

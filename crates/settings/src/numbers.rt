@@ -6,7 +6,7 @@ ghost use Rattle.std.specs.List.{list_all};
 ghost use Rattle.settings.specs.Checks.{range_fault, optional_fault, natural, fault_unless, has_repeat, far_point_fault};
 ghost use Rattle.settings.specs.Checks.{is_within, numbers_fault, count_fault};
 
-use settings_rows::{DraftFault, FaultKind, Key};
+use crate::{DraftFault, FaultKind, Key};
 use signalling_types::PointCode;
 use std::alloc::Global;
 

@@ -8,7 +8,7 @@ ghost use Rattle.settings.specs.FirstFault.{has_set_named, has_adjacent, set_adj
 
 use crate::names::ensure_name;
 use crate::numbers::{count, ensure, far_point};
-use settings_rows::{DestinationDraft, DraftFault, FaultKind, Key, SetDraft, SetRow};
+use crate::{DestinationDraft, DraftFault, FaultKind, Key, SetDraft, SetRow};
 use signalling_types::{Limits, PointCode};
 use std::alloc::Global;
 

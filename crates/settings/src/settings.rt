@@ -12,7 +12,7 @@ ghost use Rattle.settings.specs.Well.{IsWell, IsWithin, IsSet, IsLink, IsDestina
 ghost use Rattle.settings.specs.Well.{is_same_row};
 
 use crate::check::{Checked, check_draft};
-use settings_rows::{DestinationRow, Draft, DraftFault, LinkRow, SetRow, TimerTicks, TitleRow};
+use crate::{DestinationRow, Draft, DraftFault, LinkRow, SetRow, TimerTicks, TitleRow};
 use signalling_types::{Limits, LinkId, PointCode, SetId};
 use std::alloc::Global;
 use std::marker::Model;
@@ -30,7 +30,7 @@ impl Drop for Settings {
 }
 
 impl Model for Settings {
-    ghost use Rattle.settings_rows.specs.Configuration.{Configuration};
+    ghost use Rattle.settings.specs.Configuration.{Configuration};
 
     ghost Value = { Configuration };
 

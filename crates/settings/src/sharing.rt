@@ -5,7 +5,7 @@ ghost use Rattle.std.specs.List.{list_all};
 ghost use Rattle.settings.specs.Sharing.{LeadsAlone, SharesSet, has_link_of};
 
 use crate::settings::Settings;
-use settings_rows::{DestinationRow, LinkRow};
+use crate::{DestinationRow, LinkRow};
 use signalling_types::{PointCode, SetId};
 
 impl Settings {

@@ -5,11 +5,11 @@ ghost use Rattle.std.specs.Option.{option_map};
 ghost use Rattle.settings.specs.Checks.{natural, entries_fault, optional_fault};
 ghost use Rattle.settings.specs.Meaning.{ticks_of, test_ticks_of};
 ghost use Rattle.settings.specs.FirstFault.{written, timers_written, ticks_fault, link_tests_fault, bar_fault, timers_fault};
-ghost use Rattle.settings_rows.specs.declared.key.Key.TheVariants.{Timer};
+ghost use Rattle.settings.specs.declared.key.Key.TheVariants.{Timer};
 ghost use Rattle.signalling_types.specs.declared.limits.TheConstants.Limits.{TICKS};
 
 use crate::numbers::{ensure, number, optional_number};
-use settings_rows::{
+use crate::{
     DraftFault, FaultKind, Key, LinkTestTicks, LinkTestsDraft, TimerKey, TimerTicks, TimersDraft,
 };
 use signalling_types::Limits;

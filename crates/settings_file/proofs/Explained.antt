@@ -3,7 +3,7 @@ use Rattle.settings_file.proofs.Basics.{◌≡◌, ℕ, List, Option, None, Some
 use Rattle.std.specs.Global.{Global}
 use Rattle.std.specs.Prelude.{IfOk, String, string_bytes}
 use Rattle.std.specs.Option.{option_map}
-use Rattle.settings_rows.specs.declared.key.Key.{Key}
+use Rattle.settings.specs.declared.key.Key.{Key}
 use Rattle.settings_file.specs.Sentences as settings
 use Rattle.settings_file.specs.Places.{KeyPlace, key_place}
 use Rattle.settings_file.specs.Sentences.{IsAboutPlace, IsAbout}

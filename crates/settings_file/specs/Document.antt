@@ -2,7 +2,7 @@
 -- document's; keys of other names are ignored.
 use Rattle.std.specs.Prelude.{ℤ, Bool, Result, Ok}
 use Rattle.toml.specs.Data.{Members}
-use Rattle.settings_rows.specs.declared.key.Key.TheVariants as key
+use Rattle.settings.specs.declared.key.Key.TheVariants as key
 use Rattle.settings_file.specs.declared.fault.SettingsFault.{SettingsFault}
 use Rattle.settings_file.specs.declared.document.Numbers.{Numbers}
 use Rattle.settings_file.specs.declared.document.Services.{Services}

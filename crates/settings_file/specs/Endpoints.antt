@@ -4,7 +4,7 @@ use Rattle.std.specs.Prelude.{None, Result, Ok, Err, if◌then◌else◌, is_som
 use Rattle.std.specs.List.{list_any, list_all}
 use Rattle.std.specs.declared.net.socket_addr.SocketAddr.{SocketAddr}
 use Rattle.toml.specs.Data.{Data, Members}
-use Rattle.settings_rows.specs.declared.key.Key.TheVariants as node
+use Rattle.settings.specs.declared.key.Key.TheVariants as node
 use Rattle.settings_file.specs.declared.fault.SettingsFault.TheVariants as found
 use Rattle.settings_file.specs.declared.serve.server.Endpoint.{Endpoint}
 use Rattle.settings_file.specs.declared.serve.server.Endpoint.TheVariants.{Listen, Connect}

@@ -1,8 +1,8 @@
 -- The faults of a settings file: their numbers, and the lines that tell them.
 use Rattle.std.specs.Prelude.{◌≡◌, ◌⊎◌, ℕ, List, ◌++◌, codes, Result, Ok, Err}
-use Rattle.settings_rows.specs.Keys.{key_path}
-use Rattle.settings_rows.specs.Faults as draft
-use Rattle.settings_rows.specs.declared.fault.DraftFault.TheVariants.{NoMemory}
+use Rattle.settings.specs.Keys.{key_path}
+use Rattle.settings.specs.Faults as draft
+use Rattle.settings.specs.declared.fault.DraftFault.TheVariants.{NoMemory}
 use Rattle.settings_file.specs.declared.fault.SettingsFault.{SettingsFault}
 use Rattle.settings_file.specs.declared.fault.SettingsFault.TheVariants as fault
 

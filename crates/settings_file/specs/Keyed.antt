@@ -4,8 +4,8 @@ use Rattle.std.specs.Prelude.{Result, Ok, Err, if◌then◌else◌, bytes_eq, co
 use Rattle.std.specs.declared.net.socket_addr.SocketAddr.{SocketAddr}
 use Rattle.std.specs.Net.Socket.{socket_port}
 use Rattle.toml.specs.Data.{Data, Members}
-use Rattle.point_format.specs.declared.point.PointFormat.{PointFormat}
-use Rattle.point_format.specs.declared.point.PointFormat.TheVariants.{Plain, ThreeEightThree}
+use Rattle.settings.specs.declared.point.PointFormat.{PointFormat}
+use Rattle.settings.specs.declared.point.PointFormat.TheVariants.{Plain, ThreeEightThree}
 use Rattle.settings_file.specs.declared.serve.key.ServeKey.{ServeKey}
 use Rattle.settings_file.specs.declared.serve.key.ServeKey.TheVariants as key
 use Rattle.settings_file.specs.declared.serve.fault.ServeFault.{ServeFault}

@@ -3,7 +3,7 @@ use Rattle.std.specs.Prelude.{ℕ, ℤ, Bool, false, List, [], ◌∷◌, Option
 use Rattle.std.specs.Prelude.{◌&&◌, ◌||◌, nat_eq, nat_le, length, not, is_some}
 use Rattle.std.specs.List.{list_all}
 use Rattle.toml.specs.Data.{Data, Members, get_member, as_str}
-use Rattle.settings_rows.specs.declared.key.Key.{Key}
+use Rattle.settings.specs.declared.key.Key.{Key}
 use Rattle.settings_file.specs.Places.{key_name}
 use Rattle.settings_file.specs.PointTexts.{point_said}
 use Rattle.settings_file.specs.declared.limits.TheConstants.{SHORT_NAME_OCTETS}

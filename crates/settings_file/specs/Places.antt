@@ -2,8 +2,8 @@
 use Rattle.std.specs.Prelude.{ℕ, List, [], ◌∷◌, ◌++◌, drop, length, Bool, ◌==◌, nat_lt, Option, None, Some, codes}
 use Rattle.std.specs.Prelude.{if◌then◌else◌}
 use Rattle.std.specs.List.{position_or_len, after_first}
-use Rattle.settings_rows.specs.Keys.{key_front, key_index, key_back}
-use Rattle.settings_rows.specs.declared.key.Key.{Key}
+use Rattle.settings.specs.Keys.{key_front, key_index, key_back}
+use Rattle.settings.specs.declared.key.Key.{Key}
 use Rattle.settings_file.specs.declared.key_rows.KeyRow.{KeyRow}
 
 -- a key after a dot, or nothing

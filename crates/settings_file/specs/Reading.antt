@@ -5,14 +5,14 @@ use Rattle.std.specs.Option.{ok_or}
 use Rattle.toml.specs.Data.{Members}
 use Rattle.std.specs.Ordering.{int_eq}
 use Rattle.toml.specs.Parse.{parse_document}
-use Rattle.settings_rows.specs.Configuration.{Configuration}
+use Rattle.settings.specs.Configuration.{Configuration}
 use Rattle.settings.specs.Checks.{first_of, fault_unless}
 use Rattle.settings.specs.Meaning.{settings_of}
 use Rattle.settings.specs.FirstFault.{first_fault}
-use Rattle.settings_rows.specs.declared.draft.Draft.{Draft}
-use Rattle.settings_rows.specs.declared.fault.DraftFault.{DraftFault}
-use Rattle.settings_rows.specs.declared.fault.FaultKind.TheVariants.{Range, TooMany}
-use Rattle.settings_rows.specs.declared.key.Key.TheVariants.{Window, Destination}
+use Rattle.settings.specs.declared.draft.Draft.{Draft}
+use Rattle.settings.specs.declared.fault.DraftFault.{DraftFault}
+use Rattle.settings.specs.declared.fault.FaultKind.TheVariants.{Range, TooMany}
+use Rattle.settings.specs.declared.key.Key.TheVariants.{Window, Destination}
 use Rattle.settings_file.specs.declared.fault.SettingsFault.{SettingsFault}
 use Rattle.settings_file.specs.declared.fault.SettingsFault.TheVariants as kind
 use Rattle.settings_file.specs.Shapes.{and_then}

@@ -3,9 +3,9 @@ use Rattle.std.specs.Prelude.{◌≡◌, ℕ, List, [], ◌∷◌, ◌++◌, Opt
 use Rattle.std.specs.Fmt.{decimal}
 use Rattle.std.specs.Str.{IsUtf8}
 use Rattle.toml.specs.Parse.{parse_document}
-use Rattle.settings_rows.specs.declared.key.Key.{Key}
-use Rattle.settings_rows.specs.declared.key.Key.TheVariants.{Version}
-use Rattle.settings_rows.specs.declared.fault.DraftFault.TheVariants.{NoMemory, At}
+use Rattle.settings.specs.declared.key.Key.{Key}
+use Rattle.settings.specs.declared.key.Key.TheVariants.{Version}
+use Rattle.settings.specs.declared.fault.DraftFault.TheVariants.{NoMemory, At}
 use Rattle.settings_file.specs.declared.fault.SettingsFault.{SettingsFault}
 use Rattle.settings_file.specs.declared.fault.SettingsFault.TheVariants as fault
 use Rattle.settings_file.specs.Places.{KeyPlace, key_place}

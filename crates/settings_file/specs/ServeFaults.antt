@@ -3,7 +3,7 @@ use Rattle.std.specs.Prelude.{◌≡◌, ◌⊎◌, ℕ, List, ◌++◌, codes, 
 use Rattle.settings_file.specs.Faults as settings
 use Rattle.settings_file.specs.declared.fault.SettingsFault.{SettingsFault}
 use Rattle.settings_file.specs.declared.fault.SettingsFault.TheVariants as found
-use Rattle.settings_rows.specs.declared.fault.DraftFault.TheVariants as draft
+use Rattle.settings.specs.declared.fault.DraftFault.TheVariants as draft
 use Rattle.settings_file.specs.ServeKeys.{key_path}
 use Rattle.settings_file.specs.declared.serve.fault.ServeFault.{ServeFault}
 use Rattle.settings_file.specs.declared.serve.fault.ServeFault.TheVariants as kind

@@ -1,7 +1,7 @@
 -- The keys of a server's settings, and how they are written.
 use Rattle.std.specs.Prelude.{ℕ, List, [], Option, Some, None, codes}
 use Rattle.toml.specs.Data.{Data, Members, get_member}
-use Rattle.settings_rows.specs.Keys.{path_of}
+use Rattle.settings.specs.Keys.{path_of}
 use Rattle.settings_file.specs.Places.{KeyPlace, name_at}
 use Rattle.settings_file.specs.declared.serve.key.ServeKey.{ServeKey}
 use Rattle.settings_file.specs.declared.serve.key.ServeKey.TheVariants as key

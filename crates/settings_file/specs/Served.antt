@@ -5,7 +5,7 @@ use Rattle.settings_file.specs.declared.serve.server.Endpoint.{Endpoint}
 use Rattle.settings_file.specs.declared.serve.sctp.SctpTimes.{SctpTimes}
 use Rattle.settings_file.specs.declared.serve.capture.CaptureLimits.{CaptureLimits}
 use Rattle.settings_file.specs.Consoles.{Place}
-use Rattle.point_format.specs.declared.point.PointFormat.{PointFormat}
+use Rattle.settings.specs.declared.point.PointFormat.{PointFormat}
 
 pub record Served : Type 0 where
   pub tick_ms : ℕ

@@ -2,12 +2,12 @@
 use Rattle.std.specs.Prelude.{ℕ, ℤ, pos, Bool, ◌&&◌, ◌||◌, List, Option, Some, None, is_some, option_and_then, Result, Ok, Err}
 use Rattle.std.specs.Prelude.{if◌then◌else◌}
 use Rattle.toml.specs.Data.{Data, Members, as_str}
-use Rattle.settings_rows.specs.declared.draft.TimersDraft.{TimersDraft}
-use Rattle.settings_rows.specs.declared.draft.LinkTestsDraft.{LinkTestsDraft}
-use Rattle.settings_rows.specs.declared.key.Key.TheVariants as key
-use Rattle.settings_rows.specs.declared.key.TimerKey.{TimerKey}
-use Rattle.settings_rows.specs.declared.key.TimerKey.TheVariants.{L1, L2, L3, L4, L6, L7, T1, T2, T3, T4, T6, T8, T10}
-use Rattle.settings_rows.specs.declared.key.TimerKey.TheVariants.{Slt1, Slt2, L4e, Sst, T2Bar}
+use Rattle.settings.specs.declared.draft.TimersDraft.{TimersDraft}
+use Rattle.settings.specs.declared.draft.LinkTestsDraft.{LinkTestsDraft}
+use Rattle.settings.specs.declared.key.Key.TheVariants as key
+use Rattle.settings.specs.declared.key.TimerKey.{TimerKey}
+use Rattle.settings.specs.declared.key.TimerKey.TheVariants.{L1, L2, L3, L4, L6, L7, T1, T2, T3, T4, T6, T8, T10}
+use Rattle.settings.specs.declared.key.TimerKey.TheVariants.{Slt1, Slt2, L4e, Sst, T2Bar}
 use Rattle.settings_file.specs.declared.fault.SettingsFault.{SettingsFault}
 use Rattle.settings_file.specs.declared.fault.SettingsFault.TheVariants.{Missing, Kind}
 use Rattle.settings_file.specs.declared.timers.UsualTimes.{UsualTimes}

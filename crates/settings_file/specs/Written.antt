@@ -1,12 +1,12 @@
 -- Settings as a file has them, as plain data, and what a draft has of it.
 use Rattle.std.specs.Prelude.{ℕ, ℤ, Bool, List, Option, map, string_bytes}
-use Rattle.settings_rows.specs.declared.draft.Draft.{Draft}
-use Rattle.settings_rows.specs.declared.draft.TimersDraft.{TimersDraft}
-use Rattle.settings_rows.specs.declared.draft.SetDraft.{SetDraft}
-use Rattle.settings_rows.specs.declared.draft.LinkDraft.{LinkDraft}
-use Rattle.settings_rows.specs.declared.draft.DestinationDraft.{DestinationDraft}
-use Rattle.settings_rows.specs.declared.draft.TitleDraft.{TitleDraft}
-use Rattle.settings_rows.specs.declared.draft.ChangeDraft.{ChangeDraft}
+use Rattle.settings.specs.declared.draft.Draft.{Draft}
+use Rattle.settings.specs.declared.draft.TimersDraft.{TimersDraft}
+use Rattle.settings.specs.declared.draft.SetDraft.{SetDraft}
+use Rattle.settings.specs.declared.draft.LinkDraft.{LinkDraft}
+use Rattle.settings.specs.declared.draft.DestinationDraft.{DestinationDraft}
+use Rattle.settings.specs.declared.draft.TitleDraft.{TitleDraft}
+use Rattle.settings.specs.declared.draft.ChangeDraft.{ChangeDraft}
 
 pub record WrittenSet : Type 0 where
   pub name : List ℕ

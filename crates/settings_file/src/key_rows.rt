@@ -1,7 +1,7 @@
 //! The keys of a settings file: where each is, and what its value must be.
 
 ghost use Rattle.std.specs.Prelude.{◌≡◌, None, Some, []};
-ghost use Rattle.settings_rows.specs.Keys.{key_index};
+ghost use Rattle.settings.specs.Keys.{key_index};
 ghost use Rattle.settings_file.specs.Places.{key_place, row_place, behind_table, name_at, key_name};
 
 use settings::{Key, TimerKey};

@@ -1,7 +1,7 @@
 //! The sentence that says what is wrong with a settings file.
 
 ghost use Rattle.std.specs.Prelude.{◌≡◌, Some, IfOk, string_bytes};
-ghost use Rattle.settings_rows.specs.declared.key.Key.{Key};
+ghost use Rattle.settings.specs.declared.key.Key.{Key};
 ghost use Rattle.settings_file.specs.Sentences.{IsAbout, Names, key_of};
 
 use crate::key_rows::{

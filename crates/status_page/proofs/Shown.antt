@@ -3,8 +3,8 @@ use Rattle.std.proofs.Common.{◌≡◌, ◌∙◌, ◌++◌, ℕ, Bool, true, f
 use Rattle.console.specs.Texts.{Shows}
 use Rattle.exchange.specs.declared.view.RouteView.{RouteView}
 use Rattle.json.specs.Written.{Written}
-use Rattle.point_format.specs.declared.point.PointFormat.{PointFormat}
-use Rattle.settings_rows.specs.Configuration.{Configuration}
+use Rattle.settings.specs.declared.point.PointFormat.{PointFormat}
+use Rattle.settings.specs.Configuration.{Configuration}
 use Rattle.status_page.specs.Members.{Adds}
 use Rattle.status_page.specs.States.{place_members, route_object, shown_route}
 

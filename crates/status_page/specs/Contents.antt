@@ -1,7 +1,7 @@
 -- What each page of a node holds.
 use Rattle.std.specs.Prelude.{ℕ, List}
 use Rattle.json.specs.Print.{print}
-use Rattle.point_format.specs.declared.point.PointFormat.{PointFormat}
+use Rattle.settings.specs.declared.point.PointFormat.{PointFormat}
 use Rattle.exchange_rules.specs.State.{QueueKind, State}
 use Rattle.served_link.specs.declared.row.LinkCounters.{LinkCounters}
 use Rattle.status_page.specs.declared.page.Page.{Page}

@@ -4,9 +4,9 @@ use Rattle.std.specs.Option.{option_map}
 use Rattle.json.specs.Token.{Token, string}
 use Rattle.signalling_types.specs.Causes.{cause_name}
 use Rattle.signalling_types.specs.Notices.{failure_name}
-use Rattle.settings_rows.specs.Configuration.{Configuration, SetEntry}
-use Rattle.point_format.specs.Points.{point_text}
-use Rattle.point_format.specs.declared.point.PointFormat.{PointFormat}
+use Rattle.settings.specs.Configuration.{Configuration, SetEntry}
+use Rattle.settings.specs.Points.{point_text}
+use Rattle.settings.specs.declared.point.PointFormat.{PointFormat}
 use Rattle.routes.specs.Routes.{status_name}
 use Rattle.exchange_rules.specs.State.{QueueKind, State}
 use Rattle.exchange.specs.declared.view.LinkView.{LinkView}

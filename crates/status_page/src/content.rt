@@ -15,8 +15,8 @@ use crate::times::Times;
 use bytes::BufMut;
 use exchange::Exchange;
 use http_server::Rope;
-use point_format::PointFormat;
 use served_link::Counters;
+use settings::PointFormat;
 use std::alloc::{AllocError, Global};
 
 /// What the pages of a node are made of. They only read it.

@@ -18,9 +18,8 @@ use arrayvec::ArrayString;
 use console::{LINE_OCTETS, show_notices};
 use exchange::{Exchange, RouteView};
 use json::Writer;
-use point_format::{PointFormat, point_text};
 use served_link::Counters;
-use settings::{SetRow, Settings};
+use settings::{PointFormat, SetRow, Settings, point_text};
 use signalling_types::{LinkId, SetId};
 use std::alloc::{AllocError, Global};
 

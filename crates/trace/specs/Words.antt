@@ -10,8 +10,8 @@ use Rattle.mtp3_codec.specs.declared.label.Label.{Label}
 use Rattle.mtp3_codec.specs.Headings.{label_in}
 use Rattle.trace.specs.declared.direction.Direction.{Direction}
 use Rattle.trace.specs.declared.direction.Direction.TheVariants.{In, Out}
-use Rattle.point_format.specs.declared.point.PointFormat.{PointFormat}
-use Rattle.point_format.specs.Points.{point_text}
+use Rattle.settings.specs.declared.point.PointFormat.{PointFormat}
+use Rattle.settings.specs.Points.{point_text}
 
 abbrev pub direction_word : Direction → List ℕ
 direction_word In = codes "in"

@@ -3,7 +3,7 @@
 ghost use Rattle.std.specs.Prelude.{◌≡◌, ◌+◌, ◌*◌, ◌≤◌, ◌++◌, [], length, decimal};
 ghost use Rattle.m2pa_codec.specs.Frames.{sif_of, read_frame};
 ghost use Rattle.m2pa_codec.specs.Values.{value_of};
-ghost use Rattle.point_format.specs.Points.{point_text};
+ghost use Rattle.settings.specs.Points.{point_text};
 ghost use Rattle.signalling_types.specs.Message.{lent};
 ghost use Rattle.trace.specs.Words.{frame_words, numbers_words, status_word, message_words, label_words, said_words, value_words, service_words, octets_words};
 
@@ -13,7 +13,7 @@ use arrayvec::ArrayVec;
 use itoa::Buffer;
 use m2pa_codec::{Frame, LinkStatus};
 use mtp3_codec::Label;
-use point_format::{PointFormat, point_text};
+use settings::{PointFormat, point_text};
 use signalling_types::{Limits, MsuRef, Number24, PointCode};
 use std::marker::Model;
 

@@ -15,8 +15,7 @@ use super::Exchange;
 use mtp3_codec::{Label, LinkTest, Management, MgmtFault, TEST_OCTETS, TestKind};
 use route_management::RouteTest;
 use routes::RouteStatus;
-use settings::{Cause, LinkId, MsuRef, Outcome, PointCode, SetId, Sls};
-use settings_rows::LinkRow;
+use settings::{Cause, LinkId, LinkRow, MsuRef, Outcome, PointCode, SetId, Sls};
 use signalling_types::Number24;
 
 /// The service indicator of management (Q.704 §14.2.1).

@@ -6,8 +6,7 @@ ghost use Rattle.exchange_rules.specs.Routing as rule;
 ghost use Rattle.exchange_rules.specs.Routing.{entry_of};
 
 use super::Exchange;
-use settings::{Cause, Limits, LinkId, Outcome, PointCode, SetId, Sls};
-use settings_rows::LinkRow;
+use settings::{Cause, Limits, LinkId, LinkRow, Outcome, PointCode, SetId, Sls};
 
 impl Exchange {
     /// The row of a link in the settings.

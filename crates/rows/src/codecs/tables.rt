@@ -5,7 +5,7 @@ ghost use Rattle.std.specs.Prelude.{◌<◌, ◌↔◌, All, IsTrue};
 use crate::said::Said;
 use crate::words::{digits, number, number_of, word};
 use sccp_relay::{Own, Relayed, TitleKey, Titles, Trie, Ways, relay, returned};
-use settings_rows::{TitleChange, TitleRoute, TitleRow};
+use settings::{TitleChange, TitleRoute, TitleRow};
 use signalling_types::{Cause, Limits, PointCode, Sls, Ssn};
 
 /// The points that links lead to.

@@ -2,7 +2,7 @@
 
 use crate::said::Said;
 use crate::words::{last, number, word};
-use point_format::{PointFormat, parse_point};
+use settings::{PointFormat, parse_point};
 use signalling_types::{Limits, LinkId};
 use std::time::Duration;
 use trace::{Capture, Direction, ObservedFrame, UntilFailure, frame_words};

@@ -17,7 +17,7 @@ use arrayvec::ArrayVec;
 use node_links::NodeLinks;
 use route_management::{Heard, Told};
 use routes::{RouteStatus, Routes};
-use settings_rows::{DestinationRow, LinkRow, SetRow};
+use settings::{DestinationRow, LinkRow, SetRow};
 use signalling_types::{LinkId, PointCode, SetId, Sls};
 use std::alloc::{AllocError, Global};
 use std::io;

@@ -7,8 +7,8 @@ ghost use Rattle.served_node.specs.Lines.{HearsCapture, behind, capture_line, ca
 ghost use Rattle.served_node.specs.Clients.{without_return};
 ghost use Rattle.script.specs.Asking.{asked_line};
 
-use point_format::PointFormat;
 use script::{Line, Malformed, parse_line};
+use settings::PointFormat;
 
 /// What may come before the line feed.
 const CARRIAGE_RETURN: u8 = b'\r';

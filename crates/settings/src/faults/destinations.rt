@@ -15,7 +15,7 @@ use crate::faults::points::SeenPoints;
 use crate::faults::sets::set_count_check;
 use crate::faults::told::Told;
 use crate::sets::set_place;
-use settings_rows::{DestinationDraft, DraftFault, FaultKind, Key, SetDraft};
+use crate::{DestinationDraft, DraftFault, FaultKind, Key, SetDraft};
 use signalling_types::Limits;
 use std::alloc::{AllocError, Global};
 

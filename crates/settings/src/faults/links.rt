@@ -14,7 +14,7 @@ use crate::faults::told::Told;
 use crate::links::{has_link_code, has_link_named};
 use crate::names::{ensure_name, is_name};
 use crate::sets::set_place;
-use settings_rows::{DraftFault, FaultKind, Key, LinkDraft, SetDraft};
+use crate::{DraftFault, FaultKind, Key, LinkDraft, SetDraft};
 use signalling_types::Limits;
 
 /// The name of a link, after the links before it.

@@ -6,7 +6,7 @@ ghost use Rattle.settings.specs.Checks.{numbers_fault, count_fault};
 ghost use Rattle.settings.specs.AllFaults.{own_point};
 
 use crate::numbers::{count, distinct_numbers, ensure, number, optional_number};
-use settings_rows::{DraftFault, FaultKind, Key};
+use crate::{DraftFault, FaultKind, Key};
 use std::alloc::{AllocError, Global};
 
 /// The largest point code.

@@ -10,7 +10,7 @@ use crate::faults::numbers::{count_check, ensure_check, far_point_check, first};
 use crate::faults::told::Told;
 use crate::names::ensure_name;
 use crate::sets::{has_adjacent, has_set_named, is_reached};
-use settings_rows::{DestinationDraft, DraftFault, FaultKind, Key, SetDraft};
+use crate::{DestinationDraft, DraftFault, FaultKind, Key, SetDraft};
 use signalling_types::Limits;
 
 /// The name of a set, after the sets before it.

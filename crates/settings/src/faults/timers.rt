@@ -9,7 +9,7 @@ ghost use Rattle.settings.specs.Told.{tell_all};
 use crate::faults::numbers::{optional_check, range_check};
 use crate::faults::told::Told;
 use crate::timers::{TIMERS, Written, all_written, bar_ticks, ticks};
-use settings_rows::{DraftFault, Key, LinkTestsDraft, TimerKey, TimersDraft};
+use crate::{DraftFault, Key, LinkTestsDraft, TimerKey, TimersDraft};
 use signalling_types::Limits;
 
 /// The largest number of ticks.

@@ -12,8 +12,8 @@ use crate::digits::{added_digits, digits};
 use crate::faults::numbers::{behind, ensure_check, first, optional_check, range_check};
 use crate::faults::told::Told;
 use crate::titles::{TitleKey, is_by_title, title_key, title_numbers};
+use crate::{ChangeDraft, DraftFault, FaultKind, Key, TitleDraft};
 use indexmap::IndexSet;
-use settings_rows::{ChangeDraft, DraftFault, FaultKind, Key, TitleDraft};
 use signalling_types::Limits;
 use std::alloc::{AllocError, Global};
 

@@ -3,8 +3,8 @@
 ghost use Rattle.std.specs.Prelude.{◌≡◌, ◌≤◌, [], length, IfOk};
 ghost use Rattle.settings.specs.Told.{tell};
 
+use crate::DraftFault;
 use crate::faults::MOST_FAULTS;
-use settings_rows::DraftFault;
 use std::alloc::{AllocError, Global};
 use std::marker::Model;
 
@@ -16,7 +16,7 @@ pub(crate) struct Told {
 
 impl Model for Told {
     ghost use Rattle.std.specs.Prelude.{List};
-    ghost use Rattle.settings_rows.specs.declared.fault.DraftFault.{DraftFault};
+    ghost use Rattle.settings.specs.declared.fault.DraftFault.{DraftFault};
 
     ghost Value = { List DraftFault };
 

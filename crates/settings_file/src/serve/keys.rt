@@ -15,7 +15,7 @@ use crate::serve::fault::ServeFault;
 use crate::serve::key::ServeKey;
 use crate::serve::key_rows::key_name;
 use crate::shapes::{found, integer_in, text_in, truth_in, value};
-use point_format::PointFormat;
+use settings::PointFormat;
 use std::net::SocketAddr;
 use toml::{Table, Value};
 

@@ -8,7 +8,7 @@ ghost use Rattle.settings_file.specs.Endpoints.{listens_on, has_same_peer, have_
 use crate::serve::capture::CaptureLimits;
 use crate::serve::console_place::{ConsolePlace, KeptPlace};
 use crate::serve::sctp::{Remote, SctpTimes};
-use point_format::PointFormat;
+use settings::PointFormat;
 use std::marker::Model;
 use std::net::{IpAddr, SocketAddr};
 

@@ -1,5 +1,5 @@
 use Rattle.std.proofs.Common.{◌∙◌, sym, nat_eq}
-use Rattle.settings_rows.specs.Configuration.{Configuration}
+use Rattle.settings.specs.Configuration.{Configuration}
 use Rattle.exchange.specs.Calls.{Kept}
 use Rattle.lab.proofs.Networks.{position-map}
 use Rattle.lab.proofs.ends.place_of.Goals as goal

@@ -1,7 +1,7 @@
 -- Each node so far is joined.
 use Rattle.std.proofs.Common.{◌≡◌, ◌<◌, ℕ, Some}
 use Rattle.std.specs.Prelude.{slice_get}
-use Rattle.settings_rows.specs.Configuration.{Configuration}
+use Rattle.settings.specs.Configuration.{Configuration}
 use Rattle.network_world.specs.Joined.{IsJoined}
 use Rattle.network_world.proofs.joining.are_joined.Given as goal
 

@@ -1,7 +1,7 @@
 -- All so far are within every limit.
 use Rattle.std.proofs.Common.{◌≡◌, ◌<◌, ℕ, Some}
 use Rattle.std.specs.Prelude.{slice_get}
-use Rattle.settings_rows.specs.Configuration.{Configuration}
+use Rattle.settings.specs.Configuration.{Configuration}
 use Rattle.settings.specs.Well.{IsWell}
 use Rattle.network_world.proofs.joining.are_well.Given as goal
 

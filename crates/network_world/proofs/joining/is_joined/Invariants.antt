@@ -1,7 +1,7 @@
 -- Each link so far is joined.
 use Rattle.std.proofs.Common.{◌≡◌, ◌<◌, ℕ, Some}
 use Rattle.std.specs.Prelude.{slice_get}
-use Rattle.settings_rows.specs.Configuration.{LinkEntry}
+use Rattle.settings.specs.Configuration.{LinkEntry}
 use Rattle.network_world.specs.Joined.{IsJoinedBy}
 use Rattle.network_world.proofs.joining.is_joined.Given as goal
 

@@ -1,7 +1,7 @@
 -- The node to which a link leads is that of the first settings for the point.
 use Rattle.std.proofs.Common.{◌≡◌, ℕ, false, true, Some, None, nat_eq, ap, sym, subst, ◌∙◌}
 use Rattle.std.specs.Prelude.{position}
-use Rattle.settings_rows.specs.Configuration.{Configuration}
+use Rattle.settings.specs.Configuration.{Configuration}
 use Rattle.settings.specs.Sharing.{SharesSet}
 use Rattle.exchange_rules.specs.Routing.{adjacent_of}
 use Rattle.network_world.specs.Joined.{settings_at}

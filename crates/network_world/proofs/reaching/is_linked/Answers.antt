@@ -2,7 +2,7 @@
 use Rattle.std.proofs.Common.{◌≡◌, true, Option, Some, is_some, length, refl, ap, sym, subst, ◌∙◌, arith}
 use Rattle.std.specs.Prelude.{slice_get}
 use Rattle.std.proofs.lemmas.Option.{slice_get-get_or}
-use Rattle.settings_rows.specs.Configuration.{Configuration}
+use Rattle.settings.specs.Configuration.{Configuration}
 use Rattle.network_world.specs.KeptNetworks.{kept_other_end}
 use Rattle.network_world.specs.KeptNodes.{KeptNode}
 use Rattle.network_world.proofs.reaching.is_linked.Goals as goal

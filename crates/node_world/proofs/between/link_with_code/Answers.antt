@@ -2,7 +2,7 @@
 use Rattle.std.proofs.Common.{◌&&◌, List, nat_eq, ap, ◌∙◌}
 use Rattle.std.specs.Option.{option_and_then}
 use Rattle.std.specs.Prelude.{position}
-use Rattle.settings_rows.specs.Configuration.{LinkEntry}
+use Rattle.settings.specs.Configuration.{LinkEntry}
 use Rattle.exchange_rules.specs.Messages.{link_in_set}
 use Rattle.node_world.proofs.between.link_with_code.Goals as goal
 

@@ -1,6 +1,6 @@
 -- The nodes that were booted stand for the first network.
 use Rattle.std.proofs.Common.{rules, ◌≡◌, true, List, [], ap, sym, subst, ◌∙◌}
-use Rattle.settings_rows.specs.Configuration.{Configuration}
+use Rattle.settings.specs.Configuration.{Configuration}
 use Rattle.network_rules.specs.Networks.{first_network}
 use Rattle.network_world.specs.Joined.{AreJoined, AreWell, are_apart, settings_at}
 use Rattle.network_world.specs.KeptNodes.{KeptNode}

@@ -1,5 +1,0 @@
-use Rattle.std.proofs.Common.{All, ◌<◌, ◌^◌, take}
-use Rattle.settings_rows.proofs.title_digits.are_digits.Given as goal
-
-abbrev pub invariant-loop-digit : goal.invariant-loop-digit
-invariant-loop-digit l = All (λ digit. digit < 2 ^ 4) (take l.digit-index l.digits)

@@ -1,7 +1,0 @@
-pub mod Configuration
-pub mod Names
-pub mod Titles
-pub mod TitleRoom
-pub mod TitleInPlace
-pub mod Keys
-pub mod Faults
