@@ -1,25 +1,30 @@
 """Attacks that would hold a node up, beside two good links with messages at a steady pace.
 
-Whatever a stranger, a neighbour or a reader does, no good link fails, no message comes late by a second, and log and
-memory stay small. interop/held_up.py is the long form.
+Whatever a stranger, a neighbour, a client or a reader does, no good link fails, no message comes late by a second, and
+log and memory stay small. interop/held_up.py is the long form.
 """
 
 from __future__ import annotations
 
 import contextlib
 import os
+import shutil
 import socket
 import struct
+import subprocess
 import termios
 import threading
 import time
-from collections.abc import Callable
+import unittest
+from collections.abc import Callable, Iterator
 from typing import Any
 
 from frames import NO_NUMBER, USER_DATA, Status, frame, message, status_frame
-from harness import HOST, PATIENCE, Link, NodeTest, free_port, wait_until
-from steady import Steady
-from test_sctp import SctpPair
+from harness import HOST, PATIENCE, STP, Link, NodeTest, free_port, wait_until
+from steady import Steady, longest_turn
+from test_callers import FLAGS, POST
+from test_sctp import OTHER_HOST, SctpPair
+from test_tell import FAILED, NOBODY
 from traffic import OTHER, Pair
 
 # How long an attack lasts.
@@ -39,6 +44,19 @@ DATAGRAMS = 2000
 
 # What is read of a terminal that is full: a line or more finds room then, but not all.
 ROOM_OCTETS = 300
+
+# How many clients the console has at most, and how many the page, and a pause after so many came.
+CALLERS, PAGE_CLIENTS, PAUSE = 16, 32, 0.1
+
+# What a web page may write in front of its request: nothing, and lines that do nothing.
+FRONTS = ("", "\n", "\r\n# nothing\n\n")
+
+
+def again_and_again() -> Iterator[None]:
+    """Goes on for as long as an attack lasts."""
+    end = time.monotonic() + SECONDS
+    while time.monotonic() < end:
+        yield
 
 
 class Flood(threading.Thread):
@@ -64,9 +82,10 @@ class Flood(threading.Thread):
 class HeldUp(NodeTest):
     """A stranger, or a neighbour, has a third link of the near node."""
 
-    def meet(self, of: type[Pair] | type[SctpPair] = Pair, **how: Any) -> Steady:
+    def meet(self, of: type[Pair] | type[SctpPair] = Pair, source: str | None = None) -> Steady:
         self.port, page = free_port(), free_port()
-        self.pair = of(self, links=2, beside=[Link("s0", OTHER, 0, self.port, True)], near_page=page, **how)
+        third = Link("s0", OTHER, 0, self.port, True, source)
+        self.pair = of(self, links=2, beside=[third], near_page=page)
         self.near = self.pair.near
         return Steady(self, self.pair, page)
 
@@ -122,26 +141,74 @@ class HeldUp(NodeTest):
         stranger.connect((HOST, self.pair.near_udp))
         self.flood("datagrams of a stranger", steady, Flood(stranger, lambda: bytes(12), 1 / DATAGRAMS))
 
+    def test_connections_of_another_host(self) -> None:
+        """The third link takes connections from the one host alone that its settings name."""
+        steady = self.meet(source=OTHER_HOST)
+        with steady.attacked("connections of another host"):
+            for _ in again_and_again():
+                with socket.create_connection((HOST, self.port), timeout=PATIENCE) as stranger:
+                    self.assertEqual(stranger.recv(1), b"")
+        self.near.await_log(f"refuse s0 {HOST}:")
+        self.assertEqual(self.near.logged("open s0 "), 0)
+        with socket.create_connection((HOST, self.port), timeout=PATIENCE, source_address=(OTHER_HOST, 0)):
+            self.near.await_log(f"open s0 {OTHER_HOST}:")
+
+    def test_silent_clients(self) -> None:
+        """They take all places of the console and of the page, again and again. Who asks has one all the same, and
+        keeps it: so do the clients by whom the messages go."""
+        steady = self.meet()
+        crowd: list[socket.socket] = []
+        with steady.attacked("silent clients"):
+            for _ in again_and_again():
+                former, crowd = crowd, self.silent(self.near.console, CALLERS)
+                crowd += self.silent(steady.page, PAGE_CLIENTS)
+                operator = self.near.call()
+                for caller in (operator, self.near):
+                    self.assertEqual(caller.ask("show flags"), FLAGS)
+                self.assertLess(longest_turn(steady.page), PATIENCE)
+                for stream in (*former, operator):
+                    stream.close()
+                time.sleep(PAUSE)
+
+    def silent(self, port: int, count: int) -> list[socket.socket]:
+        streams = [socket.create_connection((HOST, port), timeout=PATIENCE) for _ in range(count)]
+        for stream in streams:
+            self.addCleanup(stream.close)
+        return streams
+
+    def test_posts_of_a_web_page(self) -> None:
+        """Lines behind a request do nothing, whatever is in front of it that isn't an order."""
+        steady = self.meet()
+        with steady.attacked("posts of a web page"):
+            for _ in again_and_again():
+                for front in FRONTS:
+                    page = self.near.call()
+                    page.write(f"{front}{POST}deactivate e1\nstop\n")
+                    page.sees_end()
+                    page.close()
+
+
+def log_lines(what: str, steady: Steady) -> None:
+    """Clients come and go, each of which is two lines of the log."""
+    with steady.attacked(what):
+        for _ in again_and_again():
+            steady.pair.near.call().close()
+            time.sleep(0.02)
+
 
 class FullTerminal(NodeTest):
     """The log goes to a terminal."""
 
-    def begin(self) -> Steady:
+    def setUp(self) -> None:
+        super().setUp()
         self.master, self.terminal = os.openpty()
         self.addCleanup(os.close, self.master)
         self.addCleanup(os.close, self.terminal)
-        page = free_port()
-        self.pair = Pair(self, links=2, near_page=page,
-                         near_streams={"stdout": self.terminal, "stderr": self.terminal})
-        return Steady(self, self.pair, page)
 
-    def log_lines(self, what: str, steady: Steady) -> None:
-        """Clients come and go, each of which is two lines of the log."""
-        with steady.attacked(what):
-            end = time.monotonic() + SECONDS
-            while time.monotonic() < end:
-                self.pair.near.call().close()
-                time.sleep(0.02)
+    def begin(self) -> Steady:
+        page = free_port()
+        pair = Pair(self, links=2, near_page=page, near_streams={"stdout": self.terminal, "stderr": self.terminal})
+        return Steady(self, pair, page)
 
     def test_a_terminal_that_nobody_reads(self) -> None:
         """It has room for one line, and for the beginning of one."""
@@ -152,22 +219,37 @@ class FullTerminal(NodeTest):
             while True:
                 os.write(writer, b"x")
         os.read(self.master, ROOM_OCTETS)
-        self.log_lines("a terminal that nobody reads", steady)
+        log_lines("a terminal that nobody reads", steady)
 
     def test_a_terminal_that_is_stopped(self) -> None:
         steady = self.begin()
         termios.tcflow(self.terminal, termios.TCOOFF)
-        self.log_lines("a terminal that is stopped", steady)
+        log_lines("a terminal that is stopped", steady)
         termios.tcflow(self.terminal, termios.TCOON)
+
+    @unittest.skipUnless(os.geteuid() == 0, "only root may be somebody else")
+    def test_a_terminal_of_another_user(self) -> None:
+        """It can't be opened anew, so the node doesn't start."""
+        node = self.node(1, [Link("e0", 2, 0, free_port(), True)])
+        program = shutil.copy(STP, self.folder)
+        for path in (program, self.folder, node.folder):
+            os.chmod(path, 0o755)
+        ended = subprocess.run([program, "serve", "node.toml"], cwd=node.folder, user=NOBODY, stdin=subprocess.DEVNULL,
+                               stdout=self.terminal, stderr=subprocess.PIPE, text=True, timeout=PATIENCE)
+        self.assertEqual(ended.returncode, FAILED)
+        self.assertIn("standard output: this terminal can't be opened anew", ended.stderr)
 
 
 class StandardFiles(NodeTest):
     def test_closed_ones(self) -> None:
-        """No socket has the number of a standard file that was closed: something that is neither read nor written has."""
+        """No socket has the number of a standard file that was closed: what has it is neither read nor written."""
         for closed in ((0, 1, 2), (1,), (0, 2)):
-            node = self.node(1, [Link("e0", 2, 0, free_port(), True)])
-            node.start(preexec_fn=lambda: [os.close(number) for number in closed])
-            assert node.process is not None
+            page = free_port()
+            closing = {"preexec_fn": lambda: [os.close(number) for number in closed]}
+            pair = Pair(self, links=2, near_page=page, near_streams=closing)
+            log_lines(f"closed files {closed}", Steady(self, pair, page))
+            assert pair.near.process is not None
             for number in closed:
-                self.assertEqual(os.readlink(f"/proc/{node.process.pid}/fd/{number}"), "/dev/null")
-            node.kill()
+                self.assertEqual(os.readlink(f"/proc/{pair.near.process.pid}/fd/{number}"), "/dev/null")
+            for node in (pair.near, pair.far):
+                node.kill()

@@ -15,9 +15,6 @@ from traffic import FAR, NEAR, OTHER, Pair, submit_to
 
 MESSAGES = 64
 POOL = 1000
-
-# Another address of this machine.
-OTHER_HOST = "127.0.0.2"
 BEYOND = 200
 CONNECTIONS = 1000
 
@@ -132,18 +129,6 @@ class HostilePeers(NodeTest):
         peer.await_end()
         wait_until(lambda: self.near.links()["s0"] == ("Down", 0), "no message waits for the peer")
         self.near.await_log(f"notice lost 4 NoRoute {OTHER} ")
-        self.pair.exchange(MESSAGES)
-
-    def test_another_host(self) -> None:
-        """A link takes connections from the one host alone that its settings name."""
-        port = free_port()
-        self.pair = Pair(self, beside=[Link("s0", OTHER, 0, port, True, source=OTHER_HOST)], pool=POOL)
-        self.near = self.pair.near
-        with socket.create_connection((HOST, port), timeout=PATIENCE) as stranger:
-            self.assertEqual(stranger.recv(1), b"")
-        self.near.await_log(f"refuse s0 {HOST}:")
-        with socket.create_connection((HOST, port), timeout=PATIENCE, source_address=(OTHER_HOST, 0)):
-            self.near.await_log(f"open s0 {OTHER_HOST}:")
         self.pair.exchange(MESSAGES)
 
     def test_a_thousand_connections(self) -> None:

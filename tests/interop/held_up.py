@@ -27,9 +27,11 @@ def main() -> bool:
     seconds, *names = sys.argv[1:] or ["60"]
     test_held_up.SECONDS = float(seconds)
     steady.LONGEST_TURN = LONGEST_TURN
-    for case in (test_held_up.HeldUp, test_held_up.FullTerminal):
-        case.LIMIT = 120 + 2 * int(float(seconds))
-    suite = unittest.defaultTestLoader.loadTestsFromNames(names or ["HeldUp", "FullTerminal"], test_held_up)
+    cases = (test_held_up.HeldUp, test_held_up.FullTerminal, test_held_up.StandardFiles)
+    for case in cases:
+        case.LIMIT = 120 + 4 * int(float(seconds))
+    chosen = names or [case.__name__ for case in cases]
+    suite = unittest.defaultTestLoader.loadTestsFromNames(chosen, test_held_up)
     return unittest.TextTestRunner(stream=sys.stdout, verbosity=2).run(suite).wasSuccessful()
 
 

@@ -6,6 +6,7 @@ use crate::console_stream::ConsoleStream;
 use crate::socket::Progress;
 use mio::event::Event;
 use std::alloc::Global;
+use std::time::Duration;
 
 /// Octets that one read of a client asks for.
 const PIECE_OCTETS: usize = 4096;
@@ -22,6 +23,12 @@ const LOW_OCTETS: usize = 65_536;
 /// What a client that asked for news has more of a claim to its place, in turns.
 const NEWS_CLAIM: u64 = 1 << 62;
 
+/// What one has more that was answered, while something went to it or came from it of late.
+const ANSWERED_CLAIM: u64 = 1 << 61;
+
+/// How many seconds it may be since then.
+const LATE_SECONDS: u64 = 600;
+
 /// A client and its connection.
 #[derive(Drop)]
 pub(crate) struct ClientSocket {
@@ -37,19 +44,23 @@ pub(crate) struct ClientSocket {
     has_ended: bool,
     /// Whether octets came from it, or went to it, in this turn.
     has_moved: bool,
-    /// The number of the last turn in which some did, or in which it came.
+    /// Whether octets went to it so far.
+    was_answered: bool,
+    /// The number of the last turn in which some came or went, or in which it came itself, and when that was.
     active_turn: u64,
+    active_at: Duration,
     /// Whether its connection is over.
     pub(crate) is_closing: bool,
 }
 
 impl ClientSocket {
-    /// A client that just came, in the turn of this number.
+    /// A client that just came, in the turn of this number, at this time.
     pub(crate) fn new(
         alloc: Global,
         stream: ConsoleStream,
         name: CallerName,
         turn: u64,
+        now: Duration,
     ) -> ClientSocket {
         ClientSocket {
             stream,
@@ -62,7 +73,9 @@ impl ClientSocket {
             can_write: true,
             has_ended: false,
             has_moved: false,
+            was_answered: false,
             active_turn: turn,
+            active_at: now,
             is_closing: false,
         }
     }
@@ -168,25 +181,33 @@ impl ClientSocket {
         }
     }
 
-    /// Notes whether octets moved in the turn of this number.
-    pub(crate) fn note_moves(&mut self, turn: u64) {
+    /// Notes whether octets moved in the turn of this number, at this time.
+    pub(crate) fn note_moves(&mut self, turn: u64, now: Duration) {
         if self.has_moved {
             self.has_moved = false;
             self.active_turn = turn;
+            self.active_at = now;
         }
     }
 
-    /// Its claim to its place: the client with the least makes way for another one.
-    pub(crate) fn claim(&self) -> u64 {
-        let client = &self.client;
-        let has_news = client.sees(News::Message)
-            || client.sees(News::Notice)
-            || client.sees(News::Frame);
-        if has_news {
-            self.active_turn.saturating_add(NEWS_CLAIM)
+    /// Its claim to its place at this time: the client with the least makes way for another one. So silent ones, however
+    /// many come at once, make way for one another.
+    pub(crate) fn claim(&self, now: Duration) -> u64 {
+        let idle = now.saturating_sub(self.active_at);
+        let claim = if self.has_news() {
+            NEWS_CLAIM
+        } else if self.was_answered && idle.as_secs() < LATE_SECONDS {
+            ANSWERED_CLAIM
         } else {
-            self.active_turn
-        }
+            0
+        };
+        self.active_turn.saturating_add(claim)
+    }
+
+    /// Whether it asked for news.
+    fn has_news(&self) -> bool {
+        let client = &self.client;
+        client.sees(News::Message) || client.sees(News::Notice) || client.sees(News::Frame)
     }
 
     /// Makes one write.
@@ -195,6 +216,7 @@ impl ClientSocket {
             Progress::Octets(count) => {
                 self.client.written(count);
                 self.has_moved = true;
+                self.was_answered = true;
             }
             Progress::Later => self.can_write = false,
             Progress::Again => {}

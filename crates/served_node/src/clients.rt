@@ -10,6 +10,7 @@ use mio::Registry;
 use mio::event::Event;
 use script::Sink;
 use std::alloc::{AllocError, Global};
+use std::time::Duration;
 
 /// Clients at once, at most.
 const MOST_CLIENTS: usize = 16;
@@ -20,7 +21,7 @@ const ACCEPTS: usize = 16;
 /// Writes what waits for a client, in this turn. True if its connection is over; the log is told of it.
 fn is_over<W: Sink>(socket: &mut ClientSocket, turn: u64, log: &mut Log<'_, W>) -> bool {
     socket.write();
-    socket.note_moves(turn);
+    socket.note_moves(turn, log.now);
     if socket.is_closing {
         let name = socket.name;
         log.tell(&format_args!("caller {name} gone"));
@@ -104,7 +105,7 @@ impl ConsoleClients {
         registry: &Registry,
         log: &mut Log<'_, W>,
     ) {
-        let place = self.place_for_one();
+        let place = self.place_for_one(log.now);
         let Ok(number) = u8::try_from(place) else {
             return;
         };
@@ -112,29 +113,29 @@ impl ConsoleClients {
         let token = SocketName::Client(number).token();
         if stream.register(registry, token).is_ok() {
             log.tell(&format_args!("caller {name}"));
-            let socket = ClientSocket::new(alloc, stream, name, self.turn);
+            let socket = ClientSocket::new(alloc, stream, name, self.turn, log.now);
             self.put(place, socket);
         }
     }
 
     /// The first free place; if there is none, that of the client that makes way.
-    fn place_for_one(&self) -> usize {
+    fn place_for_one(&self, now: Duration) -> usize {
         for (k, place) in self.places.iter().enumerate() {
             if place.is_none() {
                 return k;
             }
         }
-        self.first_to_go()
+        self.first_to_go(now)
     }
 
-    /// The place of the client to or from which no octet went for the longest time; of one that asked for news only if
-    /// all did.
-    fn first_to_go(&self) -> usize {
+    /// The place of the client to or from which no octet went for the longest time; of one that was answered of late or
+    /// asked for news only if all were or did.
+    fn first_to_go(&self, now: Duration) -> usize {
         let mut first = 0;
         let mut least = u64::MAX;
         for (k, place) in self.places.iter().enumerate() {
             if let Some(socket) = place {
-                let claim = socket.claim();
+                let claim = socket.claim(now);
                 if claim < least {
                     least = claim;
                     first = k;
