@@ -20,14 +20,27 @@ const WRITES: usize = 16;
 /// While more octets than this wait for a client, none of its further lines is done.
 const LOW_OCTETS: usize = 65_536;
 
-/// What a client that asked for news has more of a claim to its place, in turns.
-const NEWS_CLAIM: u64 = 1 << 62;
+/// A client that was answered is idle once nothing went to it or came from it for so many seconds.
+const IDLE_SECONDS: u64 = 600;
 
-/// What one has more that was answered, while something went to it or came from it of late.
-const ANSWERED_CLAIM: u64 = 1 << 61;
+/// How a client stands, from the first that makes way for another one to the last.
+#[derive(Clone, Copy, PartialEq, Eq, PartialOrd, Ord)]
+enum Standing {
+    /// It wasn't answered yet, or it is idle. So silent ones, however many come at once, make way for one another.
+    Idle,
+    /// It was answered, and isn't idle.
+    Answered,
+    /// It asked for news.
+    Watching,
+}
 
-/// How many seconds it may be since then.
-const LATE_SECONDS: u64 = 600;
+/// A client's claim to its place: the client with the least one makes way for another.
+#[derive(Clone, Copy, PartialEq, Eq, PartialOrd, Ord)]
+pub(crate) struct Claim {
+    standing: Standing,
+    /// Of two that stand alike, the one that was idle longer has less.
+    active_at: Duration,
+}
 
 /// A client and its connection.
 #[derive(Drop)]
@@ -42,24 +55,22 @@ pub(crate) struct ClientSocket {
     can_read: bool,
     can_write: bool,
     has_ended: bool,
-    /// Whether octets came from it, or went to it, in this turn.
+    /// Whether octets came from it, or went to it, in this round.
     has_moved: bool,
     /// Whether octets went to it so far.
     was_answered: bool,
-    /// The number of the last turn in which some came or went, or in which it came itself, and when that was.
-    active_turn: u64,
+    /// When some last came or went, or when it came itself.
     active_at: Duration,
     /// Whether its connection is over.
     pub(crate) is_closing: bool,
 }
 
 impl ClientSocket {
-    /// A client that just came, in the turn of this number, at this time.
+    /// A client that came at this time.
     pub(crate) fn new(
         alloc: Global,
         stream: ConsoleStream,
         name: CallerName,
-        turn: u64,
         now: Duration,
     ) -> ClientSocket {
         ClientSocket {
@@ -74,7 +85,6 @@ impl ClientSocket {
             has_ended: false,
             has_moved: false,
             was_answered: false,
-            active_turn: turn,
             active_at: now,
             is_closing: false,
         }
@@ -181,27 +191,32 @@ impl ClientSocket {
         }
     }
 
-    /// Notes whether octets moved in the turn of this number, at this time.
-    pub(crate) fn note_moves(&mut self, turn: u64, now: Duration) {
+    /// Notes whether octets moved in this round, at this time.
+    pub(crate) fn note_moves(&mut self, now: Duration) {
         if self.has_moved {
             self.has_moved = false;
-            self.active_turn = turn;
             self.active_at = now;
         }
     }
 
-    /// Its claim to its place at this time: the client with the least makes way for another one. So silent ones, however
-    /// many come at once, make way for one another.
-    pub(crate) fn claim(&self, now: Duration) -> u64 {
+    /// Its claim to its place at this time.
+    pub(crate) fn claim(&self, now: Duration) -> Claim {
+        Claim {
+            standing: self.standing(now),
+            active_at: self.active_at,
+        }
+    }
+
+    /// How it stands at this time.
+    fn standing(&self, now: Duration) -> Standing {
         let idle = now.saturating_sub(self.active_at);
-        let claim = if self.has_news() {
-            NEWS_CLAIM
-        } else if self.was_answered && idle.as_secs() < LATE_SECONDS {
-            ANSWERED_CLAIM
+        if self.has_news() {
+            Standing::Watching
+        } else if self.was_answered && idle.as_secs() < IDLE_SECONDS {
+            Standing::Answered
         } else {
-            0
-        };
-        self.active_turn.saturating_add(claim)
+            Standing::Idle
+        }
     }
 
     /// Whether it asked for news.

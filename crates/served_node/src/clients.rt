@@ -1,6 +1,6 @@
 //! The clients of the console, and their sockets.
 
-use crate::client_socket::ClientSocket;
+use crate::client_socket::{Claim, ClientSocket};
 use crate::console_listener::{CallerName, ConsoleListener};
 use crate::console_session::{ConsoleContext, News};
 use crate::console_stream::ConsoleStream;
@@ -18,10 +18,10 @@ const MOST_CLIENTS: usize = 16;
 /// Clients that are taken in one round, at most.
 const ACCEPTS: usize = 16;
 
-/// Writes what waits for a client, in this turn. True if its connection is over; the log is told of it.
-fn is_over<W: Sink>(socket: &mut ClientSocket, turn: u64, log: &mut Log<'_, W>) -> bool {
+/// Writes what waits for a client. True if its connection is over; the log is told of it.
+fn is_over<W: Sink>(socket: &mut ClientSocket, log: &mut Log<'_, W>) -> bool {
     socket.write();
-    socket.note_moves(turn, log.now);
+    socket.note_moves(log.now);
     if socket.is_closing {
         let name = socket.name;
         log.tell(&format_args!("caller {name} gone"));
@@ -41,8 +41,6 @@ pub struct ConsoleClients {
     pub listener: ConsoleListener,
     places: Vec<Option<ClientSocket>>,
     pub(crate) asked: Asked,
-    /// The number of this turn.
-    turn: u64,
 }
 
 /// Which news any client asked for, so that nobody must be asked for each frame.
@@ -73,7 +71,6 @@ impl ConsoleClients {
             listener: ConsoleListener::none(),
             places,
             asked: Asked::none(),
-            turn: 0,
         })
     }
 
@@ -84,9 +81,8 @@ impl ConsoleClients {
         }
     }
 
-    /// Takes the clients that came. A turn begins.
+    /// Takes the clients that came.
     pub fn accept<W: Sink>(&mut self, alloc: Global, registry: &Registry, log: &mut Log<'_, W>) {
-        self.turn = self.turn.saturating_add(1);
         for _ in 0..ACCEPTS {
             match self.listener.accept() {
                 Some((stream, name)) => self.seat(alloc, stream, name, registry, log),
@@ -113,7 +109,7 @@ impl ConsoleClients {
         let token = SocketName::Client(number).token();
         if stream.register(registry, token).is_ok() {
             log.tell(&format_args!("caller {name}"));
-            let socket = ClientSocket::new(alloc, stream, name, self.turn, log.now);
+            let socket = ClientSocket::new(alloc, stream, name, log.now);
             self.put(place, socket);
         }
     }
@@ -128,18 +124,18 @@ impl ConsoleClients {
         self.first_to_go(now)
     }
 
-    /// The place of the client to or from which no octet went for the longest time; of one that was answered of late or
-    /// asked for news only if all were or did.
+    /// The place of the client with the least claim to it.
     fn first_to_go(&self, now: Duration) -> usize {
         let mut first = 0;
-        let mut least = u64::MAX;
+        let mut least: Option<Claim> = None;
         for (k, place) in self.places.iter().enumerate() {
-            if let Some(socket) = place {
-                let claim = socket.claim(now);
-                if claim < least {
-                    least = claim;
-                    first = k;
-                }
+            let Some(socket) = place else {
+                continue;
+            };
+            let claim = socket.claim(now);
+            if least.is_none_or(|other| claim < other) {
+                least = Some(claim);
+                first = k;
             }
         }
         first
@@ -190,10 +186,9 @@ impl ConsoleClients {
 
     /// Writes what waits for the clients, and closes the connections that are over.
     pub fn write<W: Sink>(&mut self, log: &mut Log<'_, W>) {
-        let turn = self.turn;
         for place in self.places.iter_mut() {
             if let Some(socket) = place
-                && is_over(socket, turn, log)
+                && is_over(socket, log)
             {
                 clear(place);
             }
