@@ -18,7 +18,7 @@ from traffic import Flowing
 PACE, LATE = 0.05, 1.0
 
 # What an attack may add to the log of a node in a second, and to its memory in all, in octets.
-LOG_OCTETS, MEMORY_OCTETS = 32_768, 4 << 20
+LOG_OCTETS, MEMORY_OCTETS = 32_768, 8 << 20
 
 # How long a round of the node's loop may take, in seconds. How fast the machine is decides, and what else runs on it.
 LONGEST_TURN = 1.0
@@ -83,8 +83,10 @@ class Steady:
 
     @contextmanager
     def attacked(self, what: str) -> Iterator[None]:
-        """Meanwhile messages go each way. At the end it says what the attack did, and fails if that was too much."""
+        """Meanwhile messages go each way, of which the first came before. At the end it says what the attack did, and
+        fails if that was too much."""
         near = self.pair.near
+        self.pair.exchange(1)
         flows = [SteadyFlow(flowing) for flowing in (self.pair.forth, self.pair.back)]
         log, memory, began = (near.folder / "log").stat().st_size, memory_of(near), time.monotonic()
         for flow in flows:

@@ -18,6 +18,9 @@ POOL = 1000
 BEYOND = 200
 CONNECTIONS = 1000
 
+# Lines of one kind that the log has of a second, at most.
+LINES_A_SECOND = 20
+
 # Ticks of 50 ms of a timer that is to run out, and of one that outlasts the other steps of a test.
 SHORT, LONGER = 40, 200
 
@@ -134,6 +137,7 @@ class HostilePeers(NodeTest):
     def test_a_thousand_connections(self) -> None:
         allow_sockets(CONNECTIONS + 100)
         first = self.meet()
+        began = time.monotonic()
         others = [Stranger(self.port) for _ in range(CONNECTIONS - 1)]
         for stranger in others:
             self.addCleanup(stranger.close)
@@ -141,7 +145,8 @@ class HostilePeers(NodeTest):
         for stranger in others:
             stranger.await_end()
         self.near.await_log("refuse s0 ")
-        self.assertLess(self.near.logged("refuse s0 "), CONNECTIONS - 1, "a second has few lines of them")
+        logged, seconds = self.near.logged("refuse s0 "), time.monotonic() - began
+        self.assertLessEqual(logged, LINES_A_SECOND * (seconds + 2), f"lines in {seconds:.1f} s")
         self.assertEqual(self.near.links()["s0"][0], "NotAligned", "the first one has the link")
         first.close()
         self.await_state("Down")
