@@ -35,6 +35,19 @@ UNREAD = 2000
 
 Series = tuple[str, frozenset[tuple[str, str]]]
 
+# The labels of the one set that a pair has.
+SET = {"set": f"to-{FAR}", "adjacent": str(FAR)}
+
+
+def series(family: str, **labels: str) -> Series:
+    """A metric with these labels."""
+    return family, frozenset(labels.items())
+
+
+def of_link(family: str, name: str, **labels: str) -> Series:
+    """A metric of a link of a pair."""
+    return series(family, link=name, **SET, **labels)
+
 
 def parse_metrics(text: str) -> tuple[dict[Series, float], dict[str, str]]:
     """Reads Prometheus' text format 0.0.4: the value of each series, and the kind of each family. In front of the samples
@@ -53,10 +66,10 @@ def parse_metrics(text: str) -> tuple[dict[Series, float], dict[str, str]]:
             assert found[1] == family and family not in kinds, f"TYPE of {found[1]} isn't behind its HELP"
             kinds[family] = found[2]
         else:
-            series, value = parse_sample(line)
-            assert series[0] == family and family in kinds, f"no HELP and TYPE in front of {line}"
-            assert series not in values, f"twice: {line}"
-            values[series] = value
+            read, value = parse_sample(line)
+            assert read[0] == family and family in kinds, f"no HELP and TYPE in front of {line}"
+            assert read not in values, f"twice: {line}"
+            values[read] = value
     assert set(helps) == set(kinds)
     return values, kinds
 
@@ -204,22 +217,47 @@ class Page(PageTest):
         for (family, counter) in (("frames_received", "frames_in"), ("octets_sent", "octets_out"),
                                   ("messages_delivered", "delivered")):
             for name, row in rows.items():
-                value = before[f"stp_{family}_total", frozenset({("link", name)})]
+                value = before[of_link(f"stp_{family}_total", name)]
                 self.assertEqual(value, row[counter], f"{family} of {name}")
         for name in self.pair.names:
-            self.assertEqual(before["stp_link_in_service", frozenset({("link", name)})], 1)
+            self.assertEqual(before[of_link("stp_link_in_service", name)], 1)
         self.assertEqual(before["stp_pool_messages", frozenset()], 0)
         self.assertGreater(before["stp_pool_limit_messages", frozenset()], 0)
         self.pair.exchange(MESSAGES)
         after, _ = self.metrics()
         self.assertEqual(set(before), set(after))
-        for series, value in before.items():
-            if kinds[series[0]] == "counter":
-                self.assertGreaterEqual(after[series], value, series)
+        for it, value in before.items():
+            if kinds[it[0]] == "counter":
+                self.assertGreaterEqual(after[it], value, it)
         delivered = [(after, 1), (before, -1)]
-        grown = sum(sign * values["stp_messages_delivered_total", frozenset({("link", name)})]
+        grown = sum(sign * values[of_link("stp_messages_delivered_total", name)]
                     for values, sign in delivered for name in self.pair.names)
         self.assertEqual(grown, MESSAGES)
+
+    def test_the_metrics_of_routes(self) -> None:
+        """Sets, destinations and routes: what they are while the links of their set are in service."""
+        values, _ = self.metrics()
+        destination = {"destination": str(FAR)}
+        self.assertEqual(values[series("stp_set_available", **SET)], 1)
+        self.assertEqual(values[series("stp_set_links_in_service", **SET)], len(self.pair.names))
+        self.assertEqual(values[series("stp_destination_accessible", **destination)], 1)
+        self.assertEqual(values[series("stp_destination_restricted", **destination)], 0)
+        self.assertEqual(values[series("stp_route_in_use", **destination, **SET)], 1)
+
+    def test_the_metrics_of_refusals(self) -> None:
+        """A cause that was never counted has no sample, but for those that alerts name."""
+        values, _ = self.metrics()
+        causes = {dict(pairs)["cause"] for family, pairs in values if family == "stp_refused_total"}
+        self.assertEqual(causes, {"PoolFull", "ShareFull"})
+        names = self.pair.names
+        self.assertEqual(sum(family == "stp_refused_total" for family, _ in values), len(causes) * len(names))
+        self.assertEqual([it for it in values if it[0] in ("stp_inits_refused_total", "stp_tries_failed_total")], [])
+
+    def test_the_metrics_of_datagrams(self) -> None:
+        """A node without links over SCTP has none."""
+        values, _ = self.metrics()
+        for name in ("stp_datagrams_received_total", "stp_datagrams_sent_total", "stp_strangers_total"):
+            self.assertEqual(values[series(name)], 0)
 
     def test_what_the_script_reads(self) -> None:
         """Each member that the script of the page reads is in the state."""
@@ -355,6 +393,13 @@ class PageOfFailures(PageTest):
         for kind, count in state["notice_kinds"].items():
             self.assertEqual(values["stp_notices_total", frozenset({("kind", kind)})], count, kind)
         self.assertEqual([it["state"] for it in state["links"]], ["Down"] * 3)
+        for name in self.pair.names:
+            self.assertEqual(values[of_link("stp_link_in_service", name)], 0)
+            self.assertEqual(values[of_link("stp_link_failures_total", name, reason="operator")], 1)
+        self.assertEqual(values[series("stp_set_available", **SET)], 0)
+        self.assertEqual(values[series("stp_set_links_in_service", **SET)], 0)
+        self.assertEqual(values[series("stp_destination_accessible", destination=str(FAR))], 0)
+        self.assertEqual(values[series("stp_route_in_use", destination=str(FAR), **SET)], 0)
 
         script = self.get("/")[1].decode()
         read = re.search(r"const \{ (.*) \} of state\.notices", script)
@@ -398,8 +443,7 @@ class PageOfFailures(PageTest):
             self.pair.far.signal(signal.SIGCONT)
         self.assertEqual([it["changing_over"] for it in state["links"]], [True, False, False])
         for it in state["links"]:
-            series = "stp_link_changing_over", frozenset({("link", it["name"])})
-            self.assertEqual(values[series], it["changing_over"], it["name"])
+            self.assertEqual(values[of_link("stp_link_changing_over", it["name"])], it["changing_over"], it["name"])
         self.assertGreater(state["held"], 0)
         self.assertEqual(values["stp_held_messages", frozenset()], state["held"])
         self.assertEqual((state["kept"], values["stp_pool_messages", frozenset()]), (MESSAGES, MESSAGES))

@@ -29,3 +29,9 @@ pub text_behind : {E : Type 0} (r : Result (Unit {0}) E) (old mid new first seco
 text_behind (Ok u) old mid new first second third p q e =
     q ∙ ap (λ (t : List ℕ). t ++ second) p ∙ append_assoc old first second ∙ ap (λ (t : List ℕ). old ++ (first ++ t)) e
 text_behind (Err e) old mid new first second third p q same = tt
+
+-- a text, which is the same as another
+pub text_as : {E : Type 0} (r : Result (Unit {0}) E) (old new first second : List ℕ)
+    → OnOk r (new ≡ old ++ first) → first ≡ second → OnOk r (new ≡ old ++ second)
+text_as (Ok u) old new first second p e = p ∙ ap (λ (t : List ℕ). old ++ t) e
+text_as (Err e) old new first second p same = tt

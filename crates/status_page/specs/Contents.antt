@@ -3,7 +3,7 @@ use Rattle.std.specs.Prelude.{ℕ, List}
 use Rattle.json.specs.Print.{print}
 use Rattle.settings.specs.declared.point.PointFormat.{PointFormat}
 use Rattle.exchange_rules.specs.State.{QueueKind, State}
-use Rattle.served_link.specs.declared.row.LinkCounters.{LinkCounters}
+use Rattle.served_link.specs.Counting.{NodeCounters}
 use Rattle.status_page.specs.declared.page.Page.{Page}
 use Rattle.status_page.specs.declared.page.Page.TheVariants as page
 use Rattle.status_page.specs.declared.noticed.NoticeLog.{NoticeLog}
@@ -15,7 +15,7 @@ use Rattle.status_page.specs.declared.times.Times.{Times}
 -- the octets of each page, at these times: `/` never changes, `/state.json` is the print of its
 -- tokens, and `/metrics` has a line for each sample
 abbrev pub page_text :
-    {Q : Type 0} → QueueKind Q → PointFormat → State Q → List LinkCounters → NoticeLog → (times : Times) → Page → List ℕ
-page_text q points s rows log times page.Status = PAGE.now
-page_text q points s rows log times page.State = print (state_tokens q points s rows log times)
-page_text q points s rows log times page.Metrics = metrics_text q s rows log times
+    {Q : Type 0} → QueueKind Q → PointFormat → State Q → NodeCounters → NoticeLog → (times : Times) → Page → List ℕ
+page_text q points s counters log times page.Status = PAGE.now
+page_text q points s counters log times page.State = print (state_tokens q points s counters.links log times)
+page_text q points s counters log times page.Metrics = metrics_text q points s counters log times

@@ -28,13 +28,18 @@ use Rattle.status_page.specs.declared.family.Family.TheVariants.{Build, Uptime, 
 use Rattle.status_page.specs.declared.family.Family.TheVariants.{Held, Notices, Flags}
 use Rattle.status_page.specs.declared.family.Family.TheVariants.{Raised, Lost, Broken, Rerouted, InService}
 use Rattle.status_page.specs.declared.family.Family.TheVariants.{ChangingOver, Barred, Queue}
+use Rattle.status_page.specs.declared.family.Family.TheVariants.{DatagramsReceived, DatagramsSent, Strangers}
+use Rattle.status_page.specs.declared.family.Family.TheVariants.{Accessible, Restricted, InUse}
+use Rattle.status_page.specs.declared.family.Family.TheVariants.{SetAvailable, SetLinks}
 use Rattle.status_page.specs.declared.family.Family.TheVariants.{FramesReceived, OctetsReceived, FramesSent}
 use Rattle.status_page.specs.declared.family.Family.TheVariants.{OctetsSent, Forwarded, Delivered, Refused}
 use Rattle.status_page.specs.declared.family.Family.TheVariants.{Failures, Retries, InitsRefused, TriesFailed}
 use Rattle.status_page.specs.declared.metric.Metric.{Metric}
-use Rattle.status_page.specs.declared.metric.Metric.TheVariants.{Node, Link}
+use Rattle.status_page.specs.declared.metric.Metric.TheVariants.{Node, Link, Set, Destination, Route}
 use Rattle.status_page.specs.declared.metric.NodeMetric.TheVariants as of_node
 use Rattle.status_page.specs.declared.metric.LinkMetric.TheVariants as of_link
+use Rattle.status_page.specs.declared.metric.SetMetric.TheVariants as of_set
+use Rattle.status_page.specs.declared.metric.DestinationMetric.TheVariants as of_destination
 use Rattle.status_page.specs.declared.noticed.NoticeKind.{NoticeKind}
 use Rattle.status_page.specs.declared.noticed.NoticeKind.TheVariants as noticed
 
@@ -42,6 +47,7 @@ use Rattle.status_page.specs.declared.noticed.NoticeKind.TheVariants as noticed
 abbrev pub families : List Family
 families =
     Build ∷ Uptime ∷ LongestTurn ∷ PoolLimit ∷ Pool ∷ Held ∷ Notices ∷ Flags ∷ Raised ∷ Lost ∷ Broken ∷ Rerouted ∷
+    DatagramsReceived ∷ DatagramsSent ∷ Strangers ∷ Accessible ∷ Restricted ∷ InUse ∷ SetAvailable ∷ SetLinks ∷
     InService ∷ ChangingOver ∷ Barred ∷ Queue ∷ FramesReceived ∷ OctetsReceived ∷ FramesSent ∷ OctetsSent ∷
     Forwarded ∷ Delivered ∷ Refused ∷ Failures ∷ Retries ∷ InitsRefused ∷ TriesFailed ∷ []
 
@@ -59,6 +65,14 @@ family_name Raised = codes "stp_flag_raised_total"
 family_name Lost = codes "stp_messages_lost_total"
 family_name Broken = codes "stp_changeovers_broken_total"
 family_name Rerouted = codes "stp_flows_rerouted_total"
+family_name DatagramsReceived = codes "stp_datagrams_received_total"
+family_name DatagramsSent = codes "stp_datagrams_sent_total"
+family_name Strangers = codes "stp_strangers_total"
+family_name Accessible = codes "stp_destination_accessible"
+family_name Restricted = codes "stp_destination_restricted"
+family_name InUse = codes "stp_route_in_use"
+family_name SetAvailable = codes "stp_set_available"
+family_name SetLinks = codes "stp_set_links_in_service"
 family_name InService = codes "stp_link_in_service"
 family_name ChangingOver = codes "stp_link_changing_over"
 family_name Barred = codes "stp_link_barred"
@@ -89,6 +103,14 @@ family_help Raised = codes "How often the flag was raised."
 family_help Lost = codes "Messages that notices named as lost."
 family_help Broken = codes "Changeovers of which it isn't known for sure what the peer has of the link."
 family_help Rerouted = codes "How often a flow changed its link set, but away from its destination's own."
+family_help DatagramsReceived = codes "Datagrams of links that came."
+family_help DatagramsSent = codes "Datagrams of links that went out."
+family_help Strangers = codes "Datagrams that came and are no link's; they get no answer."
+family_help Accessible = codes "1 if messages may go to the destination, 0 if each route there is prohibited or out of service."
+family_help Restricted = codes "1 if messages go to the destination by a restricted route, else 0."
+family_help InUse = codes "1 if messages to the destination take the set, 0 if it leads there and they don't."
+family_help SetAvailable = codes "1 if a link of the set is in service, else 0."
+family_help SetLinks = codes "How many links of the set are in service."
 family_help InService = codes "1 if the link is in service, else 0."
 family_help ChangingOver = codes "1 if the link is down and its changeover isn't over, else 0."
 family_help Barred = codes "1 if the link can't open until its changeover order is answered, else 0."
@@ -119,6 +141,14 @@ kind_of Raised = Growing
 kind_of Lost = Growing
 kind_of Broken = Growing
 kind_of Rerouted = Growing
+kind_of DatagramsReceived = Growing
+kind_of DatagramsSent = Growing
+kind_of Strangers = Growing
+kind_of Accessible = Gauge
+kind_of Restricted = Gauge
+kind_of InUse = Gauge
+kind_of SetAvailable = Gauge
+kind_of SetLinks = Gauge
 kind_of InService = Gauge
 kind_of ChangingOver = Gauge
 kind_of Barred = Gauge
@@ -149,6 +179,14 @@ exponent_of Raised = []
 exponent_of Lost = []
 exponent_of Broken = []
 exponent_of Rerouted = []
+exponent_of DatagramsReceived = []
+exponent_of DatagramsSent = []
+exponent_of Strangers = []
+exponent_of Accessible = []
+exponent_of Restricted = []
+exponent_of InUse = []
+exponent_of SetAvailable = []
+exponent_of SetLinks = []
 exponent_of InService = []
 exponent_of ChangingOver = []
 exponent_of Barred = []
@@ -213,6 +251,14 @@ metrics_of Raised = Node of_node.TimesLost ∷ Node of_node.TimesLate ∷ []
 metrics_of Lost = Node of_node.MessagesLost ∷ []
 metrics_of Broken = Node of_node.TimesBroken ∷ []
 metrics_of Rerouted = Node of_node.TimesRerouted ∷ []
+metrics_of DatagramsReceived = Node of_node.DatagramsReceived ∷ []
+metrics_of DatagramsSent = Node of_node.DatagramsSent ∷ []
+metrics_of Strangers = Node of_node.Strangers ∷ []
+metrics_of Accessible = Destination of_destination.Accessible ∷ []
+metrics_of Restricted = Destination of_destination.Restricted ∷ []
+metrics_of InUse = Route ∷ []
+metrics_of SetAvailable = Set of_set.Available ∷ []
+metrics_of SetLinks = Set of_set.LinksInService ∷ []
 metrics_of InService = Link of_link.InService ∷ []
 metrics_of ChangingOver = Link of_link.ChangingOver ∷ []
 metrics_of Barred = Link of_link.Barred ∷ []

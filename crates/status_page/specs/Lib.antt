@@ -6,6 +6,7 @@ pub mod Responses
 pub mod Bounds
 pub mod Each
 pub mod Noticed
+pub mod Places
 pub mod Families
 pub mod Measuring
 pub mod Samples

@@ -1,23 +1,37 @@
 -- The value of each metric.
-use Rattle.std.specs.Prelude.{ℕ, zero, suc, ◌+◌, ◌/◌, Bool, true, false, ◌&&◌, not, count_by, drop, length, unwrap_or, List, slice_get}
+use Rattle.std.specs.Prelude.{ℕ, zero, suc, ◌+◌, ◌/◌, Bool, true, false, ◌&&◌, ◌||◌, ◌==◌, not, nat_eq, nat_lt, count_by, drop, length, unwrap_or, List, slice_get}
+use Rattle.std.specs.List.{list_any}
 use Rattle.std.specs.Option.{option_map}
+use Rattle.signalling_types.specs.Causes.{cause_number}
+use Rattle.signalling_types.specs.declared.cause.Cause.{Cause}
+use Rattle.signalling_types.specs.declared.cause.Cause.TheVariants.{PoolFull, ShareFull}
 use Rattle.signalling_types.specs.Message.{Message, is_management}
 use Rattle.signalling_types.specs.Numbers.{next_number}
 use Rattle.cell_pool.specs.Lanes.{is_user_picked}
 use Rattle.link.specs.Queue.{count_confirmed}
+use Rattle.served_link.specs.declared.counter.Counter.{Counter}
+use Rattle.served_link.specs.declared.counter.Counter.TheVariants as counting
+use Rattle.served_link.specs.declared.datagrams.DatagramCounters.{DatagramCounters}
 use Rattle.served_link.specs.declared.row.LinkCounters.{LinkCounters}
 use Rattle.served_link.specs.Counting.{no_counts, saturated, value_of}
+use Rattle.routes.specs.declared.route.RouteStatus.{RouteStatus}
+use Rattle.routes.specs.declared.route.RouteStatus.TheVariants.{Allowed, Restricted, Prohibited}
 use Rattle.exchange_rules.specs.State.{QueueKind, State, lost_any, late_any}
 use Rattle.exchange.specs.declared.view.LinkStanding.{LinkStanding}
 use Rattle.exchange.specs.declared.view.LinkStanding.TheVariants.{Down, NotAligned, Aligned, Proving}
 use Rattle.exchange.specs.declared.view.LinkStanding.TheVariants.{AlignedReady, InService}
-use Rattle.exchange.specs.Views.{link_view, may_restart_at, is_barred_at}
+use Rattle.exchange.specs.Views.{link_view, may_restart_at, is_barred_at, route_view}
 use Rattle.status_page.specs.declared.metric.NodeMetric.{NodeMetric}
 use Rattle.status_page.specs.declared.metric.NodeMetric.TheVariants as of_node
 use Rattle.status_page.specs.declared.metric.LinkMetric.{LinkMetric}
 use Rattle.status_page.specs.declared.metric.LinkMetric.TheVariants as of_link
+use Rattle.status_page.specs.declared.metric.SetMetric.{SetMetric}
+use Rattle.status_page.specs.declared.metric.SetMetric.TheVariants as of_set
+use Rattle.status_page.specs.declared.metric.DestinationMetric.{DestinationMetric}
+use Rattle.status_page.specs.declared.metric.DestinationMetric.TheVariants as of_destination
 use Rattle.status_page.specs.declared.noticed.NoticeLog.{NoticeLog}
 use Rattle.status_page.specs.Noticed.{kind_seen}
+use Rattle.status_page.specs.Places.{is_of_set}
 use Rattle.status_page.specs.declared.times.Times.{Times}
 
 abbrev pub bit : Bool → ℕ
@@ -84,6 +98,82 @@ link_value q of_link.Barred s rows k = bit (is_barred_at s k)
 link_value q of_link.Waiting s rows k = waiting_on q s k
 link_value q (of_link.Counted counter) s rows k = value_of counter (counters_at rows k)
 
+-- ---- which metrics of a link are shown
+
+-- the causes that alerts name
+abbrev pub is_watched : Cause → Bool
+is_watched cause = (cause_number cause == cause_number PoolFull) || (cause_number cause == cause_number ShareFull)
+
+-- whether a counter is shown while it is 0: not those that have a reason each, which are many, unless alerts name them
+abbrev pub is_shown_at_zero : Counter → Bool
+is_shown_at_zero counting.FramesIn = true
+is_shown_at_zero counting.OctetsIn = true
+is_shown_at_zero counting.FramesOut = true
+is_shown_at_zero counting.OctetsOut = true
+is_shown_at_zero counting.Forwarded = true
+is_shown_at_zero counting.Delivered = true
+is_shown_at_zero (counting.Refused cause) = is_watched cause
+is_shown_at_zero (counting.Failed reason) = true
+is_shown_at_zero counting.Retries = true
+is_shown_at_zero (counting.Setbacks reason) = false
+
+-- whether a metric of a link is shown while it has this value
+abbrev pub is_shown : LinkMetric → (value : ℕ) → Bool
+is_shown of_link.InService value = true
+is_shown of_link.ChangingOver value = true
+is_shown of_link.Barred value = true
+is_shown of_link.Waiting value = true
+is_shown (of_link.Counted counter) value = is_shown_at_zero counter || nat_lt 0 value
+
+-- ---- of a set
+
+-- 1 if a link is of a set and in service, else 0
+abbrev pub serves_in : {Q : Type 0} → QueueKind Q → State Q → (link set : ℕ) → ℕ
+serves_in q s link set = bit (is_of_set s.settings link set && is_in_service q s link)
+
+-- how many of the first links are of a set and in service
+abbrev pub serving_first : {Q : Type 0} → QueueKind Q → State Q → (set links : ℕ) → ℕ
+serving_first q s set zero = 0
+serving_first q s set (suc k) = saturated (serving_first q s set k + serves_in q s k set)
+
+-- how many links of a set are in service
+abbrev pub links_in_service : {Q : Type 0} → QueueKind Q → State Q → (set : ℕ) → ℕ
+links_in_service q s set = serving_first q s set (length s.settings.links)
+
+abbrev pub set_value : {Q : Type 0} → QueueKind Q → SetMetric → State Q → (set : ℕ) → ℕ
+set_value q of_set.Available s set = bit (nat_lt 0 (links_in_service q s set))
+set_value q of_set.LinksInService s set = links_in_service q s set
+
+-- ---- of a destination and of a route; if there is no such destination it is 0
+
+-- whether messages take routes of this status
+abbrev pub is_open : RouteStatus → Bool
+is_open Allowed = true
+is_open Restricted = true
+is_open Prohibited = false
+
+abbrev pub is_restricted_status : RouteStatus → Bool
+is_restricted_status Allowed = false
+is_restricted_status Restricted = true
+is_restricted_status Prohibited = false
+
+abbrev pub is_accessible : {Q : Type 0} → State Q → (destination : ℕ) → Bool
+is_accessible s destination = unwrap_or (option_map (λ v. is_open v.status) (route_view s destination)) false
+
+abbrev pub is_restricted : {Q : Type 0} → State Q → (destination : ℕ) → Bool
+is_restricted s destination = unwrap_or (option_map (λ v. is_restricted_status v.status) (route_view s destination)) false
+
+abbrev pub destination_value : {Q : Type 0} → DestinationMetric → State Q → (destination : ℕ) → ℕ
+destination_value of_destination.Accessible s destination = bit (is_accessible s destination)
+destination_value of_destination.Restricted s destination = bit (is_restricted s destination)
+
+abbrev pub has_set : (set : ℕ) → List ℕ → Bool
+has_set set sets = list_any (λ it. nat_eq it set) sets
+
+-- whether the messages to a destination take a set
+abbrev pub is_in_use : {Q : Type 0} → State Q → (destination set : ℕ) → Bool
+is_in_use s destination set = unwrap_or (option_map (λ v. has_set set v.sets.items) (route_view s destination)) false
+
 -- ---- of the node
 
 -- the user messages of the first links that aren't confirmed
@@ -99,19 +189,23 @@ users_on_links q s = users_on_first q s (length s.settings.links)
 abbrev pub kept_messages : {Q : Type 0} → QueueKind Q → State Q → ℕ
 kept_messages q s = saturated (held_users q s + users_on_links q s)
 
--- the value of a metric of the node, at these times
-abbrev pub node_value : {Q : Type 0} → QueueKind Q → NodeMetric → State Q → NoticeLog → (times : Times) → ℕ
-node_value q of_node.Build s log times = 1
-node_value q of_node.Uptime s log times = times.uptime_ms / 1000
-node_value q of_node.LongestTurn s log times = times.longest_turn_us
-node_value q of_node.PoolLimit s log times = s.settings.pool
-node_value q of_node.Pool s log times = kept_messages q s
-node_value q of_node.Held s log times = held_users q s
-node_value q (of_node.Notices kind) s log times = kind_seen kind log
-node_value q of_node.LostAny s log times = bit (lost_any s.node.parts)
-node_value q of_node.LateAny s log times = bit (late_any s.node.parts)
-node_value q of_node.TimesLost s log times = s.node.parts.times_lost
-node_value q of_node.TimesLate s log times = s.node.parts.times_late
-node_value q of_node.MessagesLost s log times = s.node.parts.messages_lost
-node_value q of_node.TimesBroken s log times = s.node.parts.times_broken
-node_value q of_node.TimesRerouted s log times = s.reroutings.times
+-- the value of a metric of the node, with these datagrams counted, at these times
+abbrev pub node_value :
+    {Q : Type 0} → QueueKind Q → NodeMetric → State Q → DatagramCounters → NoticeLog → (times : Times) → ℕ
+node_value q of_node.Build s datagrams log times = 1
+node_value q of_node.Uptime s datagrams log times = times.uptime_ms / 1000
+node_value q of_node.LongestTurn s datagrams log times = times.longest_turn_us
+node_value q of_node.PoolLimit s datagrams log times = s.settings.pool
+node_value q of_node.Pool s datagrams log times = kept_messages q s
+node_value q of_node.Held s datagrams log times = held_users q s
+node_value q (of_node.Notices kind) s datagrams log times = kind_seen kind log
+node_value q of_node.LostAny s datagrams log times = bit (lost_any s.node.parts)
+node_value q of_node.LateAny s datagrams log times = bit (late_any s.node.parts)
+node_value q of_node.TimesLost s datagrams log times = s.node.parts.times_lost
+node_value q of_node.TimesLate s datagrams log times = s.node.parts.times_late
+node_value q of_node.MessagesLost s datagrams log times = s.node.parts.messages_lost
+node_value q of_node.TimesBroken s datagrams log times = s.node.parts.times_broken
+node_value q of_node.TimesRerouted s datagrams log times = s.reroutings.times
+node_value q of_node.DatagramsReceived s datagrams log times = datagrams.incoming
+node_value q of_node.DatagramsSent s datagrams log times = datagrams.outgoing
+node_value q of_node.Strangers s datagrams log times = datagrams.strangers

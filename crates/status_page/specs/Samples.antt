@@ -57,6 +57,9 @@ node_labels of_node.TimesLate = codes "{name=\"late_any\"}"
 node_labels of_node.MessagesLost = []
 node_labels of_node.TimesBroken = []
 node_labels of_node.TimesRerouted = []
+node_labels of_node.DatagramsReceived = []
+node_labels of_node.DatagramsSent = []
+node_labels of_node.Strangers = []
 
 -- the cause of a refusal, or the reason of a failure or a setback
 abbrev pub counter_labels : Counter → List ℕ
@@ -78,5 +81,20 @@ metric_labels of_link.Barred = []
 metric_labels of_link.Waiting = []
 metric_labels (of_link.Counted counter) = counter_labels counter
 
-abbrev pub link_labels : LinkMetric → (name : List ℕ) → List ℕ
-link_labels metric name = codes "{link=\"" ++ name ++ codes "\"" ++ metric_labels metric ++ codes "}"
+-- the name of a set, and the point that it leads to
+abbrev pub set_pairs : (set adjacent : List ℕ) → List ℕ
+set_pairs set adjacent = codes "set=\"" ++ set ++ codes "\",adjacent=\"" ++ adjacent ++ codes "\""
+
+abbrev pub link_labels : LinkMetric → (link set adjacent : List ℕ) → List ℕ
+link_labels metric link set adjacent =
+    codes "{link=\"" ++ link ++ codes "\"," ++ set_pairs set adjacent ++ metric_labels metric ++ codes "}"
+
+abbrev pub set_labels : (set adjacent : List ℕ) → List ℕ
+set_labels set adjacent = codes "{" ++ set_pairs set adjacent ++ codes "}"
+
+abbrev pub destination_labels : (destination : List ℕ) → List ℕ
+destination_labels destination = codes "{destination=\"" ++ destination ++ codes "\"}"
+
+abbrev pub route_labels : (destination set adjacent : List ℕ) → List ℕ
+route_labels destination set adjacent =
+    codes "{destination=\"" ++ destination ++ codes "\"," ++ set_pairs set adjacent ++ codes "}"

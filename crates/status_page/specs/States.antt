@@ -1,6 +1,5 @@
 -- The state of a node, as JSON.
-use Rattle.std.specs.Prelude.{ℕ, suc, ◌+◌, ◌-◌, ◌^◌, ◌%◌, List, [], ◌∷◌, ◌++◌, length, map, flat_map, slice_get, unwrap_or, codes, Option, Some, None}
-use Rattle.std.specs.Option.{option_map}
+use Rattle.std.specs.Prelude.{ℕ, suc, ◌+◌, ◌-◌, ◌^◌, ◌%◌, List, [], ◌∷◌, ◌++◌, length, map, flat_map, codes, Option, Some, None}
 use Rattle.json.specs.Token.{Token, string}
 use Rattle.signalling_types.specs.Causes.{cause_name}
 use Rattle.signalling_types.specs.Notices.{failure_name}
@@ -29,6 +28,7 @@ use Rattle.status_page.specs.declared.noticed.NoticeLog.{NoticeLog}
 use Rattle.status_page.specs.Families.{causes, init_reasons, notice_kinds, reasons, try_reasons}
 use Rattle.status_page.specs.Measuring.{counters_at, held_users, is_changing_over, kept_messages}
 use Rattle.status_page.specs.Noticed.{kind_seen, time_of}
+use Rattle.status_page.specs.Places.{set_name_of}
 use Rattle.status_page.specs.Members.{object, text_member, number_member, bool_member, object_member, array_member}
 use Rattle.status_page.specs.declared.times.Times.{Times}
 
@@ -68,10 +68,6 @@ all_counters row =
     ++ object_member (codes "tries") (counter_members row (map (λ reason. Setbacks reason) try_reasons))
 
 -- ---- links and sets
-
--- the name of a link's set; nothing if there is no such link
-abbrev pub set_name_of : Configuration → (link : ℕ) → List ℕ
-set_name_of c link = unwrap_or (option_map (λ row. set_name_in c row.set) (slice_get c.links link)) []
 
 abbrev pub view_members : LinkView → List Token
 view_members v =

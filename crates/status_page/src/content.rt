@@ -37,15 +37,20 @@ pub struct StatusPage<'a> {
 }
 
 impl Content for StatusPage<'_> {
-    ghost content = { λ shown page. page_text kept shown.points shown.exchange.now shown.counters.now.links shown.notices.now shown.times page };
+    ghost content = { λ shown page. page_text kept shown.points shown.exchange.now shown.counters.now shown.notices.now shown.times page };
 
     fn write(&self, page: Page, body: &mut Rope) -> Result<(), AllocError> {
         match page {
             Page::Status => body.put_slice(PAGE.as_bytes()),
             Page::State => self.write_state(body),
-            Page::Metrics => {
-                put_metrics(self.exchange, self.counters, self.notices, self.times, body)
-            }
+            Page::Metrics => put_metrics(
+                self.exchange,
+                self.counters,
+                self.notices,
+                self.points,
+                self.times,
+                body,
+            ),
         }
     }
 }

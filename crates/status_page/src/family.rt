@@ -4,7 +4,7 @@ ghost use Rattle.std.specs.Prelude.{◌≡◌, ◌≤◌, length};
 ghost use Rattle.status_page.specs.Families.{exponent_of, family_help, family_name, kind_of, metrics_of};
 
 use crate::kind::Kind;
-use crate::metric::{LinkMetric, Metric, NodeMetric};
+use crate::metric::{DestinationMetric, LinkMetric, Metric, NodeMetric, SetMetric};
 use crate::reasons::{FAILURES, INITS_REFUSED, NOTICES, REFUSED, TRIES_FAILED};
 use served_link::Counter;
 
@@ -41,6 +41,22 @@ pub enum Family {
     Broken,
     /// How often a flow changed its link set, but away from its destination's own.
     Rerouted,
+    /// Datagrams of links that came.
+    DatagramsReceived,
+    /// Datagrams of links that went out.
+    DatagramsSent,
+    /// Datagrams that came and are no link's.
+    Strangers,
+    /// Whether messages may go to each destination.
+    Accessible,
+    /// Whether they go there by a restricted route.
+    Restricted,
+    /// Whether the messages to each destination take each of its sets.
+    InUse,
+    /// Whether a link of each set is in service.
+    SetAvailable,
+    /// How many links of each set are in service.
+    SetLinks,
     /// Whether each link is in service.
     InService,
     /// Whether the changeover of each link isn't over.
@@ -75,7 +91,7 @@ pub enum Family {
 
 impl Family {
     /// All families, in the order in which they are shown.
-    pub const ALL: [Family; 27] = [
+    pub const ALL: [Family; 35] = [
         Family::Build,
         Family::Uptime,
         Family::LongestTurn,
@@ -88,6 +104,14 @@ impl Family {
         Family::Lost,
         Family::Broken,
         Family::Rerouted,
+        Family::DatagramsReceived,
+        Family::DatagramsSent,
+        Family::Strangers,
+        Family::Accessible,
+        Family::Restricted,
+        Family::InUse,
+        Family::SetAvailable,
+        Family::SetLinks,
         Family::InService,
         Family::ChangingOver,
         Family::Barred,
@@ -123,6 +147,14 @@ impl Family {
             Family::Lost => "stp_messages_lost_total",
             Family::Broken => "stp_changeovers_broken_total",
             Family::Rerouted => "stp_flows_rerouted_total",
+            Family::DatagramsReceived => "stp_datagrams_received_total",
+            Family::DatagramsSent => "stp_datagrams_sent_total",
+            Family::Strangers => "stp_strangers_total",
+            Family::Accessible => "stp_destination_accessible",
+            Family::Restricted => "stp_destination_restricted",
+            Family::InUse => "stp_route_in_use",
+            Family::SetAvailable => "stp_set_available",
+            Family::SetLinks => "stp_set_links_in_service",
             Family::InService => "stp_link_in_service",
             Family::ChangingOver => "stp_link_changing_over",
             Family::Barred => "stp_link_barred",
@@ -164,6 +196,17 @@ impl Family {
                 "Changeovers of which it isn't known for sure what the peer has of the link.",
             Family::Rerouted =>
                 "How often a flow changed its link set, but away from its destination's own.",
+            Family::DatagramsReceived => "Datagrams of links that came.",
+            Family::DatagramsSent => "Datagrams of links that went out.",
+            Family::Strangers => "Datagrams that came and are no link's; they get no answer.",
+            Family::Accessible =>
+                "1 if messages may go to the destination, 0 if each route there is prohibited or out of service.",
+            Family::Restricted =>
+                "1 if messages go to the destination by a restricted route, else 0.",
+            Family::InUse =>
+                "1 if messages to the destination take the set, 0 if it leads there and they don't.",
+            Family::SetAvailable => "1 if a link of the set is in service, else 0.",
+            Family::SetLinks => "How many links of the set are in service.",
             Family::InService => "1 if the link is in service, else 0.",
             Family::ChangingOver => "1 if the link is down and its changeover isn't over, else 0.",
             Family::Barred =>
@@ -200,12 +243,20 @@ impl Family {
             | Family::InService
             | Family::ChangingOver
             | Family::Barred
-            | Family::Queue => Kind::Gauge,
+            | Family::Queue
+            | Family::Accessible
+            | Family::Restricted
+            | Family::InUse
+            | Family::SetAvailable
+            | Family::SetLinks => Kind::Gauge,
             Family::Notices
             | Family::Raised
             | Family::Lost
             | Family::Broken
             | Family::Rerouted
+            | Family::DatagramsReceived
+            | Family::DatagramsSent
+            | Family::Strangers
             | Family::FramesReceived
             | Family::OctetsReceived
             | Family::FramesSent
@@ -239,6 +290,14 @@ impl Family {
             | Family::Lost
             | Family::Broken
             | Family::Rerouted
+            | Family::DatagramsReceived
+            | Family::DatagramsSent
+            | Family::Strangers
+            | Family::Accessible
+            | Family::Restricted
+            | Family::InUse
+            | Family::SetAvailable
+            | Family::SetLinks
             | Family::InService
             | Family::ChangingOver
             | Family::Barred
@@ -280,6 +339,14 @@ impl Family {
             Family::Lost => &[Metric::Node(NodeMetric::MessagesLost)],
             Family::Broken => &[Metric::Node(NodeMetric::TimesBroken)],
             Family::Rerouted => &[Metric::Node(NodeMetric::TimesRerouted)],
+            Family::DatagramsReceived => &[Metric::Node(NodeMetric::DatagramsReceived)],
+            Family::DatagramsSent => &[Metric::Node(NodeMetric::DatagramsSent)],
+            Family::Strangers => &[Metric::Node(NodeMetric::Strangers)],
+            Family::Accessible => &[Metric::Destination(DestinationMetric::Accessible)],
+            Family::Restricted => &[Metric::Destination(DestinationMetric::Restricted)],
+            Family::InUse => &[Metric::Route],
+            Family::SetAvailable => &[Metric::Set(SetMetric::Available)],
+            Family::SetLinks => &[Metric::Set(SetMetric::LinksInService)],
             Family::InService => &[Metric::Link(LinkMetric::InService)],
             Family::ChangingOver => &[Metric::Link(LinkMetric::ChangingOver)],
             Family::Barred => &[Metric::Link(LinkMetric::Barred)],

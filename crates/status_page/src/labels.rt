@@ -1,19 +1,20 @@
 //! The labels of samples.
 
 ghost use Rattle.std.specs.Prelude.{◌≡◌, ◌+◌, ◌≤◌, ◌++◌, length};
-ghost use Rattle.status_page.specs.Samples.{counter_labels, kind_labels, link_labels, metric_labels, node_labels};
+ghost use Rattle.status_page.specs.Samples.{counter_labels, destination_labels, kind_labels, link_labels, metric_labels, node_labels, route_labels, set_labels, set_pairs};
 
 use crate::metric::{LinkMetric, NodeMetric};
 use crate::noticed::NoticeKind;
 use arrayvec::ArrayString;
 use served_link::Counter;
+use settings::POINT_OCTETS;
 use signalling_types::Limits;
 
 /// The version of the program, as the pages show it.
 pub const VERSION: &str = "0.1.0";
 
 /// Octets of a sample's labels, at most.
-pub const LABELS_OCTETS: usize = 80;
+pub const LABELS_OCTETS: usize = 144;
 
 pub(crate) fn node_labels(metric: NodeMetric) -> ArrayString<LABELS_OCTETS>
     ensures { result.bytes ≡ node_labels metric }
@@ -35,7 +36,10 @@ pub(crate) fn node_labels(metric: NodeMetric) -> ArrayString<LABELS_OCTETS>
         | NodeMetric::Held
         | NodeMetric::MessagesLost
         | NodeMetric::TimesBroken
-        | NodeMetric::TimesRerouted => {}
+        | NodeMetric::TimesRerouted
+        | NodeMetric::DatagramsReceived
+        | NodeMetric::DatagramsSent
+        | NodeMetric::Strangers => {}
     }
     labels
 }
@@ -58,24 +62,92 @@ fn kind_labels(kind: NoticeKind) -> &'static str
     }
 }
 
-/// The labels of a metric of the link of this name. A name has only letters, digits, dashes, low lines and
-/// dots, so none of it is escaped.
-pub(crate) fn link_labels(metric: LinkMetric, name: &str) -> ArrayString<LABELS_OCTETS>
-    requires { length name.now ≤ Limits.NAME_OCTETS }
-    ensures { result.bytes ≡ link_labels metric name.now }
+/// The labels of a metric of the link of this name, of a set of this name, which leads to this point. A name has only
+/// letters, digits, dashes, low lines and dots, so none of it is escaped.
+pub(crate) fn link_labels(
+    metric: LinkMetric,
+    link: &str,
+    set: &str,
+    adjacent: &str,
+) -> ArrayString<LABELS_OCTETS>
+    requires link { length link.now ≤ Limits.NAME_OCTETS }
+    requires set { length set.now ≤ Limits.NAME_OCTETS }
+    requires adjacent { length adjacent.now ≤ POINT_OCTETS }
+    ensures { result.bytes ≡ link_labels metric link.now set.now adjacent.now }
 {
     let mut labels = ArrayString::new();
     labels.push_str("{link=\"");
-    labels.push_str(name);
-    labels.push_str("\"");
+    labels.push_str(link);
+    labels.push_str("\",");
+    push_set(set, adjacent, &mut labels);
     push_further(metric, &mut labels);
     labels.push_str("}");
     labels
 }
 
+/// The labels of a metric of the set of this name, which leads to this point.
+pub(crate) fn set_labels(set: &str, adjacent: &str) -> ArrayString<LABELS_OCTETS>
+    requires set { length set.now ≤ Limits.NAME_OCTETS }
+    requires adjacent { length adjacent.now ≤ POINT_OCTETS }
+    ensures { result.bytes ≡ set_labels set.now adjacent.now }
+{
+    let mut labels = ArrayString::new();
+    labels.push_str("{");
+    push_set(set, adjacent, &mut labels);
+    labels.push_str("}");
+    labels
+}
+
+/// The label of a metric of this destination.
+pub(crate) fn destination_labels(destination: &str) -> ArrayString<LABELS_OCTETS>
+    requires { length destination.now ≤ POINT_OCTETS }
+    ensures { result.bytes ≡ destination_labels destination.now }
+{
+    let mut labels = ArrayString::new();
+    labels.push_str("{destination=\"");
+    labels.push_str(destination);
+    labels.push_str("\"}");
+    labels
+}
+
+/// The labels of a metric of the route to this destination by the set of this name, which leads to this point.
+pub(crate) fn route_labels(
+    destination: &str,
+    set: &str,
+    adjacent: &str,
+) -> ArrayString<LABELS_OCTETS>
+    requires destination { length destination.now ≤ POINT_OCTETS }
+    requires set { length set.now ≤ Limits.NAME_OCTETS }
+    requires adjacent { length adjacent.now ≤ POINT_OCTETS }
+    ensures { result.bytes ≡ route_labels destination.now set.now adjacent.now }
+{
+    let mut labels = ArrayString::new();
+    labels.push_str("{destination=\"");
+    labels.push_str(destination);
+    labels.push_str("\",");
+    push_set(set, adjacent, &mut labels);
+    labels.push_str("}");
+    labels
+}
+
+/// Appends the labels of a set: its name, and the point that it leads to.
+fn push_set(set: &str, adjacent: &str, labels: &mut ArrayString<LABELS_OCTETS>)
+    requires room { length labels.old.bytes ≤ 41 }
+    requires set { length set.now ≤ Limits.NAME_OCTETS }
+    requires adjacent { length adjacent.now ≤ POINT_OCTETS }
+    ensures labels { labels.new.bytes ≡ labels.old.bytes ++ set_pairs set.now adjacent.now }
+    ensures short { length labels.new.bytes ≤ length labels.old.bytes + 57 }
+{
+    labels.push_str("set=\"");
+    labels.push_str(set);
+    labels.push_str("\",adjacent=\"");
+    labels.push_str(adjacent);
+    labels.push_str("\"");
+}
+
 /// Appends the further label of a metric of a link.
 fn push_further(metric: LinkMetric, labels: &mut ArrayString<LABELS_OCTETS>)
-    requires { length labels.old.bytes ≤ 40 }
+    requires { length labels.old.bytes ≤ 98 }
     ensures label { labels.new.bytes ≡ labels.old.bytes ++ metric_labels metric }
     ensures short { length labels.new.bytes ≤ length labels.old.bytes + 32 }
 {
@@ -90,7 +162,7 @@ fn push_further(metric: LinkMetric, labels: &mut ArrayString<LABELS_OCTETS>)
 
 /// Appends the label of a counter of refusals, failures or setbacks, its cause or its reason.
 fn push_reason(counter: Counter, labels: &mut ArrayString<LABELS_OCTETS>)
-    requires { length labels.old.bytes ≤ 40 }
+    requires { length labels.old.bytes ≤ 98 }
     ensures label { labels.new.bytes ≡ labels.old.bytes ++ counter_labels counter }
     ensures short { length labels.new.bytes ≤ length labels.old.bytes + 32 }
 {

@@ -3,18 +3,18 @@
 ghost use Rattle.std.specs.Prelude.{◌≡◌};
 ghost use Rattle.exchange.specs.KeptQueues.{kept};
 ghost use Rattle.status_page.specs.Members.{Adds, object_member};
-ghost use Rattle.status_page.specs.States.{all_counters, counter_key, counter_members, link_object, link_tokens, name_members, set_name_of, view_members};
-ghost use Rattle.console.specs.Names.{set_name_in};
+ghost use Rattle.status_page.specs.States.{all_counters, counter_key, counter_members, link_object, link_tokens, name_members, view_members};
 
 use crate::counted::counters_of;
 use crate::measuring::is_changing_over;
 use crate::members::{put_bool, put_number, put_text};
+use crate::places::set_name_of;
 use console::link_name;
 use exchange::{Exchange, LinkView};
 use json::Writer;
 use served_link::{Counter, Counters, LinkCounters, Setback};
 use settings::Settings;
-use signalling_types::{Cause, FailureReason, LinkId, SetId};
+use signalling_types::{Cause, FailureReason, LinkId};
 use std::alloc::AllocError;
 
 /// What is counted for a link as a whole.
@@ -132,26 +132,6 @@ fn put_names(settings: &Settings, link: LinkId, out: &mut Writer) -> Result<(), 
 {
     put_text(out, "name", link_name(settings, link))?;
     put_text(out, "set", set_name_of(settings, link))
-}
-
-/// The name of a link's set; nothing if there is no such link.
-fn set_name_of(settings: &Settings, link: LinkId) -> &str
-    ensures { result.now ≡ set_name_of settings.now link }
-{
-    match settings.links().get(link.index()) {
-        Some(row) => set_name(settings, row.set()),
-        None => "",
-    }
-}
-
-/// The name of a set; nothing if no set has this number.
-pub(crate) fn set_name(settings: &Settings, set: SetId) -> &str
-    ensures { result.now ≡ set_name_in settings.now set }
-{
-    match settings.sets().get(set.index()) {
-        Some(row) => row.name(),
-        None => "",
-    }
 }
 
 /// Appends the state of a link.

@@ -10,6 +10,12 @@ pub enum Metric {
     Node(NodeMetric),
     /// Of each link.
     Link(LinkMetric),
+    /// Of each set.
+    Set(SetMetric),
+    /// Of each destination.
+    Destination(DestinationMetric),
+    /// Of each route, a set that leads to a destination: whether messages take it.
+    Route,
 }
 
 /// What is measured of the node as a whole.
@@ -43,6 +49,12 @@ pub enum NodeMetric {
     TimesBroken,
     /// How often a flow changed its link set, but away from its destination's own.
     TimesRerouted,
+    /// Datagrams of links that came.
+    DatagramsReceived,
+    /// Datagrams of links that went out.
+    DatagramsSent,
+    /// Datagrams that came and are no link's.
+    Strangers,
 }
 
 /// What is measured of each link.
@@ -58,4 +70,22 @@ pub enum LinkMetric {
     Waiting,
     /// What was counted for it.
     Counted(Counter),
+}
+
+/// What is measured of each set.
+#[derive(Clone, Copy)]
+pub enum SetMetric {
+    /// Whether a link of it is in service.
+    Available,
+    /// How many of its links are in service.
+    LinksInService,
+}
+
+/// What is measured of each destination.
+#[derive(Clone, Copy)]
+pub enum DestinationMetric {
+    /// Whether messages may go there.
+    Accessible,
+    /// Whether they go there by a restricted route.
+    Restricted,
 }

@@ -2,34 +2,45 @@
 
 ghost use Rattle.std.specs.Prelude.{◌≡◌, ◌++◌, OnOk, flat_map};
 ghost use Rattle.exchange.specs.KeptQueues.{kept};
-ghost use Rattle.status_page.specs.Metrics.{families_text, family_text, link_sample, link_samples, metric_text, metrics_text};
+ghost use Rattle.status_page.specs.Metrics.{families_text, family_text, metric_text, metrics_text};
 
 use crate::family::Family;
-use crate::labels::{link_labels, node_labels};
-use crate::measuring::{link_value, node_value};
-use crate::metric::{LinkMetric, Metric};
+use crate::labels::node_labels;
+use crate::measuring::node_value;
+use crate::metric::Metric;
 use crate::noticed::NoticeLog;
 use crate::sample::{put_head, put_sample};
+use crate::sampling::{
+    put_destination_samples, put_link_samples, put_route_samples, put_set_samples,
+};
 use crate::times::Times;
-use console::link_name;
 use exchange::Exchange;
 use http_server::Rope;
 use served_link::Counters;
-use signalling_types::LinkId;
+use settings::PointFormat;
 use std::alloc::AllocError;
 
-/// Appends all metrics, at these times.
+/// Appends all metrics, with point codes in this format, at these times.
 pub(crate) fn put_metrics(
     exchange: &Exchange,
     counters: &Counters,
     notices: &NoticeLog,
+    points: PointFormat,
     times: Times,
     body: &mut Rope,
 ) -> Result<(), AllocError>
     ensures { OnOk result (body.new.items
-        ≡ body.old.items ++ metrics_text kept exchange.now counters.now.links notices.now times) }
+        ≡ body.old.items ++ metrics_text kept points exchange.now counters.now notices.now times) }
 {
-    put_families(&Family::ALL, exchange, counters, notices, times, body)
+    put_families(
+        &Family::ALL,
+        exchange,
+        counters,
+        notices,
+        points,
+        times,
+        body,
+    )
 }
 
 /// Appends these families.
@@ -38,14 +49,15 @@ fn put_families(
     exchange: &Exchange,
     counters: &Counters,
     notices: &NoticeLog,
+    points: PointFormat,
     times: Times,
     body: &mut Rope,
 ) -> Result<(), AllocError>
     ensures { OnOk result (body.new.items
-        ≡ body.old.items ++ families_text kept exchange.now counters.now.links notices.now times families.now) }
+        ≡ body.old.items ++ families_text kept points exchange.now counters.now notices.now times families.now) }
 {
     for family in families {
-        put_family(*family, exchange, counters, notices, times, body)?;
+        put_family(*family, exchange, counters, notices, points, times, body)?;
     }
     Ok(())
 }
@@ -56,11 +68,12 @@ fn put_family(
     exchange: &Exchange,
     counters: &Counters,
     notices: &NoticeLog,
+    points: PointFormat,
     times: Times,
     body: &mut Rope,
 ) -> Result<(), AllocError>
     ensures { OnOk result (body.new.items
-        ≡ body.old.items ++ family_text kept exchange.now counters.now.links notices.now times family) }
+        ≡ body.old.items ++ family_text kept points exchange.now counters.now notices.now times family) }
 {
     put_head(family, body)?;
     put_each(
@@ -69,6 +82,7 @@ fn put_family(
         exchange,
         counters,
         notices,
+        points,
         times,
         body,
     )
@@ -81,14 +95,17 @@ fn put_each(
     exchange: &Exchange,
     counters: &Counters,
     notices: &NoticeLog,
+    points: PointFormat,
     times: Times,
     body: &mut Rope,
 ) -> Result<(), AllocError>
     ensures { OnOk result (body.new.items ≡ body.old.items
-        ++ flat_map (metric_text kept exchange.now counters.now.links notices.now times family) metrics.now) }
+        ++ flat_map (metric_text kept points exchange.now counters.now notices.now times family) metrics.now) }
 {
     for metric in metrics {
-        put_metric(family, metric, exchange, counters, notices, times, body)?;
+        put_metric(
+            family, metric, exchange, counters, notices, points, times, body,
+        )?;
     }
     Ok(())
 }
@@ -101,65 +118,27 @@ fn put_metric(
     exchange: &Exchange,
     counters: &Counters,
     notices: &NoticeLog,
+    points: PointFormat,
     times: Times,
     body: &mut Rope,
 ) -> Result<(), AllocError>
     ensures { OnOk result (body.new.items
-        ≡ body.old.items ++ metric_text kept exchange.now counters.now.links notices.now times family metric.now) }
+        ≡ body.old.items ++ metric_text kept points exchange.now counters.now notices.now times family metric.now) }
 {
     match metric {
         Metric::Node(metric) => put_sample(
             family,
             node_labels(*metric).as_str(),
-            node_value(*metric, exchange, notices, times),
+            node_value(*metric, exchange, counters.datagrams(), notices, times),
             body,
         ),
-        Metric::Link(metric) => put_link_samples(family, *metric, exchange, counters, body),
+        Metric::Link(metric) => {
+            put_link_samples(family, *metric, exchange, counters, points, body)
+        }
+        Metric::Set(metric) => put_set_samples(family, *metric, exchange, points, body),
+        Metric::Destination(metric) => {
+            put_destination_samples(family, *metric, exchange, points, body)
+        }
+        Metric::Route => put_route_samples(family, exchange, points, body),
     }
-}
-
-/// Appends the sample of each link.
-fn put_link_samples(
-    family: Family,
-    metric: LinkMetric,
-    exchange: &Exchange,
-    counters: &Counters,
-    body: &mut Rope,
-) -> Result<(), AllocError>
-    ensures { OnOk result (body.new.items
-        ≡ body.old.items ++ link_samples kept exchange.now counters.now.links family metric) }
-{
-    for k in 0..exchange.settings().link_count() {
-        put_link_sample(
-            family,
-            metric,
-            exchange,
-            counters,
-            LinkId::new(k as u8),
-            body,
-        )?;
-    }
-    Ok(())
-}
-
-/// Appends the sample of a link.
-#[tactic(auto, unfolding(crate::specs::Metrics::link_sample))]
-fn put_link_sample(
-    family: Family,
-    metric: LinkMetric,
-    exchange: &Exchange,
-    counters: &Counters,
-    link: LinkId,
-    body: &mut Rope,
-) -> Result<(), AllocError>
-    ensures { OnOk result (body.new.items
-        ≡ body.old.items ++ link_sample kept exchange.now counters.now.links family metric link) }
-{
-    let labels = link_labels(metric, link_name(exchange.settings(), link));
-    put_sample(
-        family,
-        labels.as_str(),
-        link_value(metric, exchange, counters, link),
-        body,
-    )
 }

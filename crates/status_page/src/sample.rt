@@ -15,7 +15,7 @@ use std::alloc::AllocError;
 const HEAD_OCTETS: usize = 256;
 
 /// Octets of the line of a sample, at most.
-const SAMPLE_OCTETS: usize = 148;
+const SAMPLE_OCTETS: usize = 216;
 
 /// Appends the HELP and the TYPE line of a family.
 pub(crate) fn put_head(family: Family, body: &mut Rope) -> Result<(), AllocError>

@@ -9,10 +9,11 @@ ghost use Rattle.status_page.specs.Members.{Adds, array_member, object_member};
 ghost use Rattle.status_page.specs.States.{count_members, kind_key, kind_members, link_tokens, node_members, notice_number, notice_object, notice_tokens, place_members, program_members, route_object, route_tokens, set_names, set_tokens, state_members, state_tokens};
 
 use crate::labels::VERSION;
-use crate::link_state::{put_link, set_name};
+use crate::link_state::put_link;
 use crate::measuring::{held_users, kept_messages};
 use crate::members::{put_number, put_text};
 use crate::noticed::{NoticeKind, NoticeLog};
+use crate::places::set_name;
 use crate::times::Times;
 use arrayvec::ArrayString;
 use console::{LINE_OCTETS, show_notices};

@@ -6,5 +6,5 @@ use Rattle.status_page.proofs.metrics.put_each.Given as goal
 
 abbrev pub invariant-loop-metric : goal.invariant-loop-metric
 invariant-loop-metric l =
-    l.body.items ++ flat_map (metric_text kept l.fn.exchange l.fn.counters.links l.fn.notices l.fn.times l.fn.family) (drop l.metric-index l.metrics)
-    ≡ l.fn.body.items ++ flat_map (metric_text kept l.fn.exchange l.fn.counters.links l.fn.notices l.fn.times l.fn.family) l.fn.metrics
+    l.body.items ++ flat_map (metric_text kept l.fn.points l.fn.exchange l.fn.counters l.fn.notices l.fn.times l.fn.family) (drop l.metric-index l.metrics)
+    ≡ l.fn.body.items ++ flat_map (metric_text kept l.fn.points l.fn.exchange l.fn.counters l.fn.notices l.fn.times l.fn.family) l.fn.metrics

@@ -6,5 +6,5 @@ use Rattle.status_page.proofs.metrics.put_families.Given as goal
 
 abbrev pub invariant-loop-family : goal.invariant-loop-family
 invariant-loop-family l =
-    l.body.items ++ families_text kept l.fn.exchange l.fn.counters.links l.fn.notices l.fn.times (drop l.family-index l.families)
-    ≡ l.fn.body.items ++ families_text kept l.fn.exchange l.fn.counters.links l.fn.notices l.fn.times l.fn.families
+    l.body.items ++ families_text kept l.fn.points l.fn.exchange l.fn.counters l.fn.notices l.fn.times (drop l.family-index l.families)
+    ≡ l.fn.body.items ++ families_text kept l.fn.points l.fn.exchange l.fn.counters l.fn.notices l.fn.times l.fn.families

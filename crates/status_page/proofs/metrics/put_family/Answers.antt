@@ -10,4 +10,4 @@ pub returns : goal.returns
 unfolding family_text
 returns c =
     text_behind c.put_each.result _ _ _ _ _ _ c.in_ok-put_head.ensures c.put_each.ensures
-    (ap (λ (ms : List Metric). flat_map (metric_text kept c.args.exchange.now c.args.counters.now.links c.args.notices.now c.args.times c.args.family) ms) c.metrics.ensures)
+    (ap (λ (ms : List Metric). flat_map (metric_text kept c.args.points c.args.exchange.now c.args.counters.now c.args.notices.now c.args.times c.args.family) ms) c.metrics.ensures)

@@ -1,0 +1,9 @@
+-- The samples so far were put.
+use Rattle.std.proofs.Common.{◌≡◌, ◌++◌}
+use Rattle.status_page.specs.Each.{each}
+use Rattle.status_page.specs.Metrics.{destination_sample}
+use Rattle.status_page.proofs.sampling.put_destination_samples.Given as goal
+
+abbrev pub invariant-loop-k : goal.invariant-loop-k
+invariant-loop-k l =
+    l.body.items ≡ l.fn.body.items ++ each (destination_sample l.fn.points l.fn.exchange l.fn.family l.fn.metric) l.k

@@ -1,0 +1,10 @@
+-- The samples so far were put.
+use Rattle.std.proofs.Common.{◌≡◌, ◌++◌}
+use Rattle.exchange.specs.KeptQueues.{kept}
+use Rattle.status_page.specs.Each.{each}
+use Rattle.status_page.specs.Metrics.{set_sample}
+use Rattle.status_page.proofs.sampling.put_set_samples.Given as goal
+
+abbrev pub invariant-loop-k : goal.invariant-loop-k
+invariant-loop-k l =
+    l.body.items ≡ l.fn.body.items ++ each (set_sample kept l.fn.points l.fn.exchange l.fn.family l.fn.metric) l.k
