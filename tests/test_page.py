@@ -197,6 +197,7 @@ class Page(PageTest):
         self.assertEqual(links, self.near.ask("show links"))
         routes = [f"route {it['point']} {' '.join(it['sets'])} {it['status']}" for it in state["routes"]]
         self.assertEqual(routes, self.near.ask("show routes"))
+        self.assertEqual([it["ways"] for it in state["routes"]], [[SET["set"]]])
         flags = [f"flag lost_any {state['times_lost']}", f"flag late_any {state['times_late']}"]
         self.assertEqual(flags, self.near.ask("show flags"))
         losses = [f"loss messages_lost {state['messages_lost']}", f"loss times_broken {state['times_broken']}"]

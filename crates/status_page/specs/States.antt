@@ -28,7 +28,7 @@ use Rattle.status_page.specs.declared.noticed.NoticeLog.{NoticeLog}
 use Rattle.status_page.specs.Families.{causes, init_reasons, notice_kinds, reasons, try_reasons}
 use Rattle.status_page.specs.Measuring.{counters_at, held_users, is_changing_over, kept_messages}
 use Rattle.status_page.specs.Noticed.{kind_seen, time_of}
-use Rattle.status_page.specs.Places.{set_name_of}
+use Rattle.status_page.specs.Places.{set_name_of, sets_to}
 use Rattle.status_page.specs.Members.{object, text_member, number_member, bool_member, object_member, array_member}
 use Rattle.status_page.specs.declared.times.Times.{Times}
 
@@ -104,19 +104,20 @@ set_tokens points set =
 abbrev pub set_names : Configuration → List ℕ → List Token
 set_names c sets = flat_map (λ set. string (set_name_in c set) ∷ []) sets
 
--- a destination, the sets that messages take to it, and their status
-abbrev pub route_object : PointFormat → Configuration → RouteView → List Token
-route_object points c v =
+-- a destination, the sets that messages take to it, all that lead there, and the status of those that messages take
+abbrev pub route_object : PointFormat → Configuration → (ways : List ℕ) → RouteView → List Token
+route_object points c ways v =
     object (text_member (codes "point") (point_text points v.point)
     ++ array_member (codes "sets") (set_names c v.sets.items)
+    ++ array_member (codes "ways") (set_names c ways)
     ++ text_member (codes "status") (status_name v.status))
 
-abbrev pub shown_route : PointFormat → Configuration → Option RouteView → List Token
-shown_route points c None = []
-shown_route points c (Some v) = route_object points c v
+abbrev pub shown_route : PointFormat → Configuration → (ways : List ℕ) → Option RouteView → List Token
+shown_route points c ways None = []
+shown_route points c ways (Some v) = route_object points c ways v
 
 unfoldable pub route_tokens : {Q : Type 0} → PointFormat → State Q → ℕ → List Token
-route_tokens points s k = shown_route points s.settings (route_view s k)
+route_tokens points s k = shown_route points s.settings (sets_to s.settings k) (route_view s k)
 
 -- ---- notices
 

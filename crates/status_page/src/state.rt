@@ -13,7 +13,7 @@ use crate::link_state::put_link;
 use crate::measuring::{held_users, kept_messages};
 use crate::members::{put_number, put_text};
 use crate::noticed::{NoticeKind, NoticeLog};
-use crate::places::set_name;
+use crate::places::{set_name, sets_to};
 use crate::times::Times;
 use arrayvec::ArrayString;
 use console::{LINE_OCTETS, show_notices};
@@ -219,33 +219,46 @@ fn put_route(
     ensures { Adds result out.old out.new (route_tokens points exchange.now destination) }
 {
     match exchange.route(destination) {
-        Some(view) => put_shown_route(exchange.settings(), &view, points, out),
+        Some(view) => put_shown_route(
+            exchange.settings(),
+            sets_to(exchange.settings(), destination),
+            &view,
+            points,
+            out,
+        ),
         None => Ok(()),
     }
 }
 
-/// Appends the object of a destination that is shown like this.
+/// Appends the object of a destination that is shown like this, to which these sets lead.
 fn put_shown_route(
     settings: &Settings,
+    ways: &[SetId],
     view: &RouteView,
     points: PointFormat,
     out: &mut Writer,
 ) -> Result<(), AllocError>
-    ensures { Adds result out.old out.new (route_object points settings.now view.now) }
+    ensures { Adds result out.old out.new (route_object points settings.now ways.now view.now) }
 {
     out.begin_object()?;
     put_text(out, "point", point_text(view.point, points).as_str())?;
-    put_set_names(settings, &view.sets, out)?;
+    put_set_names(settings, "sets", &view.sets, out)?;
+    put_set_names(settings, "ways", ways, out)?;
     put_text(out, "status", view.status.name())?;
     out.end_object()
 }
 
-/// Appends the array of the names of these sets.
-fn put_set_names(settings: &Settings, sets: &[SetId], out: &mut Writer) -> Result<(), AllocError>
+/// Appends the array of the names of these sets, a member of this name.
+fn put_set_names(
+    settings: &Settings,
+    member: &str,
+    sets: &[SetId],
+    out: &mut Writer,
+) -> Result<(), AllocError>
     ensures { Adds result out.old out.new
-        (array_member (codes "sets") (set_names settings.now sets.now)) }
+        (array_member member.now (set_names settings.now sets.now)) }
 {
-    out.key("sets")?;
+    out.key(member)?;
     out.begin_array()?;
     put_each_name(settings, sets, out)?;
     out.end_array()

@@ -36,10 +36,11 @@ a { color: var(--in); }
 button { font: inherit; color: inherit; background: var(--band); border: 1px solid var(--quiet); border-radius: .4rem; padding: .3rem .8rem; }
 #gone { border: 2px solid var(--bad); border-radius: .4rem; padding: .5rem .75rem; margin: .5rem 0; color: var(--bad); font-weight: 600; }
 .stale main { opacity: .55; }
-dl { display: grid; grid-template-columns: repeat(auto-fit, minmax(7.5rem, 1fr)); gap: .5rem; margin: .75rem 0; }
+dl { display: grid; grid-template-columns: repeat(auto-fit, minmax(9rem, 1fr)); gap: .5rem; margin: .75rem 0; }
 dl div { background: var(--band); border: 1px solid var(--line); border-radius: .4rem; padding: .4rem .6rem; }
 dt { color: var(--quiet); font-size: .85rem; }
 dd { margin: 0; font-weight: 600; }
+dd.what { color: var(--quiet); font-size: .8rem; font-weight: 400; }
 table { width: 100%; border-collapse: collapse; }
 caption { text-align: left; color: var(--quiet); font-size: .9rem; padding-bottom: .25rem; }
 th, td { text-align: left; vertical-align: top; padding: .35rem .5rem .35rem 0; border-bottom: 1px solid var(--line); }
@@ -47,6 +48,7 @@ thead th { font-size: .85rem; color: var(--quiet); font-weight: 600; }
 tbody th { font-weight: 600; }
 small { display: block; color: var(--quiet); font-size: .8rem; font-weight: 400; }
 .number { font-variant-numeric: tabular-nums; white-space: nowrap; }
+.way { display: block; }
 .good { color: var(--good); } .turning { color: var(--turning); } .bad { color: var(--bad); }
 .in { color: var(--in); } .out { color: var(--out); }
 .key span { white-space: nowrap; }
@@ -104,7 +106,8 @@ footer { margin-top: 2rem; }
 <section aria-labelledby="routes">
 <h2 id="routes">Routes</h2>
 <table>
-<thead><tr><th scope="col">Destination</th><th scope="col">By</th><th scope="col">Status</th></tr></thead>
+<caption>The sets that lead to each destination, the preferred one first: <span class="good">●</span> its messages take it, ○ they don’t</caption>
+<thead><tr><th scope="col">Destination</th><th scope="col">Sets</th><th scope="col">Status</th></tr></thead>
 <tbody id="route-rows"></tbody>
 </table>
 <p id="more-routes" class="quiet"></p>
@@ -190,29 +193,37 @@ function rate(name) {
 
 const rounded = n => n >= 100 || n === 0 ? count(Math.round(n)) : n.toFixed(1);
 
+// Each tile: its name, what it counts, its value, and how good that is.
 function glance(state) {
-  const raised = n => n ? '⚠ ' + count(n) + (n === 1 ? ' time' : ' times') : 'no';
+  const raised = n => n ? '⚠ ' + count(n) + (n === 1 ? ' time' : ' times') : 'none';
   const up = state.links.filter(link => link.state === 'InService').length;
+  const open = state.routes.filter(route => route.status !== 'prohibited').length;
   const over = state.links.filter(link => link.changing_over).length;
   return [
-    ['Links in service', up + ' of ' + state.links.length, up === state.links.length ? 'good' : 'bad'],
-    ['Changeovers', count(over), over ? 'turning' : ''],
-    ['User messages kept', count(state.kept) + ' of ' + count(state.pool), state.kept < state.pool ? '' : 'bad'],
-    ['Messages held', count(state.held), ''],
-    ['Perhaps lost', raised(state.times_lost), state.times_lost ? 'bad' : ''],
-    ['Perhaps late', raised(state.times_late), state.times_late ? 'turning' : ''],
-    ['Messages lost', count(state.messages_lost), state.messages_lost ? 'bad' : ''],
-    ['Changeovers broken', count(state.times_broken), state.times_broken ? 'bad' : ''],
-    ['Flows rerouted', count(state.times_rerouted), state.times_rerouted ? 'turning' : ''],
-    ['Notices', count(state.notice_count), ''],
+    ['Links in service', 'their state is In service', up + ' of ' + state.links.length, up === state.links.length ? 'good' : 'bad'],
+    ['Destinations accessible', 'messages may go there', count(open) + ' of ' + count(state.routes.length),
+      open === state.routes.length ? 'good' : 'bad'],
+    ['Changeovers', 'links that are down, and whose changeover isn’t over', count(over), over ? 'turning' : ''],
+    ['User messages kept', 'not confirmed yet, or held; of the pool', count(state.kept) + ' of ' + count(state.pool),
+      state.kept < state.pool ? '' : 'bad'],
+    ['User messages held', 'kept until their flow may go on', count(state.held), ''],
+    ['User messages lost', 'named by notices, since the start', count(state.messages_lost), state.messages_lost ? 'bad' : ''],
+    ['Possible losses', 'lost_any was raised, also for management messages', raised(state.times_lost), state.times_lost ? 'turning' : ''],
+    ['Possible lateness', 'late_any was raised: a flow went on by time', raised(state.times_late), state.times_late ? 'turning' : ''],
+    ['Changeovers broken', 'nobody knows for sure what the neighbour has', count(state.times_broken), state.times_broken ? 'bad' : ''],
+    ['Flows rerouted', 'times that a flow changed its set, but away from its destination’s own', count(state.times_rerouted),
+      state.times_rerouted ? 'turning' : ''],
+    ['Notices', 'since the start; the last 64 are below', count(state.notice_count), ''],
   ];
 }
 
 function showGlance(state) {
   const facts = glance(state), list = $('glance');
-  if (!list.children.length) list.append(...facts.map(([name]) => make('div', {}, make('dt', {}, name), make('dd'))));
-  facts.forEach(([, value, kind], i) => {
-    const dd = list.children[i].lastChild;
+  if (!list.children.length) {
+    list.append(...facts.map(([name, what]) => make('div', {}, make('dt', {}, name), make('dd'), make('dd', { class: 'what' }, what))));
+  }
+  facts.forEach(([, , value, kind], i) => {
+    const dd = list.children[i].children[1];
     dd.className = kind;
     setText(dd, value);
   });
@@ -296,6 +307,18 @@ function showLinks(state) {
   });
 }
 
+// A set that leads to a destination: whether its messages take it, and whether it has a link in service.
+function wayOf(state, route, name) {
+  if (route.sets.includes(name)) return ['good', '● ' + name];
+  const isUp = state.links.some(link => link.set === name && link.state === 'InService');
+  return isUp ? ['quiet', '○ ' + name] : ['bad', '○ ' + name + ' (down)'];
+}
+
+function showWays(cell, ways) {
+  if (cell.textContent === ways.map(([, text]) => text).join('')) return;
+  cell.replaceChildren(...ways.map(([kind, text]) => make('span', { class: 'way ' + kind }, text)));
+}
+
 // Where there are many routes, those that aren't allowed come first, and the others end somewhere.
 function showRoutes(state) {
   const order = ['prohibited', 'restricted', 'allowed'];
@@ -308,7 +331,7 @@ function showRoutes(state) {
   shown.forEach((route, i) => {
     const [point, sets, status] = body.children[i].children, [kind, text] = STATUSES[route.status];
     setText(point, route.point);
-    setText(sets, route.sets.join(' + ') || 'none');
+    showWays(sets, route.ways.map(name => wayOf(state, route, name)));
     status.className = kind;
     setText(status, text);
   });
