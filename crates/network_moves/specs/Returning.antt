@@ -1,11 +1,11 @@
 -- Moves of a link that opens and enters service (Q.704 §6), and those by which a node breaks.
-use Rattle.std.specs.Prelude.{◌≡◌, ◌≢◌, ℕ, true, false, ◌<◌, [], ◌++◌, ◌∷◌, List, None}
+use Rattle.std.specs.Prelude.{◌≡◌, ◌≢◌, ℕ, true, false, ◌<◌, [], ◌++◌, ◌∷◌, List, drop, None}
 use Rattle.signalling_types.specs.Message.{Message}
-use Rattle.link.specs.Queue.{first_queue, emptied, named_count}
+use Rattle.link.specs.Queue.{Queue, first_queue, emptied, named_count}
 use Rattle.network_moves.specs.Sayings.{Near, Far, Saying, Order, Answer, opposite}
 use Rattle.network_moves.specs.Networks.{Live, Gone, LinkEnd, Line, Node, Network, Shape, Place, turned}
 use Rattle.network_moves.specs.Networks.{line_at, node_at, point_at, given_up, LinesBecome, Becomes, IsTakenFrom}
-use Rattle.network_moves.specs.Failing.{final_number, with_wait, with_completion, without_unconfirmed}
+use Rattle.network_moves.specs.Failing.{final_number, with_wait, with_completion}
 
 -- an end in a new epoch; what came from it before stays, and what was given up here has gone for good
 abbrev pub opened_end : (came gone : List Message) → LinkEnd
@@ -86,6 +86,10 @@ pub record Breaks (shape : Shape) (p q : Network) (place : Place) (z : Line) (n 
   pub broken : q.broken (point_at shape place) ≡ true
   pub others_broken : (other : ℕ) → other ≢ point_at shape place → q.broken other ≡ p.broken other
 
+-- a node after a changeover with such a number: what wasn't sent goes elsewhere, and notices of loss name these
+abbrev pub without_sent : Node → Queue → (named : List Message) → Node
+without_sent n q named = record n { bag = drop q.sent q.all ++ n.bag; named = named ++ n.named }
+
 module _ (shape : Shape) (read : Message → Saying) (p q : Network) where
   -- an end waits no longer for an answer that hasn't come: a timer far longer than T2 ran out, or an operator says so
   pub record ReleasesBar : Type 0 where
@@ -93,7 +97,8 @@ module _ (shape : Shape) (read : Message → Saying) (p q : Network) where
     pub awaited : (line_at p place).near.awaited ≡ true
     pub after : Breaks shape p q place (with_wait (line_at p place) false) (node_at shape p place)
 
-  -- an order has a number that no count has: its changeover is complete without one (Q.704 §5.6)
+  -- an order has a number that no count has: its changeover is complete without one (Q.704 §5.6). What notices of loss
+  -- name then doesn't matter, since the node is broken
   pub record HearsUnreasonableOrder : Type 0 where
     pub place : Place
     pub number : ℕ
@@ -105,9 +110,10 @@ module _ (shape : Shape) (read : Message → Saying) (p q : Network) where
     pub unreasonable : named_count (line_at p place).near.queue number ≡ None
     pub answer : Message
     pub answers : read answer ≡ Answer place.link place.side (final_number (line_at p place))
+    pub named : List Message
     pub after : Breaks shape p q place
         (with_completion (line_at p place) Gone (line_at p place).near.awaited)
-        (without_unconfirmed (record (node_at shape p place) { bag = answer ∷ rest }) (line_at p place).near.queue)
+        (without_sent (record (node_at shape p place) { bag = answer ∷ rest }) (line_at p place).near.queue named)
 
   -- an answer has such a number
   pub record HearsUnreasonableAnswer : Type 0 where
@@ -120,9 +126,10 @@ module _ (shape : Shape) (read : Message → Saying) (p q : Network) where
     pub awaited : (line_at p place).near.awaited ≡ true
     pub incomplete : (line_at p place).near.incomplete ≡ true
     pub unreasonable : named_count (line_at p place).near.queue number ≡ None
+    pub named : List Message
     pub after : Breaks shape p q place
         (with_completion (line_at p place) Gone false)
-        (without_unconfirmed (record (node_at shape p place) { bag = rest }) (line_at p place).near.queue)
+        (without_sent (record (node_at shape p place) { bag = rest }) (line_at p place).near.queue named)
 
   -- a node starts again, if it may: whatever it and the ends of its links become, nothing else changes
   pub record StartsAgain : Type 0 where
