@@ -39,21 +39,21 @@ module _ (shape : Shape) (o : IsShape shape) (c : Configuration) (well : IsWell 
 
   pub record GoesIf (P : Network → Type 0) (v w : Mid) : Type 0 where
     pub unbroken : is_broken shape w ≡ 0 → is_broken shape v ≡ 0
-    pub goes : is_broken shape w ≡ 0 → (p : Network) → IsAt shape p → Shows c p v → P p → Arrives shape c p w
+    pub goes : (p : Network) → IsAt shape c p → Shows c p v → P p → Arrives shape c p w
 
   pub record KIf (link : ℕ) (n m : Node WholeQueues) : Type 0 where
     pub each : (a l : List Message) (k : Books) → GoesIf (HeardAt link) (mid n a l k) (mid m a l k)
 
   pub if-so : (link : ℕ) (n m : Node WholeQueues) → K shape o c well n m → KIf link n m
-  if-so link n m e = record { each = λ a l k. record { unbroken = (e.each a l k).unbroken; goes = λ none p h s heard. (e.each a l k).goes none p h s } }
+  if-so link n m e = record { each = λ a l k. record { unbroken = (e.each a l k).unbroken; goes = λ p h s heard. (e.each a l k).goes p h s } }
 
   pub if-then : (link : ℕ) (n m q : Node WholeQueues) → KIf link n m → K shape o c well m q → KIf link n q
   if-then link n m q e f = record {
     each = λ a l k. record {
       unbroken = λ none. (e.each a l k).unbroken ((f.each a l k).unbroken none);
-      goes = λ none p h s heard.
-          let first : Arrives shape c p (mid m a l k) = (e.each a l k).goes ((f.each a l k).unbroken none) p h s heard in
-          arrives-both shape c p (mid m a l k) (mid q a l k) first ((f.each a l k).goes none _ (at-last shape c p (mid m a l k) first h) first.shows);
+      goes = λ p h s heard.
+          let first : Arrives shape c p (mid m a l k) = (e.each a l k).goes p h s heard in
+          arrives-both shape c p (mid m a l k) (mid q a l k) (f.each a l k).unbroken first ((f.each a l k).goes _ (at-last shape c p (mid m a l k) first h) first.shows);
     };
   }
 
@@ -80,7 +80,7 @@ module _ (shape : Shape) (o : IsShape shape) (c : Configuration) (well : IsWell 
     stepping = with_parts n (step_on c link step n.parts)
 
     its : HasParts n stepping (links_with n.parts link next) n.parts.changeovers
-    its = record { queues = refl; links = refl; changeovers = refl; lost = refl; broken = refl }
+    its = record { queues = refl; links = refl; changeovers = refl; lost = refl; marks = refl }
 
     was-up : down n.parts link ≡ false
     was-up = goes-up (link_at n.parts link).period (link_at n.parts link).alignment input step e
@@ -115,7 +115,7 @@ module _ (shape : Shape) (o : IsShape shape) (c : Configuration) (well : IsWell 
     steps-by before after f g = record {
       each = λ a l k. record {
         unbroken = λ none. none;
-        goes = λ none p h s heard. by before after f g a l k p h s heard;
+        goes = λ p h s heard. by before after f g a l k p h s heard;
       };
     }
       where
@@ -126,7 +126,7 @@ module _ (shape : Shape) (o : IsShape shape) (c : Configuration) (well : IsWell 
             arrives-here shape c p (mid stepping a l k) (shows-by-end p n stepping link a l k s (link-but c n stepping link next quiet its) (there s.sized)
             (shown-so near s.sized x near refl refl refl (x.serving ∙ same) refl refl heard))
 
-        by : (before after : Bool) → in_service n.parts link ≡ before → is_in_service step.state ≡ after → (a l : List Message) (k : Books) (p : Network) → IsAt shape p → Shows c p (mid n a l k) → HeardAt link p
+        by : (before after : Bool) → in_service n.parts link ≡ before → is_in_service step.state ≡ after → (a l : List Message) (k : Books) (p : Network) → IsAt shape c p → Shows c p (mid n a l k) → HeardAt link p
             → Arrives shape c p (mid stepping a l k)
         by true true f g a l k p h s heard = stay a l k p s heard (f ∙ sym g)
         by false false f g a l k p h s heard = stay a l k p s heard (f ∙ sym g)
@@ -166,7 +166,7 @@ module _ (shape : Shape) (o : IsShape shape) (c : Configuration) (well : IsWell 
     advance-goes heard = record {
       each = λ a l k. record {
         unbroken = (advance-if.each a l k).unbroken;
-        goes = λ none p h s. (advance-if.each a l k).goes none p h s ((s.ends link (there s.sized)).heard heard);
+        goes = λ p h s. (advance-if.each a l k).goes p h s ((s.ends link (there s.sized)).heard heard);
       };
     }
 

@@ -1,5 +1,5 @@
 -- What becomes of a message that came or was handed over, and what it brings in: by moves.
-use Rattle.node_moves.proofs.Basics.{◌≡◌, ℕ, Bool, true, false, ◌≤◌, List, [], ◌∷◌, ◌++◌, length, Option, Some, None, Result, Ok, Err, nat_eq, nat_lt, refl, ap, sym, subst, ◌∙◌, arith, nat_tests, if◌then◌else◌, append-nil}
+use Rattle.node_moves.proofs.Basics.{◌≡◌, ℕ, Bool, true, false, ◌≤◌, List, [], ◌∷◌, ◌++◌, length, Option, Some, None, inl, Result, Ok, Err, nat_eq, nat_lt, refl, ap, sym, subst, ◌∙◌, arith, nat_tests, if◌then◌else◌, append-nil}
 use Rattle.node_moves.proofs.Machine.{Shape, Other}
 use Rattle.node_moves.proofs.Definitions.{Message, flow_of, opc_of, dpc_of, is_management, service_indicator, Configuration, IsWell, Node, Done, WholeQueues, whole, with_parts, answer, refuse, in_service, waits, link_of, SIF_OCTETS, Management, MgmtFault, read_management}
 use Rattle.node_moves.proofs.Reading.{IsShape, says_of, says-user, is_long, order_at, answer_at, never}
@@ -63,7 +63,7 @@ module _ (shape : Shape) (o : IsShape shape) (c : Configuration) (well : IsWell 
   offered None false None from n m a l k e =
       none-more _ _ a l k (then-own _ n _ a l k (drops shape o c well n m a l k) (no_route-goes shape o c well from (destination_place c (dpc_of m)) n))
   offered None false (Some link) from n m a l k e =
-      goes-both shape c _ _ _ (accepts shape o c well n m a l k) (places shape o c well n link m a l (accepting k (m ∷ [])) (chosen_serves c n.parts (flow_of m) link e))
+      goes-both shape c _ _ _ (accepts shape o c well n m a l k) (places shape o c well n link m a l (accepting k (m ∷ [])) (chosen_serves c n.parts (flow_of m) link e) (inl e))
 
   pub transferred : (from : Option ℕ) (n : Node WholeQueues) (m : Message) (a l : List Message) (k : Books)
       → Goes shape c (mid n (m ∷ a) l k) (mid (transfer whole c from m n).left a l (accepting k (taken_in (transfer whole c from m n).outcome m)))
@@ -215,7 +215,7 @@ module _ (shape : Shape) (o : IsShape shape) (c : Configuration) (well : IsWell 
 
     -- what is never under way
     never-goes : (left : Node WholeQueues) → (left.parts.times_broken ≡ 0 → n.parts.times_broken ≡ 0) → says_of m ≡ never → from_it left
-    never-goes left f e = record { unbroken = f; goes = λ none p h s. absurd (never-arrived shape o c well p n m a l k h s e) }
+    never-goes left f e = record { unbroken = f; goes = λ p h s. absurd (never-arrived shape o c well p n m a l k h s e) }
 
     unordered : (link : Option ℕ) → (do_order whole c link None n).left.parts.times_broken ≡ 0 → n.parts.times_broken ≡ 0
     unordered (Some link) none = order-unbroken shape o c well link None n none

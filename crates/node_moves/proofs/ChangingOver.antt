@@ -1,17 +1,19 @@
 -- The rules of a changeover go by moves: an order that is heard, an answer, a timer, and orders that go out late.
-use Rattle.node_moves.proofs.Basics.{◌≡◌, ℕ, Bool, true, false, not, ◌&&◌, ◌+◌, ◌≤◌, ◌<◌, List, [], ◌∷◌, ◌++◌, length, Option, Some, None, min, refl, ap, sym, subst, ◌∙◌, arith, if◌then◌else◌, get_or-set_same, get_or_past, length-set, ⊎_elim, cases_lt, is_some}
-use Rattle.node_moves.proofs.Machine.{is_user_message, Shape}
+use Rattle.node_moves.proofs.Basics.{◌≡◌, ℕ, Bool, true, false, not, ◌&&◌, ◌+◌, ◌≤◌, ◌<◌, List, [], ◌∷◌, ◌++◌, length, Option, Some, None, min, refl, ap, sym, subst, ◌∙◌, arith, if◌then◌else◌, get_or-set_same, get_or_past, length-set, slice_index_or, ⊎_elim, cases_lt, is_some}
+use Rattle.std.proofs.lemmas.List.{set-set}
+use Rattle.node_moves.proofs.Machine.{is_user_message, line_at, Shape}
 use Rattle.node_moves.proofs.Definitions.{Message, flow_of, is_management, Configuration, IsWell, Node, WholeQueues, Parts, whole, with_parts, answer, queue_at, link_at, links_with, is_link, in_service, down, changeover_of, with_changeover, link_of, no_room, Queue, first_queue, appended, last_accepted, Standing, no_changeover, Link, down_link, is_down}
 use Rattle.node_moves.proofs.Reading.{IsShape, says_of, says-managing, order_at, answer_at, across}
-use Rattle.node_moves.proofs.Shown.{Books, no_books, naming, Mid, most, place}
-use Rattle.node_moves.proofs.Going.{Goes, goes-none, goes-both, is_broken}
+use Rattle.node_moves.proofs.Shown.{Books, no_books, naming, marks_of, most, place, shown-alike}
+use Rattle.node_moves.proofs.Going.{Goes, goes-none, goes-both, arrives-here, is_broken}
 use Rattle.node_moves.proofs.Handling.{mid, drops}
-use Rattle.node_moves.proofs.Own.{K, Names, named-besides, both, stays, alike, aside, sends-loose}
+use Rattle.node_moves.proofs.Own.{K, Names, named-besides, named-after, both, stays, alike, aside, sends-loose}
 use Rattle.node_moves.proofs.Failures.{answer-says, number-fits, orders, order-says}
 use Rattle.node_moves.proofs.Failing.{HasParts, gone-parts, by_order-goes, standing-but, standing-is}
-use Rattle.node_moves.proofs.Losing.{Loses, counts-each, concluded-loses, concluded-lost, concluded-right, unless-broken}
-use Rattle.node_moves.proofs.Completing.{HasEnded, answer_of, begun-listed, completes-by-order, completes-by-answer, completes-by-time, answers-order, ends-wait}
-use Rattle.changeover.specs.Changeover.{users_of, managements_of, behind, accepted_count, in_doubt, completed, acknowledged, expired, stays_awaited, with_standing, is_unasked, with_order}
+use Rattle.node_moves.proofs.Losing.{Leaves, counts-each, concluded-leaves, concluded-lost, concluded-wrong, concluded-right, unless-broken}
+use Rattle.node_moves.proofs.Completing.{HasEnded, answer_of, begun-listed, breaks-by-order, breaks-by-answer, ends-bar, completes-by-order, completes-by-answer, completes-by-time, answers-order, ends-wait}
+use Rattle.exchange_rules.proofs.Steps.{ways_of}
+use Rattle.changeover.specs.Changeover.{is_barred, users_of, managements_of, behind, accepted_count, in_doubt, completed, acknowledged, expired, stays_awaited, with_standing, is_unasked, with_order}
 use Rattle.exchange_rules.proofs.Lists.{alike-at}
 use Rattle.exchange_rules.specs.ChangingOver.{send_each, conclude, concluded, complete_if, fail_by_order, fail_by_peer, begin_by_peer, make_unavailable, bar, barred, acknowledge_changeover, on_changeover_order, on_changeover_acknowledgement, with_changeover_acknowledged, on_changeover_timer, with_expiry, bars, changeover_acknowledgement, changeover_order, unbarred, is_late, has_way, asking, order_late, lose_each}
 unfoldable use Rattle.exchange_rules.specs.ChangingOver.{order_each}
@@ -97,11 +99,11 @@ module _ (shape : Shape) (o : IsShape shape) (c : Configuration) (well : IsWell 
   abbrev done_by : Node WholeQueues → (number : Option ℕ) → Parts → Node WholeQueues
   done_by n number p = record { queues = whole.completed n.queues link number; parts = concluded link (whole.found n.queues link number) p }
 
-  ended-by : (n : Node WholeQueues) (number : Option ℕ) (s : Standing) (p : Parts) → p.links ≡ n.parts.links → p.changeovers ≡ with_standing n.parts.changeovers link s → s.incomplete ≡ false
-      → (whole.found n.queues link number).is_wrong ≡ false → HasEnded n (done_by n number p) link number s
-  ended-by n number s p links changeovers complete right =
-      let l : Loses p (concluded link (whole.found n.queues link number) p) = concluded-loses link (whole.found n.queues link number) p right in
-      record { queues = refl; links = l.links ∙ links; changeovers = l.changeovers ∙ changeovers; complete = complete }
+  ended-by : (n : Node WholeQueues) (number : Option ℕ) (s : Standing) (p : Parts) → p.links ≡ n.parts.links → p.changeovers ≡ with_standing n.parts.changeovers link s → p.routes ≡ n.parts.routes → s.incomplete ≡ false
+      → HasEnded n (done_by n number p) link number s
+  ended-by n number s p links changeovers routes complete =
+      let l : Leaves p (concluded link (whole.found n.queues link number) p) = concluded-leaves link (whole.found n.queues link number) p in
+      record { queues = refl; links = l.links ∙ links; changeovers = l.changeovers ∙ changeovers; routes = l.routes ∙ routes; complete = complete }
 
   same-lost : (n : Node WholeQueues) (number count : ℕ) (p : Parts) → accepted_count (queue_at n.queues link) (Some number) ≡ Some count → p.messages_lost ≡ n.parts.messages_lost
       → (done_by n (Some number) p).parts.messages_lost ≡ n.parts.messages_lost
@@ -110,15 +112,16 @@ module _ (shape : Shape) (o : IsShape shape) (c : Configuration) (well : IsWell 
       ∙ ap (λ (x : Option ℕ). (lose_each (users_of (in_doubt (queue_at n.queues link) x)) p).messages_lost) found
       ∙ lost
 
-  right-so : (n : Node WholeQueues) (number count : ℕ) → accepted_count (queue_at n.queues link) (Some number) ≡ Some count → (whole.found n.queues link (Some number)).is_wrong ≡ false
-  right-so n number count found = ap (λ (x : Option ℕ). not (is_some x) && true) found
+  -- as many losses are counted at least
+  more-lost : (n : Node WholeQueues) (number : Option ℕ) (p : Parts) → p.messages_lost ≡ n.parts.messages_lost → (x : ℕ) → min x most ≤ n.parts.messages_lost → min x most ≤ (done_by n number p).parts.messages_lost
+  more-lost n number p same x h =
+      let found : Found = whole.found n.queues link number in
+      let all : min (length found.lost + x) most ≤ (lose_each found.lost p).messages_lost = counts-each found.lost p x (subst (λ (t : ℕ). min x most ≤ t) (sym same) h) in
+      let is : (done_by n number p).parts.messages_lost ≡ (lose_each found.lost p).messages_lost = concluded-lost link found p in
+      omega (arith, all, is)
 
   wrong-so : (n : Node WholeQueues) (number : ℕ) → accepted_count (queue_at n.queues link) (Some number) ≡ None → (whole.found n.queues link (Some number)).is_wrong ≡ true
   wrong-so n number found = ap (λ (x : Option ℕ). not (is_some x) && true) found
-
-  -- what goes on where a node would be broken before that
-  broken-before : (v w : Mid) → (is_broken shape w ≡ 0 → is_broken shape v ≡ 0) → (is_broken shape w ≡ 0 → ⊥) → Goes shape c v w
-  broken-before v w f none = record { unbroken = f; goes = λ e. absurd (none e) }
 
   completing-order : (n : Node WholeQueues) (number : ℕ) (word : Message) (a l : List Message) (k : Books) → says_of word ≡ order_at (across (place c link)) number → (changeover_of n.parts link).incomplete ≡ true
       → Goes shape c (mid n (word ∷ a) l k) (mid (conclude whole c (whole.found n.queues link (Some number)) link (Some number) (counted n (completed (changeover_of n.parts link)))) a (answer_of shape o c well link n ∷ l) k)
@@ -147,13 +150,12 @@ module _ (shape : Shape) (o : IsShape shape) (c : Configuration) (well : IsWell 
       by : (x : Option ℕ) → accepted_count (queue_at n.queues link) (Some number) ≡ x → Goes shape c (mid n (word ∷ a) l k) (mid after a (answer_of shape o c well link n ∷ l) k)
       by (Some count) found =
           goes-both shape c _ _ _
-          (completes-by-order shape o c well link n done number count s word (ended-by n (Some number) s p refl refl refl (right-so n number count found)) found (same-lost n number count p found refl) unbroken begun a l k says refl)
+          (completes-by-order shape o c well link n done number count s word (ended-by n (Some number) s p refl refl refl refl) found (same-lost n number count p found refl) unbroken begun a l k says refl)
           rest
       by None found =
           goes-both shape c _ _ _
-          (broken-before _ _ unbroken (λ none.
-          let no : true ≡ false = sym (wrong-so n number found) ∙ (concluded-right link (whole.found n.queues link (Some number)) p none).0 in
-          absurd cc))
+          (breaks-by-order shape o c well link n done number s word (ended-by n (Some number) s p refl refl refl refl) found (more-lost n (Some number) p refl)
+          (concluded-wrong link (whole.found n.queues link (Some number)) p (wrong-so n number found)) begun a l k says refl)
           rest
 
   -- a standing that is complete already
@@ -168,9 +170,9 @@ module _ (shape : Shape) (o : IsShape shape) (c : Configuration) (well : IsWell 
       alignment = refl;
       standing = alike-at (λ (t : Standing). t) n.parts.changeovers link other s no_changeover e;
     };
-    sized = λ z. record { links = z.links; queues = z.queues; changeovers = length-set n.parts.changeovers link s ∙ z.changeovers; silent = z.silent };
+    sized = λ z. record { links = z.links; queues = z.queues; changeovers = length-set n.parts.changeovers link s ∙ z.changeovers; silent = z.silent; ways = z.ways };
     lost = refl;
-    broken = refl;
+    marks = refl;
   })
 
   -- ---- the other end orders a changeover
@@ -235,21 +237,20 @@ module _ (shape : Shape) (o : IsShape shape) (c : Configuration) (well : IsWell 
       by : (x : Option ℕ) → accepted_count (queue_at n.queues link) (Some number) ≡ x → Goes shape c (mid n (word ∷ a) l k) (mid after a l k)
       by (Some count) found =
           goes-both shape c _ _ _
-          (completes-by-answer shape o c well link n done number count s word (ended-by n (Some number) s (answered_parts n) refl refl refl (right-so n number count found)) found
+          (completes-by-answer shape o c well link n done number count s word (ended-by n (Some number) s (answered_parts n) refl refl refl refl) found
           (same-lost n number count (answered_parts n) found refl) unbroken begun a l k says awaited refl)
           rest
       by None found =
           goes-both shape c _ _ _
-          (broken-before _ _ unbroken (λ none.
-          let no : true ≡ false = sym (wrong-so n number found) ∙ (concluded-right link (whole.found n.queues link (Some number)) (answered_parts n) none).0 in
-          absurd cc))
+          (breaks-by-answer shape o c well link n done number s word (ended-by n (Some number) s (answered_parts n) refl refl refl refl) found (more-lost n (Some number) (answered_parts n) refl)
+          (concluded-wrong link (whole.found n.queues link (Some number)) (answered_parts n) (wrong-so n number found)) begun a l k says awaited refl)
           rest
 
   awaited-by : (begun : Bool) (n : Node WholeQueues) (number : ℕ) (word : Message) (a l : List Message) (k : Books) → says_of word ≡ answer_at (across (place c link)) number → (changeover_of n.parts link).awaited ≡ true
       → (changeover_of n.parts link).incomplete ≡ begun → Goes shape c (mid n (word ∷ a) l k) (mid (complete_if whole c begun link (Some number) (with_parts n (answered_parts n))) a l k)
   awaited-by true n number word a l k says awaited e = completing-answer n number word a l k says awaited e
   awaited-by false n number word a l k says awaited e =
-      ends-wait shape o c well link n (with_parts n (answered_parts n)) number (acknowledged (changeover_of n.parts link)) word a l k (record { queues = refl; links = refl; changeovers = refl; lost = refl; broken = refl })
+      ends-wait shape o c well link n (with_parts n (answered_parts n)) number (acknowledged (changeover_of n.parts link)) word a l k (record { queues = refl; links = refl; changeovers = refl; lost = refl; marks = refl })
       refl refl says awaited e
 
   heard-by : (awaited : Bool) (n : Node WholeQueues) (number : ℕ) (word : Message) (a l : List Message) (k : Books) → says_of word ≡ answer_at (across (place c link)) number → (changeover_of n.parts link).awaited ≡ awaited
@@ -265,18 +266,13 @@ module _ (shape : Shape) (o : IsShape shape) (c : Configuration) (well : IsWell 
   -- ---- a timer of the changeover runs out
 
   -- without a number
-  timed-out : (n : Node WholeQueues) (s : Standing) (p : Parts) → p.links ≡ n.parts.links → p.changeovers ≡ with_standing n.parts.changeovers link s → p.messages_lost ≡ n.parts.messages_lost
-      → (p.times_broken ≡ 0 → n.parts.times_broken ≡ 0) → (changeover_of n.parts link).incomplete ≡ true → s.incomplete ≡ false → (p.times_broken ≡ 0 → s.awaited ≡ (changeover_of n.parts link).awaited)
+  timed-out : (n : Node WholeQueues) (s : Standing) (p : Parts) → p.links ≡ n.parts.links → p.changeovers ≡ with_standing n.parts.changeovers link s → p.routes ≡ n.parts.routes → p.messages_lost ≡ n.parts.messages_lost
+      → (p.times_broken ≡ 0 → n.parts.times_broken ≡ 0) → (changeover_of n.parts link).incomplete ≡ true → s.incomplete ≡ false → s.awaited ≡ (changeover_of n.parts link).awaited
       → Names shape o c well n (conclude whole c (whole.found n.queues link None) link None (with_parts n p)) (whole.found n.queues link None).lost
-  timed-out n s p links changeovers lost broken begun complete waits = record {
-    each = λ a l k. record {
-      unbroken = λ none. before ((every a l k).unbroken none);
-      goes = λ none q h z.
-          let right : p.times_broken ≡ 0 = (concluded-right link found p ((every a l k).unbroken none)).1 in
-          (goes-both shape c _ _ _
-          (completes-by-time shape o c well link n done s a l k (ended-by n None s p links changeovers complete refl) begun (waits right) counts before)
-          (every a l (naming k found.lost))).goes none q h z;
-    };
+  timed-out n s p links changeovers routes lost broken begun complete waits = record {
+    each = λ a l k. goes-both shape c _ _ _
+        (completes-by-time shape o c well link n done s a l k (ended-by n None s p links changeovers routes complete) begun waits counts before)
+        (every a l (naming k found.lost));
   }
     where
       found : Found
@@ -296,15 +292,15 @@ module _ (shape : Shape) (o : IsShape shape) (c : Configuration) (well : IsWell 
 
   -- with nothing to complete
   timed-aside : (n : Node WholeQueues) (s : Standing) (p : Parts) → p.links ≡ n.parts.links → p.changeovers ≡ with_standing n.parts.changeovers link s → p.messages_lost ≡ n.parts.messages_lost
-      → p.times_broken ≡ n.parts.times_broken → s ≡ changeover_of n.parts link → K shape o c well n (with_parts n p)
-  timed-aside n s p links changeovers lost broken same =
-      both shape o c well n (counted n s) _ (standing-alike n s same) (aside shape o c well (counted n s) p links changeovers lost broken)
+      → marks_of p ≡ marks_of n.parts → s ≡ changeover_of n.parts link → K shape o c well n (with_parts n p)
+  timed-aside n s p links changeovers lost marks same =
+      both shape o c well n (counted n s) _ (standing-alike n s same) (aside shape o c well (counted n s) p links changeovers lost marks)
 
   abbrev expiring : ChangeoverTimer → Node WholeQueues → Parts
   expiring timer n = with_expiry c timer link (barred c link n.parts)
 
   first-by : (begun : Bool) (n : Node WholeQueues) → (changeover_of n.parts link).incomplete ≡ begun → Names shape o c well n (complete_if whole c begun link None (with_parts n (expiring which.T1 n))) (gone_by_completion begun link None n.queues).lost
-  first-by true n e = timed-out n (completed (changeover_of n.parts link)) (expiring which.T1 n) refl refl refl (λ none. none) e refl (λ none. refl)
+  first-by true n e = timed-out n (completed (changeover_of n.parts link)) (expiring which.T1 n) refl refl refl refl (λ none. none) e refl refl
   first-by false n e = named-besides shape o c well n _ [] (timed-aside n (completed (changeover_of n.parts link)) (expiring which.T1 n) refl refl refl refl (complete-same (changeover_of n.parts link) e))
 
   -- T2 that ends the wait breaks the node
@@ -322,20 +318,91 @@ module _ (shape : Shape) (o : IsShape shape) (c : Configuration) (well : IsWell 
   second-complete true s = refl
   second-complete false s = refl
 
-  second-by : (begun : Bool) (n : Node WholeQueues) → (changeover_of n.parts link).incomplete ≡ begun → Names shape o c well n (complete_if whole c begun link None (with_parts n (expiring which.T2 n))) (gone_by_completion begun link None n.queues).lost
-  second-by true n e =
-      timed-out n (expired (bars c) which.T2 (changeover_of n.parts link)) (expiring which.T2 n) refl refl refl (λ none. (stays-so n none).1) e
-      (second-complete (stays_awaited (bars c) (changeover_of n.parts link)) (changeover_of n.parts link))
-      (λ none. ap (λ (b : Bool). (if b then completed (changeover_of n.parts link) else acknowledged (changeover_of n.parts link)).awaited) (stays-so n none).0)
-  second-by false n e = record {
-    each = λ a l k. broken-before _ _ (λ none. (stays-so n none).1) (λ none.
-        let no : (bars c && false) ≡ true = ap (λ (b : Bool). bars c && b) (sym e) ∙ (stays-so n none).0 in
-        never-both (bars c) no);
+  -- the node counts that it is broken
+  abbrev raised : Node WholeQueues → Node WholeQueues
+  raised n = with_parts n (record n.parts { times_broken = once_more n.parts.times_broken })
+
+  raised-none : (n : Node WholeQueues) → (raised n).parts.times_broken ≡ 0 → ⊥
+  raised-none n none = (let again : once_more n.parts.times_broken ≡ 0 = none in absurd (omega (arith, again)))
+
+  raises : (n : Node WholeQueues) → K shape o c well n (raised n)
+  raises n = record {
+    each = λ a l k. record {
+      unbroken = λ none. absurd (raised-none n none);
+      goes = λ p h s. arrives-here shape c p (mid (raised n) a l k) (record {
+        sized = record { links = s.sized.links; queues = s.sized.queues; changeovers = s.sized.changeovers; silent = s.sized.silent; ways = s.sized.ways };
+        ends = λ other there. shown-alike n (raised n) other (line_at p (place c other)).near (record { queue = refl; alignment = refl; standing = refl }) (s.ends other there);
+        booked = record { bag = s.booked.bag; accepted = s.booked.accepted; named = s.booked.named; within = s.booked.within };
+      });
+    };
   }
+
+  standing-same : (s t : Standing) → s.incomplete ≡ t.incomplete → s.awaited ≡ t.awaited → s ≡ t
+  standing-same s t e f = ap (λ (b : Bool). record { incomplete = b; awaited = s.awaited }) e ∙ ap (λ (b : Bool). record { incomplete = t.incomplete; awaited = b }) f
+
+  -- and awaits no answer any more
+  abbrev freed_by : Node WholeQueues → Standing → Node WholeQueues
+  freed_by n t = counted (raised n) t
+
+  frees-by : (awaited : Bool) (n : Node WholeQueues) (t : Standing) → (changeover_of n.parts link).awaited ≡ awaited → t.incomplete ≡ (changeover_of n.parts link).incomplete → t.awaited ≡ false → K shape o c well n (freed_by n t)
+  frees-by true n t e same ended =
+      both shape o c well n (raised n) (freed_by n t) (raises n)
+      (ends-bar shape o c well link (raised n) (freed_by n t) t (record { queues = refl; links = refl; changeovers = refl; lost = refl; marks = refl }) (raised-none n) e same ended)
+  frees-by false n t e same ended =
+      both shape o c well n (raised n) (freed_by n t) (raises n) (standing-alike (raised n) t (standing-same t (changeover_of n.parts link) same (ended ∙ sym e)))
+
+  -- a standing that awaits nothing
+  unawaited-at : (xs : List Standing) (t : Standing) → t.awaited ≡ false → (slice_index_or (with_standing xs link t) link no_changeover).awaited ≡ false
+  unawaited-at xs t ended =
+      ⊎_elim
+      (λ (there : link < length xs). ap (λ (s : Standing). s.awaited) (get_or-set_same xs link t no_changeover there) ∙ ended)
+      (λ (past : length xs ≤ link). ap (λ (s : Standing). s.awaited) (get_or_past (with_standing xs link t) link no_changeover (omega (arith, past, length-set xs link t))))
+      (cases_lt link (length xs))
+
+  -- T2 ends the wait, unless the settings bar the link
+  abbrev expired_by : Bool → Standing → Standing
+  expired_by stays s = if stays then completed s else acknowledged s
+
+  second-by : (begun : Bool) (n : Node WholeQueues) → (changeover_of n.parts link).incomplete ≡ begun → Names shape o c well n (complete_if whole c begun link None (with_parts n (expiring which.T2 n))) (gone_by_completion begun link None n.queues).lost
+  second-by true n e = by (stays_awaited (bars c) (changeover_of n.parts link)) refl
     where
-      never-both : (b : Bool) → (b && false) ≡ true → ⊥
-      never-both true f = absurd cc
-      never-both false f = absurd cc
+      was : Standing
+      was = changeover_of n.parts link
+
+      p : Parts
+      p = expiring which.T2 n
+
+      s : Standing
+      s = expired (bars c) which.T2 was
+
+      complete : s.incomplete ≡ false
+      complete = second-complete (stays_awaited (bars c) was) was
+
+      by : (b : Bool) → stays_awaited (bars c) was ≡ b → Names shape o c well n (conclude whole c (whole.found n.queues link None) link None (with_parts n p)) (whole.found n.queues link None).lost
+      by true f = timed-out n s p refl refl refl refl (λ none. (stays-so n none).1) e complete (ap (λ (b : Bool). (expired_by b was).awaited) f)
+      by false f =
+          let t : Standing = record { incomplete = was.incomplete; awaited = false } in
+          let free : Node WholeQueues = freed_by n t in
+          let ended : p.times_broken ≡ 0 → free.parts.times_broken ≡ 0 =
+          λ none. (let no : true ≡ false = sym (stays-so n none).0 ∙ f in absurd cc) in
+          named-after shape o c well n free _ (whole.found n.queues link None).lost (frees-by was.awaited n t refl refl refl)
+          (timed-out free s p refl (sym (set-set n.parts.changeovers link t s)) refl refl ended
+          (alike-at (λ (u : Standing). u.incomplete) n.parts.changeovers link link t no_changeover refl ∙ e) complete
+          (ap (λ (b : Bool). (expired_by b was).awaited) f ∙ sym (unawaited-at n.parts.changeovers t refl)))
+  second-by false n e =
+      let was : Standing = changeover_of n.parts link in
+      let s : Standing = expired (bars c) which.T2 was in
+      let f : stays_awaited (bars c) was ≡ false = ap (λ (b : Bool). bars c && b) e ∙ and-false (bars c) in
+      let free : Node WholeQueues = freed_by n s in
+      named-besides shape o c well n _ []
+      (both shape o c well n free _
+      (frees-by was.awaited n s refl (second-complete (stays_awaited (bars c) was) was ∙ sym e) (ap (λ (b : Bool). (expired_by b was).awaited) f))
+      (aside shape o c well free (expiring which.T2 n) refl refl refl
+      (ap (λ (b : Bool). record { broken = if not b then once_more n.parts.times_broken else n.parts.times_broken; ways = ways_of n.parts.routes }) f)))
+    where
+      and-false : (b : Bool) → (b && false) ≡ false
+      and-false true = refl
+      and-false false = refl
 
   expired-by : (timer : ChangeoverTimer) (n : Node WholeQueues) → Names shape o c well n (complete_if whole c (changeover_of n.parts link).incomplete link None (with_parts n (expiring timer n))) (gone_by_completion (changeover_of n.parts link).incomplete link None n.queues).lost
   expired-by which.T1 n = first-by (changeover_of n.parts link).incomplete n refl
@@ -353,11 +420,19 @@ module _ (shape : Shape) (o : IsShape shape) (c : Configuration) (well : IsWell 
 
   -- ---- the operator releases the bar: this breaks the node
 
-  pub unbarred-goes : (n : Node WholeQueues) → K shape o c well n (with_parts n (unbarred link n.parts))
-  unbarred-goes n = record { each = λ a l k. broken-before _ _ (λ none. absurd (raised none)) (λ none. raised none) }
+  barred-so : (s : Standing) → is_barred s ≡ true → (s.incomplete ≡ false) × (s.awaited ≡ true)
+  barred-so s e = by s.incomplete s.awaited e
     where
-      raised : (unbarred link n.parts).times_broken ≡ 0 → ⊥
-      raised none = (let again : once_more n.parts.times_broken ≡ 0 = none in absurd (omega (arith, again)))
+      by : (a b : Bool) → (not a && b) ≡ true → (a ≡ false) × (b ≡ true)
+      by true b f = absurd cc
+      by false true f = (refl, refl)
+      by false false f = absurd cc
+
+  pub unbarred-goes : (n : Node WholeQueues) → is_barred (changeover_of n.parts link) ≡ true → K shape o c well n (with_parts n (unbarred link n.parts))
+  unbarred-goes n e =
+      let is : ((changeover_of n.parts link).incomplete ≡ false) × ((changeover_of n.parts link).awaited ≡ true) = barred-so (changeover_of n.parts link) e in
+      let free : Node WholeQueues = freed_by n (acknowledged (changeover_of n.parts link)) in
+      both shape o c well n free _ (frees-by true n (acknowledged (changeover_of n.parts link)) is.1 (sym is.0) refl) (aside shape o c well free (unbarred link n.parts) refl refl refl refl)
 
   -- ---- an order goes out late
 
@@ -379,7 +454,7 @@ module _ (shape : Shape) (o : IsShape shape) (c : Configuration) (well : IsWell 
       let m : Node WholeQueues = with_parts n (asking c link n.parts) in
       let order : Message = changeover_order c link (last_accepted (queue_at n.queues link)) in
       let is : (s.incomplete ≡ true) × (s.awaited ≡ false) = unasked s (first-of (is_unasked s) (has_way c link n.parts) late) in
-      let h : HasParts n m n.parts.links (with_standing n.parts.changeovers link (with_order s)) = record { queues = refl; links = refl; changeovers = refl; lost = refl; broken = refl } in
+      let h : HasParts n m n.parts.links (with_standing n.parts.changeovers link (with_order s)) = record { queues = refl; links = refl; changeovers = refl; lost = refl; marks = refl } in
       record {
         each = λ a l k.
             goes-both shape c _ _ _

@@ -5,6 +5,7 @@ use Rattle.node_moves.proofs.Definitions.{Message, Configuration, IsWell, Node, 
 use Rattle.node_moves.proofs.Reading.{IsShape, says_of}
 use Rattle.node_moves.proofs.Shown.{Books, no_books, Mid, Shows, IsShown, IsAlike, IsSized, IsSilent, IsBooked, is_heard, shown_in, users_that, any_message, most, link-inside, own-inside}
 use Rattle.node_moves.proofs.Going.{IsAt, is_broken}
+use Rattle.exchange_rules.proofs.Steps.{ways_of}
 use Rattle.node_moves.proofs.Handling.{mid, same-ends, end-at, live-queue}
 use Rattle.node_moves.proofs.Failures.{node-there}
 use Rattle.node_moves.proofs.World.{IsFlown, AreData, AreStatuses, ShownAt, place_at}
@@ -150,12 +151,13 @@ module _ (settings : (point : ℕ) → Configuration) (t : AreTheirs settings) (
   record SameParts (p q : Parts) : Type 0 where
     size : length q.links ≡ length p.links
     changeovers : q.changeovers ≡ p.changeovers
+    routes : q.routes ≡ p.routes
     lost : q.messages_lost ≡ p.messages_lost
     broken : q.times_broken ≡ p.times_broken
 
   owed-parts : (message : Option Message) (p : Parts) → SameParts p (owing link message p)
-  owed-parts None p = record { size = refl; changeovers = refl; lost = refl; broken = refl }
-  owed-parts (Some m) p = record { size = length-set p.links link (record (link_at p link) { acknowledgement_owed = true }); changeovers = refl; lost = refl; broken = refl }
+  owed-parts None p = record { size = refl; changeovers = refl; routes = refl; lost = refl; broken = refl }
+  owed-parts (Some m) p = record { size = length-set p.links link (record (link_at p link) { acknowledgement_owed = true }); changeovers = refl; routes = refl; lost = refl; broken = refl }
 
   module _ (n : Node WholeQueues) (d : Carrying) (confirmed : ℕ) (k : Books) (right : numbers whole c link d n ≡ Ok confirmed) (serves : in_service n.parts link ≡ true) where
     abbrev taken : Node WholeQueues
@@ -190,6 +192,7 @@ module _ (settings : (point : ℕ) → Configuration) (t : AreTheirs settings) (
       queues = length-set n.queues.links link _ ∙ z.queues;
       changeovers = ap (λ xs. length xs) (owed-parts d.message timed_node).changeovers ∙ z.changeovers;
       silent = owed-silent d.message timed_node serves z.silent;
+      ways = ap ways_of (owed-parts d.message timed_node).routes ∙ z.ways;
     }
 
     taken-others : (l : ℕ) → l ≢ link → IsAlike n taken l
@@ -205,7 +208,7 @@ module _ (settings : (point : ℕ) → Configuration) (t : AreTheirs settings) (
     pub taken-unbroken : is_broken shape (mid taken [] [] no_books) ≡ 0 → is_broken shape (mid n [] [] no_books) ≡ 0
     taken-unbroken none = sym (owed-parts d.message timed_node).broken ∙ none
 
-    pub takes-frame : (p : Network) (fs : List Frame) → IsAt shape p → ShownAt settings t w x (mid n [] [] k) p → (line_at p its).to_near ≡ frame_of d ∷ fs → Leads settings t shape o p (there new) x (mid taken new [] k)
+    pub takes-frame : (p : Network) (fs : List Frame) → IsAt shape c p → ShownAt settings t w x (mid n [] [] k) p → (line_at p its).to_near ≡ frame_of d ∷ fs → Leads settings t shape o p (there new) x (mid taken new [] k)
     takes-frame p fs h s first = by d.message refl
       where
         y : Line

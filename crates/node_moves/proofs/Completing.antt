@@ -3,14 +3,16 @@ use Rattle.node_moves.proofs.Basics.{◌≡◌, ◌≢◌, ℕ, Bool, true, fals
 use Rattle.node_moves.proofs.Machine.{is_user_message, user, Phase, Live, Moved, Gone, LinkEnd, Network, Shape, Place, line_at, node_at, NodeBecomes, IsTakenFrom}
 use Rattle.node_moves.proofs.Definitions.{Message, Configuration, IsWell, Node, WholeQueues, whole, queue_at, down, changeover_of, Queue, first_queue, emptied, last_accepted, Standing, no_changeover, Link, is_down, is_in_service}
 use Rattle.node_moves.proofs.Reading.{IsShape, says_of, order_at, answer_at, across}
-use Rattle.node_moves.proofs.Sets.{with_node, node-set, end-set}
-use Rattle.node_moves.proofs.Shown.{Books, no_books, naming, Mid, Shows, IsShown, IsAlike, IsSized, IsSilent, IsBooked, shown_in, is_heard, place, users_that, any_message, most, link-inside, own-inside, at-own}
-use Rattle.node_moves.proofs.Going.{IsAt, Goes, by-line, is_broken}
+use Rattle.node_moves.proofs.Sets.{with_node, node-set, end-set, break-set}
+use Rattle.node_moves.proofs.Shown.{Books, no_books, naming, Mid, Shows, IsShown, IsAlike, IsSized, IsSilent, IsBooked, Marks, shown_in, is_heard, place, users_that, any_message, most, link-inside, own-inside, at-own}
+use Rattle.node_moves.proofs.Going.{IsAt, Goes, by-line, by-break, is_broken}
+use Rattle.node_moves.proofs.Own.{K}
 use Rattle.node_moves.proofs.Handling.{mid, bag_of, count-bag, end-at, taken-arrived, but-none, goes-by-node, live-queue}
-use Rattle.node_moves.proofs.Failures.{node-there, last-same, answer-says, number-fits}
+use Rattle.node_moves.proofs.Failures.{booked-alike, node-there, last-same, answer-says, number-fits}
 use Rattle.node_moves.proofs.Failing.{HasParts, standing-but, standing-is}
 use Rattle.node_moves.proofs.Losing.{users-among, count-split, users-within, doubtful}
 use Rattle.changeover.specs.Changeover.{users_of, managements_of, behind, accepted_count, in_doubt, lost, with_standing}
+use Rattle.exchange_rules.proofs.Steps.{ways_of}
 use Rattle.exchange_rules.specs.ChangingOver.{changeover_acknowledgement}
 use Rattle.link.specs.Queue.{named_count}
 use Rattle.network_moves.proofs.Counts.{count-cons, count-append}
@@ -18,6 +20,7 @@ use Rattle.network_moves.proofs.Words.{one-no_user}
 use Rattle.network_moves.specs.Failing.{with_completion, with_wait, sent_unconfirmed}
 use Rattle.network_moves.specs.Moves as moves
 use Rattle.network_moves.specs.Networks as net
+use Rattle.network_moves.specs.Returning.{without_sent}
 use Rattle.node_links.specs.NodeLinks.{link_in}
 
 -- ---- a changeover that isn't complete is one of a link
@@ -46,6 +49,7 @@ pub record HasEnded (n m : Node WholeQueues) (link : ℕ) (number : Option ℕ) 
   pub queues : m.queues ≡ whole.completed n.queues link number
   pub links : m.parts.links ≡ n.parts.links
   pub changeovers : m.parts.changeovers ≡ with_standing n.parts.changeovers link s
+  pub routes : m.parts.routes ≡ n.parts.routes
   pub complete : s.incomplete ≡ false
 
 module _ (c : Configuration) (n m : Node WholeQueues) (link : ℕ) (number : Option ℕ) (s : Standing) (h : HasEnded n m link number s) where
@@ -58,6 +62,7 @@ module _ (c : Configuration) (n m : Node WholeQueues) (link : ℕ) (number : Opt
     queues = ap (λ (q : WholeQueues). length q.links) h.queues ∙ length-set n.queues.links link (emptied (queue_at n.queues link)) ∙ z.queues;
     changeovers = ap (λ (xs : List Standing). length xs) h.changeovers ∙ length-set n.parts.changeovers link s ∙ z.changeovers;
     silent = λ other. subst (λ (xs : List Link). IsSilent (link_in xs other)) (sym h.links) (z.silent other);
+    ways = ap ways_of h.routes ∙ z.ways;
   }
 
   pub ended-others : (other : ℕ) → other ≢ link → IsAlike n m other
@@ -114,7 +119,7 @@ module _ (shape : Shape) (o : IsShape shape) (c : Configuration) (well : IsWell 
   taken-there : (p : Network) (n : Node WholeQueues) (word : Message) (a l : List Message) (k : Books) → Shows c p (mid n (word ∷ a) l k) → IsTakenFrom (node_at shape p its).bag word (bag_of (mid n a l k))
   taken-there p n word a l k s = subst (λ (x : net.Node). IsTakenFrom x.bag word (bag_of (mid n a l k))) (sym (node-there shape o c well p link)) (taken-arrived shape o c well p n word a l k s)
 
-  live-there : (p : Network) → IsAt shape p → (line_at p its).near.incomplete ≡ true → (line_at p its).near.phase ≡ Live
+  live-there : (p : Network) → IsAt shape c p → (line_at p its).near.incomplete ≡ true → (line_at p its).near.phase ≡ Live
   live-there p h e = (end-at shape o c well p link h).live_incomplete e
 
   -- ---- by a word
@@ -134,7 +139,7 @@ module _ (shape : Shape) (o : IsShape shape) (c : Configuration) (well : IsWell 
         → Goes shape c (mid n (word ∷ a) l k) (mid m a (managements_of behind_it ++ answer_of n ∷ l) k)
     completes-by-order a l k says waits = record {
       unbroken = broken;
-      goes = λ none p at z.
+      goes = λ p at z.
           let near : LinkEnd = (line_at p its).near in
           let inside : link < length c.links = begun-listed c n link z.sized begun in
           let x : IsShown n link near = z.ends link inside in
@@ -189,7 +194,7 @@ module _ (shape : Shape) (o : IsShape shape) (c : Configuration) (well : IsWell 
         → Goes shape c (mid n (word ∷ a) l k) (mid m a (managements_of behind_it ++ l) k)
     completes-by-answer a l k says awaited ended = record {
       unbroken = broken;
-      goes = λ none p at z.
+      goes = λ p at z.
           let near : LinkEnd = (line_at p its).near in
           let inside : link < length c.links = begun-listed c n link z.sized begun in
           let x : IsShown n link near = z.ends link inside in
@@ -237,6 +242,128 @@ module _ (shape : Shape) (o : IsShape shape) (c : Configuration) (well : IsWell 
           }));
     }
 
+  -- ---- by a word whose number names nothing: this breaks the node
+
+  module _ (n m : Node WholeQueues) (number : ℕ) (s : Standing) (word : Message) (h : HasEnded n m link (Some number) s) (none_such : accepted_count (queue_at n.queues link) (Some number) ≡ None)
+      (lost : (x : ℕ) → min x most ≤ n.parts.messages_lost → min x most ≤ m.parts.messages_lost) (counted : is_broken shape (mid m [] [] no_books) ≡ 0 → ⊥) (begun : (changeover_of n.parts link).incomplete ≡ true) where
+    abbrev unsent : List Message
+    unsent = behind (queue_at n.queues link) (accepted_count (queue_at n.queues link) (Some number))
+
+    unsent-so : (near : LinkEnd) → near.phase ≡ Live → IsShown n link near → unsent ≡ drop near.queue.sent near.queue.all
+    unsent-so near live x = ap (behind (queue_at n.queues link)) none_such ∙ ap (λ (q : Queue). drop q.sent q.all) (live-queue shape o c well n link near live x)
+
+    unnamed-so : (near : LinkEnd) → near.phase ≡ Live → IsShown n link near → named_count near.queue number ≡ None
+    unnamed-so near live x = ap (λ (q : Queue). named_count q number) (sym (live-queue shape o c well n link near live x)) ∙ none_such
+
+    pub breaks-by-order : (a l : List Message) (k : Books) → says_of word ≡ order_at (across its) number → s.awaited ≡ (changeover_of n.parts link).awaited
+        → Goes shape c (mid n (word ∷ a) l k) (mid m a (managements_of unsent ++ answer_of n ∷ l) k)
+    breaks-by-order a l k says waits = record {
+      unbroken = λ none. absurd (counted none);
+      goes = λ p at z.
+          let near : LinkEnd = (line_at p its).near in
+          let inside : link < length c.links = begun-listed c n link z.sized begun in
+          let x : IsShown n link near = z.ends link inside in
+          let incomplete : near.incomplete ≡ true = x.incomplete ∙ begun in
+          let live : near.phase ≡ Live = live-there p at incomplete in
+          let rest : List Message = bag_of (mid n a l k) in
+          let b : IsBooked (node_at shape p its) (mid n (word ∷ a) l k) = booked-there p (mid n (word ∷ a) l k) z in
+          let new : net.Node = without_sent (record (node_at shape p its) { bag = answer_of n ∷ rest }) near.queue [] in
+          let plain : is_user_message (says_of word) ≡ false = ap is_user_message says in
+          let same : (with_completion (line_at p its) Gone near.awaited).near ≡ record near { phase = Gone; incomplete = false; awaited = s.awaited } =
+          ap (λ (b : Bool). record near { phase = Gone; incomplete = false; awaited = b }) (x.awaited ∙ sym waits) in
+          by-break shape o c well p (mid n (word ∷ a) l k) (mid m a (managements_of unsent ++ answer_of n ∷ l) k) link (with_completion (line_at p its) Gone near.awaited).near new z
+          (record {
+            inside = inside;
+            sized = ended-sized c n m link (Some number) s h z.sized;
+            shown = subst (IsShown m link) (sym same) (ended-shown c n m link (Some number) s h near Gone z.sized inside live x refl);
+            others = ended-others c n m link (Some number) s h;
+            came = refl;
+            booked = record {
+              bag = λ test. omega (
+                arith,
+                ended-held c n m link (Some number) s h test,
+                ap (count_by test) (unsent-so near live x),
+                count-cons test (answer_of n) rest,
+                count-append test (drop near.queue.sent near.queue.all) (answer_of n ∷ rest),
+                count-bag (mid n a l k) test,
+                count-append test (managements_of unsent) (answer_of n ∷ l),
+                count-cons test (answer_of n) l,
+              );
+              accepted = λ test. omega (arith, b.accepted test, count-cons (user says_of test) word a, one-no_user says_of word plain test);
+              named = lost (users_that any_message (node_at shape p its).named) b.named;
+              within = b.within;
+            };
+          })
+          counted
+          (moves.hears_unreasonable_order (record {
+            place = its;
+            number = number;
+            order = word;
+            rest = rest;
+            taken = taken-there p n word a l k z;
+            says = says;
+            incomplete = incomplete;
+            unreasonable = unnamed-so near live x;
+            answer = answer_of n;
+            answers = answers-so p n x;
+            named = [];
+            after = break-set shape p its _ _ (link-inside shape o c well link) (own-inside shape o c well link);
+          }));
+    }
+
+    pub breaks-by-answer : (a l : List Message) (k : Books) → says_of word ≡ answer_at (across its) number → (changeover_of n.parts link).awaited ≡ true → s.awaited ≡ false
+        → Goes shape c (mid n (word ∷ a) l k) (mid m a (managements_of unsent ++ l) k)
+    breaks-by-answer a l k says awaited ended = record {
+      unbroken = λ none. absurd (counted none);
+      goes = λ p at z.
+          let near : LinkEnd = (line_at p its).near in
+          let inside : link < length c.links = begun-listed c n link z.sized begun in
+          let x : IsShown n link near = z.ends link inside in
+          let incomplete : near.incomplete ≡ true = x.incomplete ∙ begun in
+          let live : near.phase ≡ Live = live-there p at incomplete in
+          let rest : List Message = bag_of (mid n a l k) in
+          let b : IsBooked (node_at shape p its) (mid n (word ∷ a) l k) = booked-there p (mid n (word ∷ a) l k) z in
+          let new : net.Node = without_sent (record (node_at shape p its) { bag = rest }) near.queue [] in
+          let plain : is_user_message (says_of word) ≡ false = ap is_user_message says in
+          let same : (with_completion (line_at p its) Gone false).near ≡ record near { phase = Gone; incomplete = false; awaited = s.awaited } =
+          ap (λ (b : Bool). record near { phase = Gone; incomplete = false; awaited = b }) (sym ended) in
+          by-break shape o c well p (mid n (word ∷ a) l k) (mid m a (managements_of unsent ++ l) k) link (with_completion (line_at p its) Gone false).near new z
+          (record {
+            inside = inside;
+            sized = ended-sized c n m link (Some number) s h z.sized;
+            shown = subst (IsShown m link) (sym same) (ended-shown c n m link (Some number) s h near Gone z.sized inside live x refl);
+            others = ended-others c n m link (Some number) s h;
+            came = refl;
+            booked = record {
+              bag = λ test. omega (
+                arith,
+                ended-held c n m link (Some number) s h test,
+                ap (count_by test) (unsent-so near live x),
+                count-append test (drop near.queue.sent near.queue.all) rest,
+                count-bag (mid n a l k) test,
+                count-append test (managements_of unsent) l,
+              );
+              accepted = λ test. omega (arith, b.accepted test, count-cons (user says_of test) word a, one-no_user says_of word plain test);
+              named = lost (users_that any_message (node_at shape p its).named) b.named;
+              within = b.within;
+            };
+          })
+          counted
+          (moves.hears_unreasonable_answer (record {
+            place = its;
+            number = number;
+            answer = word;
+            rest = rest;
+            taken = taken-there p n word a l k z;
+            says = says;
+            awaited = x.awaited ∙ awaited;
+            incomplete = incomplete;
+            unreasonable = unnamed-so near live x;
+            named = [];
+            after = break-set shape p its _ _ (link-inside shape o c well link) (own-inside shape o c well link);
+          }));
+    }
+
   -- ---- by time
 
   pub completes-by-time : (n m : Node WholeQueues) (s : Standing) (a l : List Message) (k : Books) → HasEnded n m link None s → (changeover_of n.parts link).incomplete ≡ true → s.awaited ≡ (changeover_of n.parts link).awaited
@@ -245,7 +372,7 @@ module _ (shape : Shape) (o : IsShape shape) (c : Configuration) (well : IsWell 
       → Goes shape c (mid n a l k) (mid m a (managements_of (behind (queue_at n.queues link) None) ++ l) (naming k (users_of (in_doubt (queue_at n.queues link) None))))
   completes-by-time n m s a l k h begun waits lost broken = record {
     unbroken = broken;
-    goes = λ none p at z.
+    goes = λ p at z.
         let near : LinkEnd = (line_at p its).near in
         let q : Queue = queue_at n.queues link in
         let inside : link < length c.links = begun-listed c n link z.sized begun in
@@ -331,14 +458,51 @@ module _ (shape : Shape) (o : IsShape shape) (c : Configuration) (well : IsWell 
         }),
       ))
 
+  -- ---- the wait ends without an answer: this breaks the node, which has counted that
+
+  pub ends-bar : (n m : Node WholeQueues) (s : Standing) → HasParts n m n.parts.links (with_standing n.parts.changeovers link s) → (n.parts.times_broken ≡ 0 → ⊥)
+      → (changeover_of n.parts link).awaited ≡ true → s.incomplete ≡ (changeover_of n.parts link).incomplete → s.awaited ≡ false → K shape o c well n m
+  ends-bar n m s h counted awaited same ended = record {
+    each = λ a l k. record {
+      unbroken = λ none. sym (ap (λ (k : Marks). k.broken) h.marks) ∙ none;
+      goes = λ p at z.
+          let near : LinkEnd = (line_at p its).near in
+          let inside : link < length c.links = awaited-listed c n link z.sized awaited in
+          let x : IsShown n link near = z.ends link inside in
+          let is : changeover_of m.parts link ≡ s = standing-is c n m link s h z.sized inside in
+          by-break shape o c well p (mid n a l k) (mid m a l k) link (with_wait (line_at p its) false).near (node_at shape p its) z
+          (record {
+            inside = inside;
+            sized = (standing-but c n m link s h).sized z.sized;
+            shown = record {
+              queue = ap (λ (q : WholeQueues). queue_at q link) h.queues ∙ x.queue;
+              up = x.up ∙ ap (λ (xs : List Link). not (is_down (link_in xs link).alignment)) (sym h.links);
+              serving = x.serving ∙ ap (λ (xs : List Link). is_in_service (link_in xs link).alignment) (sym h.links);
+              incomplete = x.incomplete ∙ sym same ∙ ap (λ (t : Standing). t.incomplete) (sym is);
+              awaited = sym ended ∙ ap (λ (t : Standing). t.awaited) (sym is);
+              heard = λ heard. x.heard (ap (λ (xs : List Link). is_heard (link_in xs link).alignment) (sym h.links) ∙ heard);
+            };
+            others = (standing-but c n m link s h).others;
+            came = refl;
+            booked = booked-alike (node_at shape p its) n m a l k (ap (λ (q : WholeQueues). q.held) h.queues) h.lost (booked-there p (mid n a l k) z);
+          })
+          (λ none. counted (sym (ap (λ (k : Marks). k.broken) h.marks) ∙ none))
+          (moves.releases_bar (record {
+            place = its;
+            awaited = x.awaited ∙ awaited;
+            after = break-set shape p its _ _ (link-inside shape o c well link) (own-inside shape o c well link);
+          }));
+    };
+  }
+
   -- ---- an answer ends the wait
 
   pub ends-wait : (n m : Node WholeQueues) (number : ℕ) (s : Standing) (word : Message) (a l : List Message) (k : Books) → HasParts n m n.parts.links (with_standing n.parts.changeovers link s)
       → s.incomplete ≡ false → s.awaited ≡ false → says_of word ≡ answer_at (across its) number → (changeover_of n.parts link).awaited ≡ true → (changeover_of n.parts link).incomplete ≡ false
       → Goes shape c (mid n (word ∷ a) l k) (mid m a l k)
   ends-wait n m number s word a l k h complete ended says awaited was = record {
-    unbroken = λ none. sym h.broken ∙ none;
-    goes = λ none p at z.
+    unbroken = λ none. sym (ap (λ (k : Marks). k.broken) h.marks) ∙ none;
+    goes = λ p at z.
         let near : LinkEnd = (line_at p its).near in
         let inside : link < length c.links = awaited-listed c n link z.sized awaited in
         let x : IsShown n link near = z.ends link inside in

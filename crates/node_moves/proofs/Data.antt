@@ -79,7 +79,7 @@ module _ (settings : (point : ℕ) → Configuration) (t : AreTheirs settings) (
     -- what comes of it
     pub record Hears (left : Node WholeQueues) (new brought : List Message) : Type 0 where
       pub unbroken : left.parts.times_broken ≡ 0 → n.parts.times_broken ≡ 0
-      pub leads : left.parts.times_broken ≡ 0 → (p : Network) → IsAt shape p → ShownAt settings t w x (rests settings t (w.node x)) p → Leads settings t shape o p (there new) x (mid left [] [] (accepting k brought))
+      pub leads : (p : Network) → IsAt shape c p → ShownAt settings t w x (rests settings t (w.node x)) p → Leads settings t shape o p (there new) x (mid left [] [] (accepting k brought))
 
     abbrev pub Comes : Done WholeQueues → Option Message → Node WholeQueues → Type 0
     Comes r new acc = Hears r.left (option_to_list new) (brought_by new r.outcome c acc)
@@ -88,14 +88,14 @@ module _ (settings : (point : ℕ) → Configuration) (t : AreTheirs settings) (
     dropped : (left : Node WholeQueues) → K shape o c well n left → down left.parts link ≡ true → Hears left [] []
     dropped left e gone = record {
       unbroken = (e.each [] [] k).unbroken;
-      leads = λ none p h s.
+      leads = λ p h s.
           let l : Leads settings t shape o p w x (mid left [] [] k) =
-          leads-goes settings t shape o p w x (rests settings t (w.node x)) (mid left [] [] k) fx h (leads-none settings t shape o p w x (rests settings t (w.node x)) s) (e.each [] [] k) none in
+          leads-goes settings t shape o p w x (rests settings t (w.node x)) (mid left [] [] k) fx h (leads-none settings t shape o p w x (rests settings t (w.node x)) s) (e.each [] [] k) in
           let f : (fs : List Frame) × ((line_at (last_of p l.networks) its).to_near ≡ frame_of d ∷ fs) = first-at (mid left [] [] k) (last_of p l.networks) l.shown in
           let m : Leads settings t shape o p (there []) x (mid left [] [] k) =
-          leads-both settings t shape o p w (there []) x (mid left [] [] k) (mid left [] [] k) l
+          leads-both settings t shape o p w (there []) x (mid left [] [] k) (mid left [] [] k) (λ none. none) l
           (drops-frame settings t shape o w x link fx inside (mid left [] [] k) (last_of p l.networks) (frame_of d) f.0 l.shown f.1 gone) in
-          leads-goes settings t shape o p (there []) x (mid left [] [] k) (mid left [] [] (accepting k [])) fx h m (none-more shape o c well (mid left [] [] k) left [] [] k (goes-none shape c (mid left [] [] k))) none;
+          leads-goes settings t shape o p (there []) x (mid left [] [] k) (mid left [] [] (accepting k [])) fx h m (none-more shape o c well (mid left [] [] k) left [] [] k (goes-none shape c (mid left [] [] k)));
     }
 
     -- a link that fails is down
@@ -129,15 +129,15 @@ module _ (settings : (point : ℕ) → Configuration) (t : AreTheirs settings) (
         carry-goes d.message taken (taken-serves settings t shape o w x link fx inside next d confirmed k e serves) in
         record {
           unbroken = λ none. (g.each [] [] k).unbroken (taken-unbroken settings t shape o w x link fx inside next d confirmed k e serves (on.unbroken none));
-          leads = λ none p h s.
-              let none_next : next.parts.times_broken ≡ 0 = taken-unbroken settings t shape o w x link fx inside next d confirmed k e serves (on.unbroken none) in
+          leads = λ p h s.
               let l : Leads settings t shape o p w x (mid next [] [] k) =
-              leads-goes settings t shape o p w x (rests settings t (w.node x)) (mid next [] [] k) fx h (leads-none settings t shape o p w x (rests settings t (w.node x)) s) (g.each [] [] k) none_next in
+              leads-goes settings t shape o p w x (rests settings t (w.node x)) (mid next [] [] k) fx h (leads-none settings t shape o p w x (rests settings t (w.node x)) s) (g.each [] [] k) in
               let f : (fs : List Frame) × ((line_at (last_of p l.networks) its).to_near ≡ frame_of d ∷ fs) = first-at (mid next [] [] k) (last_of p l.networks) l.shown in
               let m : Leads settings t shape o p (there (option_to_list d.message)) x (mid taken (option_to_list d.message) [] k) =
-              leads-both settings t shape o p w (there (option_to_list d.message)) x (mid next [] [] k) (mid taken (option_to_list d.message) [] k) l
+              leads-both settings t shape o p w (there (option_to_list d.message)) x (mid next [] [] k) (mid taken (option_to_list d.message) [] k)
+              (taken-unbroken settings t shape o w x link fx inside next d confirmed k e serves) l
               (takes-frame settings t shape o w x link fx inside next d confirmed k e serves (last_of p l.networks) f.0 (leads-at settings t shape o p w x (mid next [] [] k) l h) l.shown f.1) in
-              leads-goes settings t shape o p (there (option_to_list d.message)) x (mid taken (option_to_list d.message) [] k) (mid left [] [] (accepting k brought)) fx h m on none;
+              leads-goes settings t shape o p (there (option_to_list d.message)) x (mid taken (option_to_list d.message) [] k) (mid left [] [] (accepting k brought)) fx h m on;
         }
 
     -- ---- what the link does about it
@@ -166,7 +166,7 @@ module _ (settings : (point : ℕ) → Configuration) (t : AreTheirs settings) (
     received-by true false e up r f = f up
     received-by false b e gone r f = record {
       unbroken = λ none. none;
-      leads = λ none p h s.
+      leads = λ p h s.
           let known : nat_lt link (length n.parts.links) ≡ true = listed (length n.parts.links) (subst (λ (i : ℕ). link < i) (sym s.here.sized.links) inside) in
           let no : true ≡ false = sym known ∙ e in
           absurd cc;
@@ -189,7 +189,7 @@ module _ (settings : (point : ℕ) → Configuration) (t : AreTheirs settings) (
     -- what comes of it, whatever it reads as
     pub record Comes_in : Type 0 where
       pub unbroken : (receive whole c link text n).left.parts.times_broken ≡ 0 → n.parts.times_broken ≡ 0
-      pub leads : (receive whole c link text n).left.parts.times_broken ≡ 0 → (p : Network) → IsAt shape p → ShownAt settings t w x (rests settings t (w.node x)) p
+      pub leads : (p : Network) → IsAt shape c p → ShownAt settings t w x (rests settings t (w.node x)) p
           → Leads settings t shape o p (there (option_to_list (new_message link text (state_of c (w.node x))))) x
           (mid (receive whole c link text n).left [] []
           (accepting k (brought_by (new_message link text (state_of c (w.node x))) (receive whole c link text n).outcome c (accept_text link (read_frame text) (state_of c (w.node x))))))

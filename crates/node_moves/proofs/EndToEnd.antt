@@ -9,7 +9,7 @@ use Rattle.node_moves.proofs.World.{Shown, IsUnused, place_at}
 use Rattle.node_moves.proofs.BothEnds.{IsOther, is-other}
 use Rattle.node_moves.proofs.FateCounts.{count-fate}
 use Rattle.node_moves.proofs.Booking.{all-in-order, takes-each}
-use Rattle.node_moves.proofs.Running.{all_points, are-all, point_by, reached}
+use Rattle.node_moves.proofs.Running.{all_points, are-all, all-led, point_by, reached}
 use Rattle.node_moves.proofs.Ending.{came, ends, fates-same, same-or, sum-ends, the-other, twice}
 use Rattle.node_moves.specs.EndToEnd.{ComeFromEndToEnd, IsAccounted, each_message_is_accounted_for, messages_come_from_end_to_end, for_user_parts, to_point, to_user_parts, total}
 use Rattle.node_moves.specs.Fates.{TakesEachIn, came_to, goes_on, has_part, is_delivered, is_handled, is_local, is_refused, sccp_takes, is_sccp, is_taken_on, made_at, met_at, submitted_at}
@@ -130,7 +130,7 @@ module _ (settings : (point : ℕ) → Configuration) (t : AreTheirs settings) (
 
       from-is : (x : ℕ) (b : Bool) → is_node settings x ≡ b → (if b then came_from settings w test x else 0) ≡ law.came_from shape users p x
       from-is x true fx =
-          sym (came settings t shape o w p at s x fx test) ∙ sym (sum-ends settings t shape o x fx p s.idle (λ z. count_by users z.near.came) refl)
+          sym (came settings t shape o w p s x fx test) ∙ sym (sum-ends settings t shape o x fx p s.idle (λ z. count_by users z.near.came) refl)
       from-is x false none = sym (none-there (λ z. count_by users z.near.came) refl x none)
 
       to-is : (x : ℕ) (b : Bool) → is_node settings x ≡ b → (if b then came_to settings w any_fate test x else 0) ≡ law.came_to shape users p x
@@ -315,14 +315,14 @@ all-nodes = refl
 pub come-end-to-end : messages_come_from_end_to_end
 come-end-to-end settings steps point t fx none =
     let w : NetworkState = after_steps settings steps (first_network settings) in
-    let r : (p : Network) × Sound all_points says_of p × Shown settings t w p = reached settings t all_points are-all steps none in
+    let r : (p : Network) × Sound all_points says_of p × Shown settings t w p = reached settings t all_points are-all (λ x fx. all-led (settings x)) steps none in
     let inside : point < points = (let l : nat_lt point points ≡ true = and-first (nat_lt point points) _ fx in grind (arith, nat_tests, l)) in
-    end-to-end settings t w (λ x fy. ends settings t all_points are-all w r.0 r.1 r.2 x fy) (λ x. takes-each settings w x (all-in-order settings steps x))
+    end-to-end settings t w (λ x fy. ends settings t all_points are-all w r.0 r.2 x fy r.1) (λ x. takes-each settings w x (all-in-order settings steps x))
     (λ test. across settings t all_points are-all w r.0 r.1 r.2 test are-joined all-nodes) point fx inside
 
 pub all-accounted : each_message_is_accounted_for
 all-accounted settings steps t none =
     let w : NetworkState = after_steps settings steps (first_network settings) in
-    let r : (p : Network) × Sound all_points says_of p × Shown settings t w p = reached settings t all_points are-all steps none in
-    accounted settings t w (λ x fy. ends settings t all_points are-all w r.0 r.1 r.2 x fy) (λ x. takes-each settings w x (all-in-order settings steps x))
+    let r : (p : Network) × Sound all_points says_of p × Shown settings t w p = reached settings t all_points are-all (λ x fx. all-led (settings x)) steps none in
+    accounted settings t w (λ x fy. ends settings t all_points are-all w r.0 r.2 x fy r.1) (λ x. takes-each settings w x (all-in-order settings steps x))
     (λ test. across settings t all_points are-all w r.0 r.1 r.2 test are-joined all-nodes)

@@ -9,7 +9,7 @@ use Rattle.node_moves.proofs.World.{IsFlown, Shown, IsUnused, rests, place_at}
 use Rattle.node_moves.proofs.Relining.{across-line}
 use Rattle.node_moves.proofs.BothEnds.{IsOther, is-other}
 use Rattle.node_moves.proofs.FateCounts.{counted-messages}
-use Rattle.node_moves.proofs.Running.{all_points, are-all, reached}
+use Rattle.node_moves.proofs.Running.{all_points, are-all, all-led, reached}
 use Rattle.node_moves.specs.Networks.{Fate, NetworkState, LinkEnd, IsNode, other_end, after_steps, first_network, messages_of}
 use Rattle.node_moves.specs.Laws.{AreTheirs, is_user, came_by, received_by, waiting_on, came_from, waits_at, accepted_at, fates_that, any_fate, EndsOnce, each_message_ends_once}
 use Rattle.node_moves.specs.Laws as law
@@ -17,7 +17,7 @@ use Rattle.exchange_rules.proofs.MadeManagement.{code-fits, adjacent-fits}
 use Rattle.network_moves.proofs.Counts.{count-cons, sum-alike, sum-but, sum-none, sum-added, if-true, if-false}
 use Rattle.network_moves.proofs.Sound.{Sound, Balances, booked, lost}
 use Rattle.network_moves.specs.Laws.{sum_at}
-use Rattle.network_moves.specs.Networks.{sum_to, waiting, waiting_in}
+use Rattle.network_moves.specs.Networks.{sum_to, sum_of_ends, waiting, waiting_in}
 use Rattle.network_moves.specs.Quiet.{closed_line}
 
 -- ---- a sum over those numbers at which something is
@@ -89,40 +89,44 @@ module _ (settings : (point : ℕ) → Configuration) (t : AreTheirs settings) (
         (ap (λ (i : ℕ). (place_at settings t i other.0.link).link) (sym is) ∙ ap (λ (q : Place). q.link) h.place ∙ same))
         (same-or its.side side)
 
-    module _ (f : Line → ℕ) (closed : f closed_line ≡ 0) where
+    module _ (f : ℕ → Line → ℕ) (closed : (k : ℕ) → f k closed_line ≡ 0) where
       abbrev ends_on : (link : ℕ) → ℕ
-      ends_on k = (if nat_eq (shape.point k Near) x then f (p.line k) else 0) + (if nat_eq (shape.point k Far) x then f (turned (p.line k)) else 0)
+      ends_on k = (if nat_eq (shape.point k Near) x then f k (p.line k) else 0) + (if nat_eq (shape.point k Far) x then f k (turned (p.line k)) else 0)
 
-      one-by : (k : ℕ) (side : Side) → shape.point k side ≡ x → shape.point k (opposite side) ≢ x → ends_on k ≡ f (seen side (p.line k))
+      one-by : (k : ℕ) (side : Side) → shape.point k side ≡ x → shape.point k (opposite side) ≢ x → ends_on k ≡ f k (seen side (p.line k))
       one-by k Near e d =
-          omega (arith, if-true (nat_eq (shape.point k Near) x) (f (p.line k)) (eq-eqb (shape.point k Near) x e), if-false (nat_eq (shape.point k Far) x) (f (turned (p.line k))) (ne_eqb (shape.point k Far) x d))
+          omega (arith, if-true (nat_eq (shape.point k Near) x) (f k (p.line k)) (eq-eqb (shape.point k Near) x e), if-false (nat_eq (shape.point k Far) x) (f k (turned (p.line k))) (ne_eqb (shape.point k Far) x d))
       one-by k Far e d =
-          omega (arith, if-true (nat_eq (shape.point k Far) x) (f (turned (p.line k))) (eq-eqb (shape.point k Far) x e), if-false (nat_eq (shape.point k Near) x) (f (p.line k)) (ne_eqb (shape.point k Near) x d))
+          omega (arith, if-true (nat_eq (shape.point k Far) x) (f k (turned (p.line k))) (eq-eqb (shape.point k Far) x e), if-false (nat_eq (shape.point k Near) x) (f k (p.line k)) (ne_eqb (shape.point k Near) x d))
 
-      one-end : (link : ℕ) → ends_on (place_at settings t x link).link ≡ f (line_at p (place_at settings t x link))
+      one-end : (link : ℕ) → ends_on (place_at settings t x link).link ≡ f (place_at settings t x link).link (line_at p (place_at settings t x link))
       one-end link =
           one-by (place_at settings t x link).link (place_at settings t x link).side (at-own shape o (settings x) (t.well x fx) link ∙ t.own x fx) (far-apart link)
 
-      closed-seen : (side : Side) → f (seen side closed_line) ≡ 0
-      closed-seen Near = closed
-      closed-seen Far = closed
+      closed-seen : (k : ℕ) (side : Side) → f k (seen side closed_line) ≡ 0
+      closed-seen k Near = closed k
+      closed-seen k Far = closed k
 
       none-on : (k : ℕ) (side : Side) (b : Bool) → ((i : ℕ) → i < length (settings x).links → (place_at settings t x i).link ≢ k) → nat_eq (shape.point k side) x ≡ b
-          → (if b then f (seen side (p.line k)) else 0) ≡ 0
+          → (if b then f k (seen side (p.line k)) else 0) ≡ 0
       none-on k side false none e = refl
-      none-on k side true none e = ap (λ (z : Line). f (seen side z)) (idle k (no-link k side none (eqb-true (shape.point k side) x e))) ∙ closed-seen side
+      none-on k side true none e = ap (λ (z : Line). f k (seen side z)) (idle k (no-link k side none (eqb-true (shape.point k side) x e))) ∙ closed-seen k side
 
       -- of all ends at a node, those of its links count
-      pub sum-ends : sum_at shape x f p ≡ sum_to (λ link. f (line_at p (place_at settings t x link))) (length (settings x).links)
-      sum-ends =
+      pub sum-ends-by : sum_of_ends shape (λ link side z. if nat_eq (shape.point link side) x then f link z else 0) p
+          ≡ sum_to (λ link. f (place_at settings t x link).link (line_at p (place_at settings t x link))) (length (settings x).links)
+      sum-ends-by =
           let n : ℕ = length (settings x).links in
           let all : sum_to (λ i. ends_on (place_at settings t x i).link) n ≡ sum_to ends_on shape.links =
           sum-among (λ i. (place_at settings t x i).link) ends_on n shape.links (λ i l. link-inside shape o (settings x) (t.well x fx) i)
           (λ i j l k d. links-apart (settings x) (t.well x fx) j i k l d)
           (λ k none. omega (arith, none-on k Near (nat_eq (shape.point k Near) x) none refl, none-on k Far (nat_eq (shape.point k Far) x) none refl)) in
-          let each : sum_to (λ i. f (line_at p (place_at settings t x i))) n ≡ sum_to (λ i. ends_on (place_at settings t x i).link) n =
-          sum-alike (λ i. ends_on (place_at settings t x i).link) (λ i. f (line_at p (place_at settings t x i))) n (λ i l. sym (one-end i)) in
+          let each : sum_to (λ i. f (place_at settings t x i).link (line_at p (place_at settings t x i))) n ≡ sum_to (λ i. ends_on (place_at settings t x i).link) n =
+          sum-alike (λ i. ends_on (place_at settings t x i).link) (λ i. f (place_at settings t x i).link (line_at p (place_at settings t x i))) n (λ i l. sym (one-end i)) in
           sym all ∙ sym each
+
+    pub sum-ends : (f : Line → ℕ) → f closed_line ≡ 0 → sum_at shape x f p ≡ sum_to (λ link. f (line_at p (place_at settings t x link))) (length (settings x).links)
+    sum-ends f closed = sum-ends-by (λ k. f) (λ k. closed)
 
 -- ---- user messages
 
@@ -140,11 +144,11 @@ users-same test (m ∷ ms) =
 pub fates-same : (test : Message → Bool) (fs : List Fate) → fates_that any_fate test fs ≡ users_that test (messages_of fs)
 fates-same test fs = counted-messages (λ m. is_user m && test m) fs ∙ users-same test (messages_of fs)
 
-fewer : (t u : Message → Bool) (ms : List Message) → ((m : Message) → one_if (t m) ≤ one_if (u m)) → count_by t ms ≤ count_by u ms
+pub fewer : (t u : Message → Bool) (ms : List Message) → ((m : Message) → one_if (t m) ≤ one_if (u m)) → count_by t ms ≤ count_by u ms
 fewer t u [] h = omega arith
 fewer t u (m ∷ ms) h = omega (arith, count-cons t m ms, count-cons u m ms, h m, fewer t u ms h)
 
-any-by : (a b : Bool) → one_if (a && b) ≤ one_if (a && true)
+pub any-by : (a b : Bool) → one_if (a && b) ≤ one_if (a && true)
 any-by true true = omega arith
 any-by true false = omega arith
 any-by false b = omega arith
@@ -165,7 +169,7 @@ waits-in Live q received = refl
 waits-in Moved q received = drop-nothing received
 waits-in Gone q received = drop-nothing received
 
-module _ (settings : (point : ℕ) → Configuration) (t : AreTheirs settings) (shape : Shape) (o : IsShape shape) (w : NetworkState) (p : Network) (h : Sound shape says_of p) (s : Shown settings t w p) (x : ℕ) (fx : IsNode settings x) where
+module _ (settings : (point : ℕ) → Configuration) (t : AreTheirs settings) (shape : Shape) (o : IsShape shape) (w : NetworkState) (p : Network) (s : Shown settings t w p) (x : ℕ) (fx : IsNode settings x) where
   abbrev line_on : (link : ℕ) → Line
   line_on link = line_at p (place_at settings t x link)
 
@@ -179,7 +183,7 @@ module _ (settings : (point : ℕ) → Configuration) (t : AreTheirs settings) (
       let other : IsOther settings t shape o x link there = is-other settings t shape o x link there fx inside e in
       record { other = other; line = ap (line_at p) other.place ∙ across-line p (place_at settings t x link) }
 
-  came-by : (test : Message → Bool) (link : ℕ) → link < length (settings x).links
+  pub came-by : (test : Message → Bool) (link : ℕ) → link < length (settings x).links
       → count_by test (line_on link).near.came ≡ count_by test (messages_of (came_by settings w (other_end settings x link)))
   came-by test link inside =
       let found : (there : LinkEnd) × (other_end settings x link ≡ Some there) = the-other (other_end settings x link) (t.joined x link fx inside) in
@@ -188,7 +192,7 @@ module _ (settings : (point : ℕ) → Configuration) (t : AreTheirs settings) (
       let flown : IsFlown (w.node there.point) there.link (line_at p (place_at settings t there.point there.link)) = s.flown there.point there.link f.other.within f.other.inside in
       ap (λ (z : Line). count_by test z.far.came) (sym f.line) ∙ flown.came test ∙ ap (λ (q : Option LinkEnd). count_by test (messages_of (came_by settings w q))) (sym found.1)
 
-  waits-by : (link : ℕ) → link < length (settings x).links → waiting_on settings w x link ≡ waiting (line_on link)
+  pub waits-by : (link : ℕ) → link < length (settings x).links → waiting_on settings w x link ≡ waiting (line_on link)
   waits-by link inside =
       let found : (there : LinkEnd) × (other_end settings x link ≡ Some there) = the-other (other_end settings x link) (t.joined x link fx inside) in
       let there : LinkEnd = found.0 in
@@ -238,15 +242,15 @@ module _ (settings : (point : ℕ) → Configuration) (t : AreTheirs settings) (
         omega (arith, on, off, parts, both, came, waits)
 
   -- the books of the node's exchange
-  node_books : IsBooked (p.node x) (rests settings t (w.node x))
+  pub node_books : IsBooked (p.node x) (rests settings t (w.node x))
   node_books = subst (λ (i : ℕ). IsBooked (p.node i) (rests settings t (w.node x))) (t.own x fx) (s.nodes x fx).booked
 
   -- and what is gone of what it accepted
   abbrev gone_of : (test : Message → Bool) → ℕ
   gone_of test = users_that test (p.node x).gone + sum_at shape x (lost (user says_of test)) p
 
-  whole : (test : Message → Bool) → accepted_at settings w test x ≡ came_from settings w test x + waits_at settings w test x + gone_of test
-  whole test =
+  whole : Sound shape says_of p → (test : Message → Bool) → accepted_at settings w test x ≡ came_from settings w test x + waits_at settings w test x + gone_of test
+  whole h test =
       let balances : Balances shape says_of p x = h.books x in
       omega (
         arith,
@@ -258,19 +262,19 @@ module _ (settings : (point : ℕ) → Configuration) (t : AreTheirs settings) (
         users-same test (w.node x).node.queues.held,
       )
 
-  few : (test : Message → Bool) → gone_of test ≤ users_that any_message (p.node x).named
-  few test =
+  few : Sound shape says_of p → (test : Message → Bool) → gone_of test ≤ users_that any_message (p.node x).named
+  few h test =
       let balances : Balances shape says_of p x = h.books x in
       omega (arith, balances.named test, fewer (user says_of test) (user says_of any_message) (p.node x).named (λ m. any-by (is_user_message (says_of m)) (test m)))
 
-  pub ends : EndsOnce settings w x
-  ends = record {
-    once = λ test. omega (arith, whole test);
-    named = λ test. omega (arith, whole test, (h.books x).named test, node_books.within test, users-same test (w.node x).named);
-    counted = λ test. omega (arith, whole test, few test, node_books.named);
+  pub ends : Sound shape says_of p → EndsOnce settings w x
+  ends h = record {
+    once = λ test. omega (arith, whole h test);
+    named = λ test. omega (arith, whole h test, (h.books x).named test, node_books.within test, users-same test (w.node x).named);
+    counted = λ test. omega (arith, whole h test, few h test, node_books.named);
   }
 
 pub ends-once : each_message_ends_once
 ends-once settings steps x t fx none =
-    let r : (p : Network) × Sound all_points says_of p × Shown settings t (after_steps settings steps (first_network settings)) p = reached settings t all_points are-all steps none in
-    ends settings t all_points are-all (after_steps settings steps (first_network settings)) r.0 r.1 r.2 x fx
+    let r : (p : Network) × Sound all_points says_of p × Shown settings t (after_steps settings steps (first_network settings)) p = reached settings t all_points are-all (λ x fx. all-led (settings x)) steps none in
+    ends settings t all_points are-all (after_steps settings steps (first_network settings)) r.0 r.2 x fx r.1

@@ -1,10 +1,11 @@
 -- A link takes its flows back, is tested, and goes on in its alignment: by moves.
-use Rattle.node_moves.proofs.Basics.{◌≡◌, ◌≢◌, ℕ, zero, suc, Bool, true, false, not, ◌&&◌, length, Option, Some, None, refl, ap, ◌∙◌, if◌then◌else◌, get_or-set_other}
+use Rattle.node_moves.proofs.Basics.{◌≡◌, ◌≢◌, ℕ, zero, suc, Bool, true, false, not, ◌&&◌, List, length, Option, Some, None, refl, ap, ◌∙◌, if◌then◌else◌, get_or-set_other}
 use Rattle.node_moves.proofs.Machine.{Other, Shape}
 use Rattle.node_moves.proofs.Definitions.{Configuration, IsWell, Node, WholeQueues, Parts, whole, with_parts, link_at, links_with, in_service, down, set_of, entry_of, peer_of, no_room, queue_on, Link, down_link, is_in_service}
 use Rattle.node_moves.proofs.Reading.{IsShape, says_of, is_long, says-test}
 use Rattle.node_moves.proofs.Own.{K, both, stays, aside, relinked, queued, declared-other, test-indicator}
 use Rattle.node_moves.proofs.Failing.{fail-goes}
+use Rattle.node_moves.proofs.Ways.{reset-ways}
 use Rattle.exchange_rules.proofs.Serving.{serves-up}
 use Rattle.exchange_rules.proofs.SteppingEntries.{anew-link}
 use Rattle.exchange_rules.proofs.SteppingReturns.{Went, all-went}
@@ -19,6 +20,7 @@ use Rattle.exchange_rules.specs.LinkTests.{link_test, tests_links, awaiting_test
 use Rattle.exchange_rules.specs.Routing.{facts}
 use Rattle.node_links.specs.NodeLinks.{link_in}
 use Rattle.routes.specs.Routes.{Facts}
+use Rattle.routes.specs.declared.route.Route.{Route}
 use Rattle.signalling_types.specs.declared.cause.Cause.{Cause}
 use Rattle.signalling_types.specs.declared.notice.FailureReason.TheVariants as reasons
 
@@ -67,7 +69,9 @@ module _ (shape : Shape) (o : IsShape shape) (c : Configuration) (well : IsWell 
 
   -- what is known over a set may be reset
   pub anew-goes : (first : Bool) (link : ℕ) (n : Node WholeQueues) (p : Parts) → K shape o c well n (with_parts n p) → K shape o c well n (with_parts n (begun_anew_if first c link p))
-  anew-goes true link n p e = both shape o c well n (with_parts n p) _ e (aside shape o c well (with_parts n p) _ refl refl refl refl)
+  anew-goes true link n p e =
+      both shape o c well n (with_parts n p) _ e
+      (aside shape o c well (with_parts n p) _ refl refl refl (ap (λ (ways : List (List Route)). record { broken = p.times_broken; ways = ways }) (reset-ways c (set_of c link) p)))
   anew-goes false link n p e = e
 
   -- ---- tests of links

@@ -1,5 +1,5 @@
 -- What ends each event, ticks, and the events that bring no message: by moves.
-use Rattle.node_moves.proofs.Basics.{◌≡◌, ℕ, zero, suc, Bool, true, false, List, [], ◌∷◌, ◌++◌, length, Option, Some, None, not, ◌&&◌, is_some, filter, refl, ap, sym, subst, ◌∙◌, if◌then◌else◌}
+use Rattle.node_moves.proofs.Basics.{◌≡◌, ℕ, zero, suc, Bool, true, false, List, [], ◌∷◌, ◌++◌, length, Option, Some, None, inl, not, ◌&&◌, is_some, filter, refl, ap, sym, subst, ◌∙◌, if◌then◌else◌}
 use Rattle.node_moves.proofs.Shown.{Books, naming}
 use Rattle.node_moves.proofs.Machine.{Shape}
 use Rattle.node_moves.proofs.Definitions.{Message, flow_of, Configuration, IsWell, Node, Done, WholeQueues, whole, with_parts, answer, refuse, is_link, link_at, changeover_of, link_of, waits, hold, queue_on}
@@ -45,7 +45,7 @@ module _ (shape : Shape) (o : IsShape shape) (c : Configuration) (well : IsWell 
   go-goes true link n m a l k e = names-more shape o c well _ (hold whole m n) a l k [] (holds shape o c well n m a l k)
   go-goes false (Some link) n m a l k e =
       subst (λ (to : Option ℕ). Goes shape c (mid n a (m ∷ l) k) (mid (go_on whole c to m n) a l (naming k []))) (sym e)
-      (names-more shape o c well _ (queue_on whole c link m n) a l k [] (places shape o c well n link m a l k (chosen_serves c n.parts (flow_of m) link e)))
+      (names-more shape o c well _ (queue_on whole c link m n) a l k [] (places shape o c well n link m a l k (chosen_serves c n.parts (flow_of m) link e) (inl e)))
   go-goes false None n m a l k e = subst (λ (to : Option ℕ). Goes shape c (mid n a (m ∷ l) k) (mid (go_on whole c to m n) a l (naming k (m ∷ [])))) (sym e) (loses shape o c well causes.NoRoute n m a l k)
 
   go_each-goes : (ms : List Message) (n : Node WholeQueues) (a l : List Message) (k : Books) → Goes shape c (mid n a (ms ++ l) k) (mid (go_each whole c ms n) a l (naming k (filter (is_stranded c n.parts) ms)))
@@ -168,11 +168,15 @@ module _ (shape : Shape) (o : IsShape shape) (c : Configuration) (well : IsWell 
       either_done shape o c well (is_link n.parts link) n (answer Handled (set_active whole c false false link fell)) (refuse causes.NoSuchName n)
       (both shape o c well n fell _ (if_up-goes shape o c well link n reasons.Operator) (set-goes false false link fell)) (stays shape o c well n)
 
+  freed-by : (b : Bool) (link : ℕ) (n : Node WholeQueues) → is_barred (changeover_of n.parts link) ≡ b → K shape o c well n (if b then answer Handled (with_parts n (unbarred link n.parts)) else answer Ignored n).left
+  freed-by true link n e = unbarred-goes shape o c well link n e
+  freed-by false link n e = stays shape o c well n
+
   pub release_bar-goes : (link : ℕ) (n : Node WholeQueues) → K shape o c well n (release_bar whole c link n).left
   release_bar-goes link n =
       let freed : Done WholeQueues = answer Handled (with_parts n (unbarred link n.parts)) in
       either_done shape o c well (is_link n.parts link) n (if is_barred (changeover_of n.parts link) then freed else answer Ignored n) (refuse causes.NoSuchName n)
-      (either_done shape o c well (is_barred (changeover_of n.parts link)) n freed (answer Ignored n) (unbarred-goes shape o c well link n) (stays shape o c well n)) (stays shape o c well n)
+      (freed-by (is_barred (changeover_of n.parts link)) link n refl) (stays shape o c well n)
 
   added-by : (refusal : Option Cause) (row : TitleEntry) (n : Node WholeQueues) → K shape o c well n (add_title_unless refusal row n).left
   added-by (Some cause) row n = stays shape o c well n

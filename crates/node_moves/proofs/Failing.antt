@@ -3,7 +3,7 @@ use Rattle.node_moves.proofs.Basics.{◌≡◌, ℕ, Bool, true, false, ◌||◌
 use Rattle.node_moves.proofs.Machine.{is_user_message, Shape}
 use Rattle.node_moves.proofs.Definitions.{Message, flow_of, Configuration, IsWell, Node, WholeQueues, Parts, whole, with_parts, queue_at, link_at, links_with, in_service, down, changeover_of, set_of, link_of, no_room, last_accepted, Standing, no_changeover, Link, down_link}
 use Rattle.node_moves.proofs.Reading.{IsShape}
-use Rattle.node_moves.proofs.Shown.{IsSized, IsSilent}
+use Rattle.node_moves.proofs.Shown.{IsSized, IsSilent, Marks, marks_of}
 use Rattle.exchange_rules.proofs.Lists.{each-set}
 use Rattle.node_moves.proofs.Going.{goes-both}
 use Rattle.node_moves.proofs.Own.{K, stays, sends-loose}
@@ -23,7 +23,7 @@ pub record HasParts (n m : Node WholeQueues) (its : List Link) (standings : List
   pub links : m.parts.links ≡ its
   pub changeovers : m.parts.changeovers ≡ standings
   pub lost : m.parts.messages_lost ≡ n.parts.messages_lost
-  pub broken : m.parts.times_broken ≡ n.parts.times_broken
+  pub marks : marks_of m.parts ≡ marks_of n.parts
 
 -- one link changed, and its changeover
 module _ (c : Configuration) (n m : Node WholeQueues) (link : ℕ) (x : Link) (s : Standing) (quiet : IsSilent (link_at n.parts link) → IsSilent x)
@@ -41,9 +41,10 @@ module _ (c : Configuration) (n m : Node WholeQueues) (link : ℕ) (x : Link) (s
       queues = ap (λ (q : WholeQueues). length q.links) h.queues ∙ z.queues;
       changeovers = ap (λ (xs : List Standing). length xs) h.changeovers ∙ length-set n.parts.changeovers link s ∙ z.changeovers;
       silent = λ other. subst (λ (xs : List Link). IsSilent (link_in xs other)) (sym h.links) (each-set IsSilent n.parts.links link other x down_link z.silent (quiet (z.silent link)));
+      ways = ap (λ (k : Marks). k.ways) h.marks ∙ z.ways;
     };
     lost = h.lost;
-    broken = h.broken;
+    marks = h.marks;
   }
 
   pub parts-link : IsSized c n → link < length c.links → link_at m.parts link ≡ x
@@ -68,9 +69,10 @@ module _ (c : Configuration) (n m : Node WholeQueues) (link : ℕ) (s : Standing
       queues = ap (λ (q : WholeQueues). length q.links) h.queues ∙ z.queues;
       changeovers = ap (λ (xs : List Standing). length xs) h.changeovers ∙ length-set n.parts.changeovers link s ∙ z.changeovers;
       silent = λ other. subst (λ (xs : List Link). IsSilent (link_in xs other)) (sym h.links) (z.silent other);
+      ways = ap (λ (k : Marks). k.ways) h.marks ∙ z.ways;
     };
     lost = h.lost;
-    broken = h.broken;
+    marks = h.marks;
   }
 
   pub standing-is : IsSized c n → link < length c.links → changeover_of m.parts link ≡ s
@@ -92,9 +94,10 @@ module _ (c : Configuration) (n m : Node WholeQueues) (link : ℕ) (x : Link) (q
       queues = ap (λ (q : WholeQueues). length q.links) h.queues ∙ z.queues;
       changeovers = ap (λ (xs : List Standing). length xs) h.changeovers ∙ z.changeovers;
       silent = λ other. subst (λ (xs : List Link). IsSilent (link_in xs other)) (sym h.links) (each-set IsSilent n.parts.links link other x down_link z.silent (quiet (z.silent link)));
+      ways = ap (λ (k : Marks). k.ways) h.marks ∙ z.ways;
     };
     lost = h.lost;
-    broken = h.broken;
+    marks = h.marks;
   }
 
   pub link-is : IsSized c n → link < length c.links → link_at m.parts link ≡ x
@@ -104,10 +107,10 @@ module _ (c : Configuration) (n m : Node WholeQueues) (link : ℕ) (x : Link) (q
 
 -- what is left of tests of routes shows nowhere
 gone-by : (n : Node WholeQueues) (link : ℕ) (b : Bool) (set : ℕ) (p : Parts) → p.links ≡ links_with n.parts link (after_failure (link_at n.parts link)) → p.changeovers ≡ n.parts.changeovers
-    → p.messages_lost ≡ n.parts.messages_lost → p.times_broken ≡ n.parts.times_broken
+    → p.messages_lost ≡ n.parts.messages_lost → marks_of p ≡ marks_of n.parts
     → HasParts n (with_parts n (if b then p else without_tests set p)) (links_with n.parts link (after_failure (link_at n.parts link))) n.parts.changeovers
-gone-by n link true set p e f g h = record { queues = refl; links = e; changeovers = f; lost = g; broken = h }
-gone-by n link false set p e f g h = record { queues = refl; links = e; changeovers = f; lost = g; broken = h }
+gone-by n link true set p e f g h = record { queues = refl; links = e; changeovers = f; lost = g; marks = h }
+gone-by n link false set p e f g h = record { queues = refl; links = e; changeovers = f; lost = g; marks = h }
 
 module _ (shape : Shape) (o : IsShape shape) (c : Configuration) (well : IsWell c) (link : ℕ) (n : Node WholeQueues) where
   abbrev fallen : Link
@@ -148,14 +151,14 @@ module _ (shape : Shape) (o : IsShape shape) (c : Configuration) (well : IsWell 
 
   -- a node with one more changeover
   begun-parts : (gone : Node WholeQueues) (s : Standing) (p : Parts) → HasParts n gone (links_with n.parts link fallen) n.parts.changeovers → p.links ≡ gone.parts.links
-      → p.changeovers ≡ with_standing gone.parts.changeovers link s → p.messages_lost ≡ gone.parts.messages_lost → p.times_broken ≡ gone.parts.times_broken
+      → p.changeovers ≡ with_standing gone.parts.changeovers link s → p.messages_lost ≡ gone.parts.messages_lost → marks_of p ≡ marks_of gone.parts
       → HasParts n (with_parts gone p) (links_with n.parts link fallen) (with_standing n.parts.changeovers link s)
-  begun-parts gone s p h links changeovers lost broken = record {
+  begun-parts gone s p h links changeovers lost marks = record {
     queues = h.queues;
     links = links ∙ h.links;
     changeovers = changeovers ∙ ap (λ (xs : List Standing). with_standing xs link s) h.changeovers;
     lost = lost ∙ h.lost;
-    broken = broken ∙ h.broken;
+    marks = marks ∙ h.marks;
   }
 
   begin-goes : (ordered : Bool) (gone : Node WholeQueues) → HasParts n gone (links_with n.parts link fallen) n.parts.changeovers → in_service n.parts link ≡ true → down n.parts link ≡ false
@@ -185,9 +188,10 @@ module _ (shape : Shape) (o : IsShape shape) (c : Configuration) (well : IsWell 
                 queues = z.queues;
                 changeovers = length-set gone.parts.changeovers link (failed true (changeover_of gone.parts link)) ∙ sym (length-set gone.parts.changeovers link (failed false (changeover_of gone.parts link))) ∙ z.changeovers;
                 silent = z.silent;
+                ways = z.ways;
               };
               lost = refl;
-              broken = refl;
+              marks = refl;
             })
             (λ z. up-there gone h up z)
             (λ z inside.
@@ -213,7 +217,7 @@ module _ (shape : Shape) (o : IsShape shape) (c : Configuration) (well : IsWell 
   failing true why e up =
       let gone : Node WholeQueues = make_unavailable whole c true link why n in
       begin-goes (is_ordered c link gone.parts) gone (gone-parts why) e up
-  failing false why e up = falls-early (with_parts n (fail_link link why n.parts)) (record { queues = refl; links = refl; changeovers = refl; lost = refl; broken = refl }) e up
+  failing false why e up = falls-early (with_parts n (fail_link link why n.parts)) (record { queues = refl; links = refl; changeovers = refl; lost = refl; marks = refl }) e up
 
   pub fail-goes : (why : FailureReason) → down n.parts link ≡ false → K shape o c well n (fail whole c link why n)
   fail-goes why up = failing (in_service n.parts link) why refl up
@@ -225,7 +229,7 @@ module _ (shape : Shape) (o : IsShape shape) (c : Configuration) (well : IsWell 
       let h : HasParts n gone (links_with n.parts link fallen) n.parts.changeovers = gone-parts reasons.Changeover in
       falls-serving _ (begun_by_peer (changeover_of gone.parts link)) (begun-parts gone _ _ h refl refl refl refl) e up refl
       (λ f. ap (λ (xs : List Standing). (slice_index_or xs link no_changeover).awaited) h.changeovers ∙ f)
-  by_peer false e up = falls-early (with_parts n (fail_link link reasons.Changeover n.parts)) (record { queues = refl; links = refl; changeovers = refl; lost = refl; broken = refl }) e up
+  by_peer false e up = falls-early (with_parts n (fail_link link reasons.Changeover n.parts)) (record { queues = refl; links = refl; changeovers = refl; lost = refl; marks = refl }) e up
 
   unless-down : (b : Bool) (m : Node WholeQueues) → down n.parts link ≡ b → (down n.parts link ≡ false → K shape o c well n m) → K shape o c well n (if b then n else m)
   unless-down true m e f = stays shape o c well n

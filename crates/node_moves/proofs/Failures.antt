@@ -4,7 +4,7 @@ use Rattle.node_moves.proofs.Machine.{Phase, Live, Moved, Gone, LinkEnd, Network
 use Rattle.node_moves.proofs.Definitions.{Message, dpc_of, Configuration, IsWell, Node, WholeQueues, Parts, queue_at, link_at, in_service, down, changeover_of, entry_of, peer_of, set_of, Queue, last_accepted, Link, down_link, is_down, is_in_service, Alignment, Down, Management, read_management}
 use Rattle.node_moves.proofs.Reading.{IsShape, says_of, order_at, answer_at, read_says}
 use Rattle.node_moves.proofs.Sets.{with_end, end-set}
-use Rattle.node_moves.proofs.Shown.{Books, Shows, IsShown, IsAlike, IsSized, IsBooked, shown_in, is_heard, place, users_that, any_message, most, link-inside, own-inside, at-own}
+use Rattle.node_moves.proofs.Shown.{Books, Shows, IsShown, IsAlike, IsSized, IsBooked, Marks, marks_of, shown_in, is_heard, place, users_that, any_message, most, link-inside, own-inside, at-own}
 use Rattle.node_moves.proofs.Going.{IsAt, Arrives, Goes, by-line}
 use Rattle.node_moves.proofs.Handling.{mid, end-at}
 use Rattle.node_moves.proofs.Own.{K, made-read}
@@ -67,7 +67,7 @@ pub record IsAlikeBut (c : Configuration) (n m : Node WholeQueues) (link : ℕ) 
   pub others : (other : ℕ) → other ≢ link → IsAlike n m other
   pub sized : IsSized c n → IsSized c m
   pub lost : m.parts.messages_lost ≡ n.parts.messages_lost
-  pub broken : m.parts.times_broken ≡ n.parts.times_broken
+  pub marks : marks_of m.parts ≡ marks_of n.parts
 
 pub past-down : (p : Parts) (link : ℕ) → length p.links ≤ link → down p link ≡ true
 past-down p link l = ap (λ (x : Link). is_down x.alignment) (get_or_past p.links link down_link l)
@@ -112,11 +112,11 @@ module _ (shape : Shape) (o : IsShape shape) (c : Configuration) (well : IsWell 
       h.move
 
   pub goes-by-end : (n m : Node WholeQueues) (link : ℕ) → IsAlikeBut c n m link → (IsSized c n → link < length c.links)
-      → ((p : Network) → IsAt shape p → IsSized c n → link < length c.links → IsShown n link (line_at p (place c link)).near → Changes p m link (node_at shape p (place c link))) → K shape o c well n m
+      → ((p : Network) → IsAt shape c p → IsSized c n → link < length c.links → IsShown n link (line_at p (place c link)).near → Changes p m link (node_at shape p (place c link))) → K shape o c well n m
   goes-by-end n m link e inside f = record {
     each = λ a l k. record {
-      unbroken = λ none. sym e.broken ∙ none;
-      goes = λ none p h s. arrives-by-end p n m link a l k s e (inside s.sized) (f p h s.sized (inside s.sized) (s.ends link (inside s.sized)));
+      unbroken = λ none. sym (ap (λ (k : Marks). k.broken) e.marks) ∙ none;
+      goes = λ p h s. arrives-by-end p n m link a l k s e (inside s.sized) (f p h s.sized (inside s.sized) (s.ends link (inside s.sized)));
     };
   }
 
@@ -165,8 +165,8 @@ module _ (shape : Shape) (o : IsShape shape) (c : Configuration) (well : IsWell 
   pub orders : (n m : Node WholeQueues) (link : ℕ) (a l : List Message) (k : Books) → IsAlikeBut c n m link → (IsSized c n → link < length c.links) → (IsSized c n → link < length c.links → HasAsked n m link)
       → Goes shape c (mid n a l k) (mid m a (changeover_order c link (last_accepted (queue_at n.queues link)) ∷ l) k)
   orders n m link a l k e listed f = record {
-    unbroken = λ none. sym e.broken ∙ none;
-    goes = λ none p h s.
+    unbroken = λ none. sym (ap (λ (k : Marks). k.broken) e.marks) ∙ none;
+    goes = λ p h s.
         let its : Place = place c link in
         let near : LinkEnd = (line_at p its).near in
         let inside : link < length c.links = listed s.sized in

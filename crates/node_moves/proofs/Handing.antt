@@ -136,15 +136,14 @@ module _ (settings : (point : ℕ) → Configuration) (t : AreTheirs settings) (
       record {
         unbroken = broken-before settings t shape o w v x fx (λ y d. changed-other x f w y d)
             (λ none. frame-unbroken text ((after-frame text no_books).unbroken (ap (λ (e : NetworkNode). e.node.parts.times_broken) (sym is) ∙ none)));
-        goes = λ none p h s.
-            let none_x : (apply whole c (FrameCame link text) n).left.parts.times_broken ≡ 0 = ap (λ (e : NetworkNode). e.node.parts.times_broken) (sym is) ∙ none x fx in
+        goes = λ p h s.
             let came : Comes_in settings t shape o w x link fx inside text rest flying = comes text rest flying p s in
             let j : Books = accepting k (brought_by (new_message link text (state_of c (w.node x))) (receive whole c link text n).outcome c (accept_text link (read_frame text) (state_of c (w.node x)))) in
             let l : Leads settings t shape o p (changed x (popped link new) w) x (mid (receive whole c link text n).left [] [] j) =
-            came.leads ((after-frame text j).unbroken none_x) p h (at-work settings t w x p fx s) in
+            came.leads p (h x fx) (at-work settings t w x p fx s) in
             let m : Leads settings t shape o p (changed x (popped link new) w) x (mid (apply whole c (FrameCame link text) n).left [] [] (naming j (lost_by text))) =
-            leads-goes settings t shape o p (changed x (popped link new) w) x (mid (receive whole c link text n).left [] [] j) (mid (apply whole c (FrameCame link text) n).left [] [] (naming j (lost_by text))) fx h l (after-frame text j) none_x in
-            finish settings t shape o p (changed x (popped link new) w) v x (mid (apply whole c (FrameCame link text) n).left [] [] (naming j (lost_by text))) m
+            leads-goes settings t shape o p (changed x (popped link new) w) x (mid (receive whole c link text n).left [] [] j) (mid (apply whole c (FrameCame link text) n).left [] [] (naming j (lost_by text))) fx (h x fx) l (after-frame text j) in
+            finish settings t shape o p (changed x (popped link new) w) v x fx (mid (apply whole c (FrameCame link text) n).left [] [] (naming j (lost_by text))) m
             (ap (λ (r : Outcome). mid (apply whole c (FrameCame link text) n).left [] []
             (naming (accepting k (brought_by (new_message link text (state_of c (w.node x))) r c (accept_text link (read_frame text) (state_of c (w.node x))))) (lost_by text))) (sym (outcome-same c (FrameCame link text) n))
             ∙ ap (rests settings t) (sym is))
@@ -231,11 +230,11 @@ module _ (settings : (point : ℕ) → Configuration) (t : AreTheirs settings) (
       )
 
   -- what comes of it
-  status-comes : (text : List ℕ) (rest : List (List ℕ)) → (w.node x).statuses link ≡ text ∷ rest → (p : Network) → IsAt shape p → Shown settings t w p → (receive whole c link text n).left.parts.times_broken ≡ 0
+  status-comes : (text : List ℕ) (rest : List (List ℕ)) → (w.node x).statuses link ≡ text ∷ rest → (p : Network) → IsAt shape c p → Shown settings t w p
       → Leads settings t shape o p (changed x (left_with rest) w) x (mid (receive whole c link text n).left [] [] k)
-  status-comes text rest flying p h s none =
+  status-comes text rest flying p h s =
       let it : (left : ℕ) × IsStatus text × AreStatuses rest left × ((line_at p its).told_near ≡ suc left) = told-at text rest flying (rests settings t (w.node x)) p (at-work settings t w x p fx s) in
-      by (is_link n.parts link) (down n.parts link) refl refl it.0 it.3 it.1.value it.1.reads it.1.status none
+      by (is_link n.parts link) (down n.parts link) refl refl it.0 it.3 it.1.value it.1.reads it.1.status
     where
       u : Mid
       u = rests settings t (w.node x)
@@ -250,31 +249,30 @@ module _ (settings : (point : ℕ) → Configuration) (t : AreTheirs settings) (
       listed many l = grind (arith, nat_tests, l)
 
       heard-by : (left : ℕ) → (line_at p its).told_near ≡ suc left → down n.parts link ≡ false → (value : FrameValue) → read_frame text ≡ Ok value → data_of value ≡ None
-          → (read whole c link (read_frame text) n).left.parts.times_broken ≡ 0 → Leads settings t shape o p v x (mid (read whole c link (read_frame text) n).left [] [] k)
-      heard-by left told up (EmptyFrame bsn fsn) e f none = absurd cc
-      heard-by left told up (MessageFrame bsn fsn sio sif) e f none = absurd cc
-      heard-by left told up (StatusFrame bsn fsn status) e f none =
+          → Leads settings t shape o p v x (mid (read whole c link (read_frame text) n).left [] [] k)
+      heard-by left told up (EmptyFrame bsn fsn) e f = absurd cc
+      heard-by left told up (MessageFrame bsn fsn sio sif) e f = absurd cc
+      heard-by left told up (StatusFrame bsn fsn status) e f =
           let a : (l : Leads settings t shape o p w x u) × ((line_at (last_of p l.networks) its).near.heard ≡ true) = hears-status u p left start told up in
           let q : Network = last_of p a.0.networks in
           let b : (l : Leads settings t shape o q v x u) × ((line_at (last_of q l.networks) its).near ≡ (line_at q its).near) = takes-status u q text rest flying a.0.shown in
           let r : Network = last_of q b.0.networks in
           let left_node : Node WholeQueues = (on_link_status whole c link status n).left in
           let same : (read whole c link (read_frame text) n).left ≡ left_node = ap (λ (g : Result FrameValue FrameFault). (read whole c link g n).left) e in
-          let at_q : IsAt shape q = leads-at settings t shape o p w x u a.0 h in
+          let at_q : IsAt shape c q = leads-at settings t shape o p w x u a.0 h in
           let heard : HeardAt shape o c well link r = ap (λ g. g.heard) b.1 ∙ a.1 in
-          let none_left : left_node.parts.times_broken ≡ 0 = ap (λ (g : Node WholeQueues). g.parts.times_broken) (sym same) ∙ none in
           let d : Arrives shape c r (mid left_node [] [] k) =
-          ((link_status-if shape o c well link status n).each [] [] k).goes none_left r (leads-at settings t shape o q v x u b.0 at_q) b.0.shown.here heard in
+          ((link_status-if shape o c well link status n).each [] [] k).goes r (leads-at settings t shape o q v x u b.0 at_q) b.0.shown.here heard in
           subst (λ (g : Node WholeQueues). Leads settings t shape o p v x (mid g [] [] k)) (sym same)
-          (leads-both settings t shape o p w v x u (mid left_node [] [] k) a.0
-          (leads-both settings t shape o q v v x u (mid left_node [] [] k) b.0
+          (leads-both settings t shape o p w v x u (mid left_node [] [] k) ((link_status-if shape o c well link status n).each [] [] k).unbroken a.0
+          (leads-both settings t shape o q v v x u (mid left_node [] [] k) ((link_status-if shape o c well link status n).each [] [] k).unbroken b.0
           (leads-arrives settings t shape o r v x u (mid left_node [] [] k) fx b.0.shown d)))
 
       by : (l b : Bool) → is_link n.parts link ≡ l → down n.parts link ≡ b → (left : ℕ) → (line_at p its).told_near ≡ suc left → (value : FrameValue) → read_frame text ≡ Ok value → data_of value ≡ None
-          → (if l then (if b then answer Ignored n else read whole c link (read_frame text) n) else refuse causes.NoSuchName n).left.parts.times_broken ≡ 0 → Leads settings t shape o p v x (mid (if l then (if b then answer Ignored n else read whole c link (read_frame text) n) else refuse causes.NoSuchName n).left [] [] k)
-      by true true e f left told value g i none = (takes-status u p text rest flying start).0
-      by true false e f left told value g i none = heard-by left told f value g i none
-      by false b e f left told value g i none =
+          → Leads settings t shape o p v x (mid (if l then (if b then answer Ignored n else read whole c link (read_frame text) n) else refuse causes.NoSuchName n).left [] [] k)
+      by true true e f left told value g i = (takes-status u p text rest flying start).0
+      by true false e f left told value g i = heard-by left told f value g i
+      by false b e f left told value g i =
           let known : nat_lt link (length n.parts.links) ≡ true = listed (length n.parts.links) (subst (λ (j : ℕ). link < j) (sym start.here.sized.links) inside) in
           let no : true ≡ false = sym known ∙ e in
           absurd cc
@@ -288,12 +286,11 @@ module _ (settings : (point : ℕ) → Configuration) (t : AreTheirs settings) (
       record {
         unbroken = broken-before settings t shape o w v x fx (λ y d. changed-other x f w y d)
             (λ none. frame-unbroken text ((after-frame text no_books).unbroken (ap (λ (e : NetworkNode). e.node.parts.times_broken) (sym is) ∙ none)));
-        goes = λ none p h s.
-            let none_x : (apply whole c (FrameCame link text) n).left.parts.times_broken ≡ 0 = ap (λ (e : NetworkNode). e.node.parts.times_broken) (sym is) ∙ none x fx in
-            let l : Leads settings t shape o p (changed x (left_with rest) w) x (mid (receive whole c link text n).left [] [] k) = status-comes text rest flying p h s ((after-frame text k).unbroken none_x) in
+        goes = λ p h s.
+            let l : Leads settings t shape o p (changed x (left_with rest) w) x (mid (receive whole c link text n).left [] [] k) = status-comes text rest flying p (h x fx) s in
             let m : Leads settings t shape o p (changed x (left_with rest) w) x (mid (apply whole c (FrameCame link text) n).left [] [] (naming k (lost_by text))) =
-            leads-goes settings t shape o p (changed x (left_with rest) w) x (mid (receive whole c link text n).left [] [] k) (mid (apply whole c (FrameCame link text) n).left [] [] (naming k (lost_by text))) fx h l (after-frame text k) none_x in
-            finish settings t shape o p (changed x (left_with rest) w) v x (mid (apply whole c (FrameCame link text) n).left [] [] (naming k (lost_by text))) m (ap (rests settings t) (sym is))
+            leads-goes settings t shape o p (changed x (left_with rest) w) x (mid (receive whole c link text n).left [] [] k) (mid (apply whole c (FrameCame link text) n).left [] [] (naming k (lost_by text))) fx (h x fx) l (after-frame text k) in
+            finish settings t shape o p (changed x (left_with rest) w) v x fx (mid (apply whole c (FrameCame link text) n).left [] [] (naming k (lost_by text))) m (ap (rests settings t) (sym is))
             (λ y d. changed-other x f w y d ∙ sym (changed-other x (left_with rest) w y d))
             (λ l. subst (λ (e : NetworkNode). IsSameFlight e (v.node x) l) (sym (changed-here x (left_with rest) w))
             (subst (λ (e : NetworkNode). IsSameFlight (left_with rest (w.node x)) e l) (sym is)

@@ -1,16 +1,17 @@
 -- Messages at a node: accepted, held, made, dropped, given up, and put on a link.
-use Rattle.node_moves.proofs.Basics.{◌≡◌, ◌≢◌, ℕ, Bool, true, false, ◌&&◌, ◌+◌, ◌≤◌, ◌<◌, List, [], ◌∷◌, ◌++◌, length, count_by, min, refl, ap, sym, subst, ◌∙◌, arith, get_or-set_same, get_or-set_other, length-set}
+use Rattle.node_moves.proofs.Basics.{◌≡◌, ◌≢◌, ℕ, Bool, true, false, ◌&&◌, ◌+◌, ◌≤◌, ◌<◌, List, [], ◌∷◌, ◌++◌, length, ◌⊎◌, inl, inr, Some, count_by, min, refl, ap, sym, subst, ◌∙◌, arith, get_or-set_same, get_or-set_other, length-set}
 use Rattle.node_moves.proofs.Machine.{user, UserMessage, Other, is_user_message, Live, LinkEnd, Network, Shape, Place, line_at, point_at, node_at, one_if, IsTakenFrom, Move, IsEnd}
-use Rattle.node_moves.proofs.Definitions.{Message, Configuration, IsWell, Node, WholeQueues, Parts, whole, with_parts, queue_at, with_queue, link_at, in_service, changeover_of, queue_on, hold, Queue, first_queue, appended}
+use Rattle.node_moves.proofs.Definitions.{Message, flow_of, Configuration, IsWell, Node, WholeQueues, Parts, whole, with_parts, queue_at, with_queue, link_at, in_service, changeover_of, link_of, queue_on, hold, Queue, first_queue, appended}
 use Rattle.node_moves.proofs.Reading.{IsShape, says_of}
 use Rattle.node_moves.proofs.Sets.{with_node, node-set, end-set}
-use Rattle.node_moves.proofs.Shown.{Books, accepting, naming, Mid, Shows, IsShown, IsAlike, IsSized, IsSilent, IsBooked, shown_in, shown-alike, place, users_that, any_message, most, link-inside, own-inside, at-own}
+use Rattle.node_moves.proofs.Shown.{Books, accepting, naming, Mid, Shows, IsShown, IsAlike, IsSized, IsSilent, HasWays, Marks, marks_of, IsBooked, shown_in, shown-alike, place, users_that, any_message, most, link-inside, own-inside, at-own}
 use Rattle.node_moves.proofs.Going.{IsAt, Goes, goes-both, arrives-here, by-line, by-node}
 use Rattle.exchange_rules.proofs.Moves.{serving-there}
 use Rattle.exchange_rules.specs.ChangingOver.{lose}
 use Rattle.network_moves.proofs.Counts.{count-cons, count-append, count-one}
 use Rattle.network_moves.proofs.Lasting.{lasts-at}
 use Rattle.network_moves.proofs.Words.{one-no_user}
+use Rattle.network_moves.specs.Lasting.{is_odd, odd}
 use Rattle.network_moves.specs.Moves as moves
 use Rattle.network_moves.specs.Networks as net
 use Rattle.signalling_types.specs.declared.cause.Cause.{Cause}
@@ -34,7 +35,7 @@ pub record AreAlike (c : Configuration) (n m : Node WholeQueues) : Type 0 where
   pub ends : (link : ℕ) → IsAlike n m link
   pub sized : IsSized c n → IsSized c m
   pub lost : m.parts.messages_lost ≡ n.parts.messages_lost
-  pub broken : m.parts.times_broken ≡ n.parts.times_broken
+  pub marks : marks_of m.parts ≡ marks_of n.parts
 
 pub same-ends : (n : Node WholeQueues) (link : ℕ) → IsAlike n n link
 same-ends n link = record { queue = refl; alignment = refl; standing = refl }
@@ -42,8 +43,8 @@ same-ends n link = record { queue = refl; alignment = refl; standing = refl }
 module _ (shape : Shape) (o : IsShape shape) (c : Configuration) (well : IsWell c) where
   pub goes-alike : (n m : Node WholeQueues) (a l : List Message) (k : Books) → AreAlike c n m → Goes shape c (mid n a l k) (mid m a l k)
   goes-alike n m a l k e = record {
-    unbroken = λ none. sym e.broken ∙ none;
-    goes = λ none p h s. arrives-here shape c p (mid m a l k) (record {
+    unbroken = λ none. sym (ap (λ (k : Marks). k.broken) e.marks) ∙ none;
+    goes = λ p h s. arrives-here shape c p (mid m a l k) (record {
       sized = e.sized s.sized;
       ends = λ link there. shown-alike n m link (line_at p (place c link)).near (e.ends link) (s.ends link there);
       booked = record {
@@ -59,12 +60,13 @@ module _ (shape : Shape) (o : IsShape shape) (c : Configuration) (well : IsWell 
   pub goes-relabelled : (v w : Mid) → w.node.parts ≡ v.node.parts → w.node.queues.links ≡ v.node.queues.links → ((x : net.Node) → IsBooked x v → IsBooked x w) → Goes shape c v w
   goes-relabelled v w same links booked = record {
     unbroken = λ none. ap (λ (p : Parts). p.times_broken) (sym same) ∙ none;
-    goes = λ none p h s. arrives-here shape c p w (record {
+    goes = λ p h s. arrives-here shape c p w (record {
       sized = record {
         links = ap (λ (x : Parts). length x.links) same ∙ s.sized.links;
         queues = ap (λ (x : List Queue). length x) links ∙ s.sized.queues;
         changeovers = ap (λ (x : Parts). length x.changeovers) same ∙ s.sized.changeovers;
         silent = λ link. subst (λ (x : Parts). IsSilent (link_at x link)) (sym same) (s.sized.silent link);
+        ways = subst (HasWays c) (sym same) s.sized.ways;
       };
       ends = λ link there. shown-alike v.node w.node link (line_at p (place c link)).near
           (record {
@@ -126,10 +128,10 @@ module _ (shape : Shape) (o : IsShape shape) (c : Configuration) (well : IsWell 
   but-none n = record { held = refl; ends = same-ends n; sized = λ s. s; broken = refl }
 
   pub goes-by-node : (v w : Mid) → AreAlikeBut v.node w.node
-      → ((p : Network) → IsAt shape p → Shows c p v → (x : net.Node) × IsBooked x w × Move shape says_of p (with_node p c.own x)) → Goes shape c v w
+      → ((p : Network) → IsAt shape c p → Shows c p v → (x : net.Node) × IsBooked x w × Move shape says_of p (with_node p c.own x)) → Goes shape c v w
   goes-by-node v w e f = record {
     unbroken = λ none. sym e.broken ∙ none;
-    goes = λ none p h s.
+    goes = λ p h s.
         let it : (x : net.Node) × IsBooked x w × Move shape says_of p (with_node p c.own x) = f p h s in
         by-node shape o c well p v w it.0 s (e.sized s.sized) e.ends it.1 it.2;
   }
@@ -216,7 +218,7 @@ module _ (shape : Shape) (o : IsShape shape) (c : Configuration) (well : IsWell 
   one-lost cause m n = record {
     held = refl;
     ends = λ link. record { queue = refl; alignment = refl; standing = refl };
-    sized = λ s. record { links = s.links; queues = s.queues; changeovers = s.changeovers; silent = s.silent };
+    sized = λ s. record { links = s.links; queues = s.queues; changeovers = s.changeovers; silent = s.silent; ways = s.ways };
     broken = refl;
   }
 
@@ -256,7 +258,7 @@ module _ (shape : Shape) (o : IsShape shape) (c : Configuration) (well : IsWell 
   pub there : (n : Node WholeQueues) (link : ℕ) → IsSized c n → in_service n.parts link ≡ true → link < length c.links
   there n link s e = subst (λ (k : ℕ). link < k) s.links (serving-there n.parts link e)
 
-  pub end-at : (p : Network) (link : ℕ) → IsAt shape p → IsEnd (line_at p (place c link)).near
+  pub end-at : (p : Network) (link : ℕ) → IsAt shape c p → IsEnd (line_at p (place c link)).near
   end-at p link h = (lasts-at shape says_of p (place c link) h.lasts).near
 
   pub live-queue : (n : Node WholeQueues) (link : ℕ) (e : LinkEnd) → e.phase ≡ Live → IsShown n link e → queue_at n.queues link ≡ e.queue
@@ -281,13 +283,30 @@ module _ (shape : Shape) (o : IsShape shape) (c : Configuration) (well : IsWell 
   queue-others n link other q d = record { queue = get_or-set_other n.queues.links link other q first_queue d; alignment = refl; standing = refl }
 
   pub queue-sized : (n : Node WholeQueues) (link : ℕ) (q : Queue) → IsSized c n → IsSized c (record n { queues = with_queue n.queues link q })
-  queue-sized n link q s = record { links = s.links; queues = length-set n.queues.links link q ∙ s.queues; changeovers = s.changeovers; silent = s.silent }
+  queue-sized n link q s = record { links = s.links; queues = length-set n.queues.links link q ∙ s.queues; changeovers = s.changeovers; silent = s.silent; ways = s.ways }
 
-  pub places : (n : Node WholeQueues) (link : ℕ) (m : Message) (a l : List Message) (k : Books) → in_service n.parts link ≡ true
+  -- it goes where the routes lead, or it is management of which no law speaks
+  abbrev pub MayGo : Node WholeQueues → Message → (link : ℕ) → Type 0
+  MayGo n m link = (link_of c n.parts (flow_of m) ≡ Some link) ⊎ (says_of m ≡ Other)
+
+  -- no message here has a number that is never under way
+  plain-loose : (p : Network) (n : Node WholeQueues) (m : Message) (a l : List Message) (k : Books) → IsAt shape c p → Shows c p (mid n a (m ∷ l) k) → is_odd (says_of m) ≡ false
+  plain-loose p n m a l k h s = by (is_odd (says_of m)) refl
+    where
+      by : (b : Bool) → is_odd (says_of m) ≡ b → is_odd (says_of m) ≡ false
+      by false e = e
+      by true e = absurd (omega (arith, ap one_if e, (taken-loose p n m a l k s).counted (odd says_of), h.lasts.bags c.own))
+
+  may-lead : (p : Network) (n : Node WholeQueues) (link : ℕ) (m : Message) (a l : List Message) (k : Books) → IsAt shape c p → Shows c p (mid n a (m ∷ l) k) → link < length c.links → MayGo n m link
+      → shape.leads (place c link).link (place c link).side m ≡ true
+  may-lead p n link m a l k h s inside (inl e) = h.led.routed n.parts m link inside s.sized.ways e (plain-loose p n m a l k h s)
+  may-lead p n link m a l k h s inside (inr e) = h.led.others m link e
+
+  pub places : (n : Node WholeQueues) (link : ℕ) (m : Message) (a l : List Message) (k : Books) → in_service n.parts link ≡ true → MayGo n m link
       → Goes shape c (mid n a (m ∷ l) k) (mid (queue_on whole c link m n) a l k)
-  places n link m a l k serves = record {
+  places n link m a l k serves way = record {
     unbroken = λ none. none;
-    goes = λ none p h s.
+    goes = λ p h s.
         let inside : link < length c.links = there n link s.sized serves in
         let its : Place = place c link in
         let e : LinkEnd = (line_at p its).near in
@@ -318,7 +337,7 @@ module _ (shape : Shape) (o : IsShape shape) (c : Configuration) (well : IsWell 
           rest = bag_of w;
           taken = subst (λ (x : net.Node). IsTakenFrom x.bag m (bag_of w)) (sym here) (taken-loose p n m a l k s);
           serving = serving;
-          leads = o.leads its.link its.side m;
+          leads = may-lead p n link m a l k h s inside way;
           after = end-set shape p its _ _ (link-inside shape o c well link) (own-inside shape o c well link);
         }));
   }

@@ -131,7 +131,7 @@ heard-says c m label word here managing plain e =
 pub never-odd : is_odd never ≡ true
 never-odd = (let none : nat_lt (2 ^ 24) (2 ^ 24) ≡ false = grind (arith, nat_tests) in ap not none)
 
-pub never-arrived : (shape : Shape) (o : IsShape shape) (c : Configuration) (well : IsWell c) (p : Network) (n : Node WholeQueues) (m : Message) (a l : List Message) (k : Books) → IsAt shape p → Shows c p (mid n (m ∷ a) l k)
+pub never-arrived : (shape : Shape) (o : IsShape shape) (c : Configuration) (well : IsWell c) (p : Network) (n : Node WholeQueues) (m : Message) (a l : List Message) (k : Books) → IsAt shape c p → Shows c p (mid n (m ∷ a) l k)
     → says_of m ≡ never → ⊥
 never-arrived shape o c well p n m a l k h s e =
     let one : one_if (odd says_of m) ≡ 1 = ap (λ (s : Saying). one_if (is_odd s)) e ∙ ap one_if never-odd in

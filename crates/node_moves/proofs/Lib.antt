@@ -5,6 +5,7 @@ pub mod Definitions
 pub mod Reading
 pub mod Shown
 pub mod Going
+pub mod Ways
 pub mod Handling
 pub mod Entries
 pub mod Own
@@ -47,3 +48,8 @@ pub mod Lossless
 pub mod MatedRun
 pub mod ByTheMate
 pub mod LossRun
+pub mod Codes
+pub mod Routed
+pub mod Closed
+pub mod Hops
+pub mod HopRun

@@ -71,17 +71,24 @@ doubtful q l =
 
 -- ---- what is noted of losses
 
--- links and changeovers stay, and so does what was counted as broken
+-- links, changeovers and routes stay
+pub record Leaves (p q : Parts) : Type 0 where
+  pub links : q.links ≡ p.links
+  pub changeovers : q.changeovers ≡ p.changeovers
+  pub routes : q.routes ≡ p.routes
+
+-- and so does what was counted as broken
 pub record Loses (p q : Parts) : Type 0 where
   pub links : q.links ≡ p.links
   pub changeovers : q.changeovers ≡ p.changeovers
+  pub routes : q.routes ≡ p.routes
   pub broken : q.times_broken ≡ p.times_broken
 
 pub each-loses : (ms : List Message) (p : Parts) → Loses p (lose_each ms p)
-each-loses [] p = record { links = refl; changeovers = refl; broken = refl }
+each-loses [] p = record { links = refl; changeovers = refl; routes = refl; broken = refl }
 each-loses (m ∷ ms) p =
     let rest : Loses (lose LostUnconfirmed m p) (lose_each ms (lose LostUnconfirmed m p)) = each-loses ms (lose LostUnconfirmed m p) in
-    record { links = rest.links; changeovers = rest.changeovers; broken = rest.broken }
+    record { links = rest.links; changeovers = rest.changeovers; routes = rest.routes; broken = rest.broken }
 
 -- as many losses are counted as messages are named, up to the most that is counted
 pub counts-each : (ms : List Message) (p : Parts) (x : ℕ) → min x most ≤ p.messages_lost → min (length ms + x) most ≤ (lose_each ms p).messages_lost
@@ -93,21 +100,17 @@ counts-each (m ∷ ms) p x h =
 
 judged-by : (b : Bool) (p q : Parts) → Loses p q → Loses p (judged b q)
 judged-by true p q e = e
-judged-by false p q e = record { links = e.links; changeovers = e.changeovers; broken = e.broken }
+judged-by false p q e = record { links = e.links; changeovers = e.changeovers; routes = e.routes; broken = e.broken }
 
 judged-lost : (b : Bool) (p : Parts) → (judged b p).messages_lost ≡ p.messages_lost
 judged-lost true p = refl
 judged-lost false p = refl
 
 -- what a completion leaves of the parts of a node
-pub concluded-loses : (link : ℕ) (found : Found) (p : Parts) → found.is_wrong ≡ false → Loses p (concluded link found p)
-concluded-loses link found p right =
+pub concluded-leaves : (link : ℕ) (found : Found) (p : Parts) → Leaves p (concluded link found p)
+concluded-leaves link found p =
     let l : Loses p (judged found.is_reasonable (lose_each found.lost p)) = judged-by found.is_reasonable p (lose_each found.lost p) (each-loses found.lost p) in
-    record {
-      links = l.links;
-      changeovers = l.changeovers;
-      broken = ap (λ (b : Bool). if b then once_more (judged found.is_reasonable (lose_each found.lost p)).times_broken else (judged found.is_reasonable (lose_each found.lost p)).times_broken) right ∙ l.broken;
-    }
+    record { links = l.links; changeovers = l.changeovers; routes = l.routes }
 
 pub concluded-lost : (link : ℕ) (found : Found) (p : Parts) → (concluded link found p).messages_lost ≡ (lose_each found.lost p).messages_lost
 concluded-lost link found p = judged-lost found.is_reasonable (lose_each found.lost p)
@@ -119,6 +122,13 @@ raised-by false t e = (refl, e)
 
 pub unless-broken : (b : Bool) (p : Parts) → (broken_if b p).times_broken ≡ 0 → (b ≡ false) × (p.times_broken ≡ 0)
 unless-broken b p e = raised-by b p.times_broken e
+
+-- it is by one whose number is wrong
+pub concluded-wrong : (link : ℕ) (found : Found) (p : Parts) → found.is_wrong ≡ true → (concluded link found p).times_broken ≡ 0 → ⊥
+concluded-wrong link found p wrong e =
+    let right : found.is_wrong ≡ false = (unless-broken found.is_wrong (judged found.is_reasonable (lose_each found.lost p)) e).0 in
+    let no : true ≡ false = sym wrong ∙ right in
+    absurd cc
 
 pub concluded-right : (link : ℕ) (found : Found) (p : Parts) → (concluded link found p).times_broken ≡ 0 → (found.is_wrong ≡ false) × (p.times_broken ≡ 0)
 concluded-right link found p e =

@@ -39,7 +39,7 @@ abbrev answered_from : Four → Four
 answered_from t = run (around ++ around ++ around ++ around ++ around ++ around) (expired_from t)
 
 confirmed-is : confirmed ≡ network_of (confirmed_from first_four)
-confirmed-is = submits-on _ (served_from first_four) served-is message_one one-on (none-held 0 0 (served_from first_four).one.node.parts.holds served-free) (sends direct ++ sends (turned direct))
+confirmed-is = submits-on _ (served_from first_four) served-is message_one one-on.goes_out (none-held 0 0 (served_from first_four).one.node.parts.holds served-free) (sends direct ++ sends (turned direct))
 
 confirmed-free : Free 0 0 (confirmed_from first_four).one.node.parts.holds
 unfolding apply tell_owed first_sets links_below status_of set_timer clear_timer start_unless_running clear_set due_name after_due due_count names_of choice_among link_by changes_of changes take_back_each owes_nothing any_flow flows rerouted order_each
@@ -47,7 +47,7 @@ confirmed-free = free-none 0 0 3 3 3
 
 expired-is : expired ≡ network_of (expired_from first_four)
 expired-is =
-    submits-on confirmed (confirmed_from first_four) confirmed-is message_two two-on (none-held 0 0 (confirmed_from first_four).one.node.parts.holds confirmed-free)
+    submits-on confirmed (confirmed_from first_four) confirmed-is message_two two-on.goes_out (none-held 0 0 (confirmed_from first_four).one.node.parts.holds confirmed-free)
     (done_at direct.here Takes ∷ fails direct ++ replicate 9 (record { point = 1; what = Ticks }))
 
 answered-is : answered ≡ network_of (answered_from first_four)

@@ -48,11 +48,11 @@ come_from t = run (sends onward) (passing message_two (moved_from t))
 
 pub one-on : GoesOn message_one
 unfolding apply
-one-on = record { handles = λ n. refl; submits = λ n. refl; enters = λ o n. refl; comes = λ o n. refl; offers = λ n. refl }
+one-on = record { goes_out = record { handles = λ n. refl; submits = λ n. refl; enters = λ o n. refl }; comes = λ o n. refl; offers = λ n. refl }
 
 pub two-on : GoesOn message_two
 unfolding apply
-two-on = record { handles = λ n. refl; submits = λ n. refl; enters = λ o n. refl; comes = λ o n. refl; offers = λ n. refl }
+two-on = record { goes_out = record { handles = λ n. refl; submits = λ n. refl; enters = λ o n. refl }; comes = λ o n. refl; offers = λ n. refl }
 
 pub served-free : Free 0 0 (served_from first_four).one.node.parts.holds
 unfolding apply tell_owed first_sets links_below status_of set_timer clear_timer start_unless_running clear_set due_name after_due due_count names_of choice_among link_by changes_of changes take_back_each owes_nothing any_flow flows rerouted order_each
@@ -62,7 +62,7 @@ pub served-is : served ≡ network_of (served_from first_four)
 served-is = runs-on (first_network mated) first_four (sym (network-seen (first_network mated))) (opening ++ settling)
 
 pub sent-is : sent ≡ network_of (sent_from first_four)
-sent-is = submits-on served (served_from first_four) served-is message_one one-on (none-held 0 0 (served_from first_four).one.node.parts.holds served-free) (sends direct)
+sent-is = submits-on served (served_from first_four) served-is message_one one-on.goes_out (none-held 0 0 (served_from first_four).one.node.parts.holds served-free) (sends direct)
 
 sent-free : Free 0 0 (sent_from first_four).one.node.parts.holds
 unfolding apply tell_owed first_sets links_below status_of set_timer clear_timer start_unless_running clear_set due_name after_due due_count names_of choice_among link_by changes_of changes take_back_each owes_nothing any_flow flows rerouted order_each
@@ -70,7 +70,7 @@ sent-free = free-none 0 0 3 3 3
 
 pub failed-is : failed ≡ network_of (failed_from first_four)
 failed-is =
-    submits-on sent (sent_from first_four) sent-is message_two two-on (none-held 0 0 (sent_from first_four).one.node.parts.holds sent-free) (done_at direct.here Takes ∷ fails direct ++ ordering)
+    submits-on sent (sent_from first_four) sent-is message_two two-on.goes_out (none-held 0 0 (sent_from first_four).one.node.parts.holds sent-free) (done_at direct.here Takes ∷ fails direct ++ ordering)
 
 -- ---- the changeover completes at point 1
 

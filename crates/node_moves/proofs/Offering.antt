@@ -30,11 +30,14 @@ mate = transfer_settings 2 1
 abbrev pub offered : Message → Configuration → (from : Option ℕ) → (waiting : Bool) → Node WholeQueues → Done WholeQueues
 offered m c from waiting n = offer whole c (no_room_for whole c m n) waiting (link_of c n.parts (flow_of m)) from m n
 
--- it goes on at both, whatever these are doing
-pub record GoesOn (m : Message) : Type 0 where
+-- it goes on at the first, and at both, whatever these are doing
+pub record GoesOut (m : Message) : Type 0 where
   pub handles : (n : Node WholeQueues) → handle_event whole near (Submitted m) n ≡ offered m near None (waits near n.parts.holds m) n
   pub submits : (n : Node WholeQueues) → apply whole near (Submitted m) n ≡ settled whole near (offered m near None (waits near n.parts.holds m) n)
   pub enters : (o : Outcome) (n : Node WholeQueues) → brought_to (whither_goes near m) o near m n ≡ taken_in o m
+
+pub record GoesOn (m : Message) : Type 0 where
+  pub goes_out : GoesOut m
   pub comes : (o : Outcome) (n : Node WholeQueues) → brought_to (whither_goes mate m) o mate m n ≡ taken_in o m
   pub offers : (n : Node WholeQueues) → deliver whole mate 2 m n ≡ note_refusal 2 (offered m mate (Some 2) (waits mate n.parts.holds m) n)
 
@@ -60,7 +63,7 @@ queued_as m d lost x = entered_as m d (taken_in d.outcome m) lost x
 abbrev pub queued : Message → NetworkNode → NetworkNode
 queued m x = queued_as m (settled whole near (offered m near None false x.node)) (lost_after (offered m near None false x.node)) x
 
-module _ (m : Message) (on : GoesOn m) where
+module _ (m : Message) (on : GoesOut m) where
   pub is-queued : (x : NetworkNode) → waits near x.node.parts.holds m ≡ false → did_here (Submits m) near x ≡ queued m x
   is-queued x f =
       let d : Done WholeQueues = apply whole near (Submitted m) x.node in
@@ -192,7 +195,7 @@ module _ (w : NetworkState) (t : Four) (same : w ≡ network_of t) where
   pub runs-on : (steps : List Step) → after_steps mated steps w ≡ network_of (run steps t)
   runs-on steps = ap (after_steps mated steps) same ∙ run-is steps t
 
-  pub submits-on : (m : Message) → GoesOn m → waits near t.one.node.parts.holds m ≡ false → (steps : List Step)
+  pub submits-on : (m : Message) → GoesOut m → waits near t.one.node.parts.holds m ≡ false → (steps : List Step)
       → after_steps mated (record { point = 1; what = Submits m } ∷ steps) w ≡ network_of (run steps (submitting m t))
   submits-on m on f steps =
       ap (after_steps mated (record { point = 1; what = Submits m } ∷ steps)) same

@@ -140,6 +140,7 @@ module _ (c : Configuration) (n : Node WholeQueues) (link : ℕ) (m : MayComeUp 
       waiting = λ gone. (let no : false ≡ true = gone in absurd cc);
       owed = λ gone. (let no : false ≡ true = gone in absurd cc);
     });
+    ways = z.ways;
   }
 
 module _ (settings : (point : ℕ) → Configuration) (t : AreTheirs settings) (shape : Shape) (o : IsShape shape) (w : NetworkState) (x link : ℕ) (fx : IsNode settings x) (inside : link < length (settings x).links)
@@ -192,7 +193,7 @@ module _ (settings : (point : ℕ) → Configuration) (t : AreTheirs settings) (
       record {
         unbroken = broken-before settings t shape o w v x fx (λ y d. changed-other x follows_up w y d)
             (λ none. (after-opening no_books).unbroken (ap (λ (e : NetworkNode). e.node.parts.times_broken) (sym is) ∙ none));
-        goes = λ none p h s.
+        goes = λ p h s.
             let start : ShownAt settings t w x (rests settings t (w.node x)) p = at-work settings t w x p fx s in
             let y : Line = line_at p its in
             let z : Line = opened_second y in
@@ -213,9 +214,8 @@ module _ (settings : (point : ℕ) → Configuration) (t : AreTheirs settings) (
             (opened-shown c n link m y.near.came y.near.gone start.here.sized inside) (opened-others c n link m) (now-booked p start)
             (subst (λ (e : NetworkNode). IsFlown e link z) (sym led)
             (record { user_data = flown.user_data; statuses = flown.statuses; follows = updated-here (w.node x).follows link false; came = flown.came }))) in
-            let none_x : (apply whole c (CameUp link) n).left.parts.times_broken ≡ 0 = ap (λ (e : NetworkNode). e.node.parts.times_broken) (sym is) ∙ none x fx in
-            finish settings t shape o p one v x (mid (apply whole c (CameUp link) n).left [] [] (naming k lost))
-            (leads-goes settings t shape o p one x (mid now [] [] k) (mid (apply whole c (CameUp link) n).left [] [] (naming k lost)) fx h l (after-opening k) none_x)
+            finish settings t shape o p one v x fx (mid (apply whole c (CameUp link) n).left [] [] (naming k lost))
+            (leads-goes settings t shape o p one x (mid now [] [] k) (mid (apply whole c (CameUp link) n).left [] [] (naming k lost)) fx (h x fx) l (after-opening k))
             (ap (rests settings t) (sym is)) (λ i d. changed-other x follows_up w i d ∙ sym (changed-other x followed w i d))
             (λ i. subst (λ (e : NetworkNode). IsSameFlight e (v.node x) i) (sym led) (subst (λ (e : NetworkNode). IsSameFlight (followed (w.node x)) e i) (sym is) (record { user_data = refl; statuses = refl; follows = refl; came = refl })));
       }
@@ -266,18 +266,18 @@ module _ (settings : (point : ℕ) → Configuration) (t : AreTheirs settings) (
         let one : NetworkState = both_by cleared in
         let is : v.node x ≡ come_up c link (w.node x) = at-x (come_up c link) in
         record {
-          unbroken = λ none i fi.
+          unbroken = λ i fi none.
               ⊎_elim
               (λ (same : i ≡ x).
-              subst (λ (j : ℕ). (w.node j).node.parts.times_broken ≡ 0) (sym same) ((after-opening no_books).unbroken (ap (λ (e : NetworkNode). e.node.parts.times_broken) (sym is) ∙ none x fx)))
+              subst (λ (j : ℕ). (w.node j).node.parts.times_broken ≡ 0) (sym same) ((after-opening no_books).unbroken (ap (λ (e : NetworkNode). e.node.parts.times_broken) (sym is) ∙ subst (λ (j : ℕ). (v.node j).node.parts.times_broken ≡ 0) same none)))
               (λ (d : i ≢ x).
               ⊎_elim
               (λ (same : i ≡ there.point).
-              subst (λ (j : ℕ). (w.node j).node.parts.times_broken ≡ 0) (sym same) (ap (λ (e : NetworkNode). e.node.parts.times_broken) (sym (at-there (come_up c link))) ∙ none there.point other.within))
-              (λ (e : i ≢ there.point). ap (λ (g : NetworkNode). g.node.parts.times_broken) (sym (at-others (come_up c link) i d e)) ∙ none i fi)
+              subst (λ (j : ℕ). (w.node j).node.parts.times_broken ≡ 0) (sym same) (ap (λ (e : NetworkNode). e.node.parts.times_broken) (sym (at-there (come_up c link))) ∙ subst (λ (j : ℕ). (v.node j).node.parts.times_broken ≡ 0) same none))
+              (λ (e : i ≢ there.point). ap (λ (g : NetworkNode). g.node.parts.times_broken) (sym (at-others (come_up c link) i d e)) ∙ none)
               (cases_eq i there.point))
               (cases_eq i x);
-          goes = λ none p h s.
+          goes = λ p h s.
               let start : ShownAt settings t w x (rests settings t (w.node x)) p = at-work settings t w x p fx s in
               let y : Line = line_at p its in
               let z : Line = opened_first y in
@@ -288,7 +288,7 @@ module _ (settings : (point : ℕ) → Configuration) (t : AreTheirs settings) (
               let parts : (down (w.node there.point).node.parts there.link ≡ true) × (may_restart (changeover_of (w.node there.point).node.parts there.link) ≡ true) =
               two-true (down (w.node there.point).node.parts there.link) (may_restart (changeover_of (w.node there.point).node.parts there.link)) may in
               let far_may : MayOpen y.far = may-shown (w.node there.point).node there.link y.far far_shown parts.0 parts.1 in
-              let line : LastsLine shape says_of y = lasts-at shape says_of p its h.lasts in
+              let line : LastsLine shape says_of y = lasts-at shape says_of p its (h x fx).lasts in
               let l : Leads settings t shape o p one x (mid now [] [] k) =
               leads-one settings t shape o p (with_line shape p its z (node_at shape p its)) one x (mid now [] [] k)
               (moves.opens_first (record {
@@ -313,9 +313,8 @@ module _ (settings : (point : ℕ) → Configuration) (t : AreTheirs settings) (
                 follows = updated-here (w.node there.point).follows there.link true;
                 came = before.came;
               }))) in
-              let none_x : (apply whole c (CameUp link) n).left.parts.times_broken ≡ 0 = ap (λ (e : NetworkNode). e.node.parts.times_broken) (sym is) ∙ none x fx in
-              finish settings t shape o p one v x (mid (apply whole c (CameUp link) n).left [] [] (naming k lost))
-              (leads-goes settings t shape o p one x (mid now [] [] k) (mid (apply whole c (CameUp link) n).left [] [] (naming k lost)) fx h l (after-opening k) none_x)
+              finish settings t shape o p one v x fx (mid (apply whole c (CameUp link) n).left [] [] (naming k lost))
+              (leads-goes settings t shape o p one x (mid now [] [] k) (mid (apply whole c (CameUp link) n).left [] [] (naming k lost)) fx (h x fx) l (after-opening k))
               (ap (rests settings t) (sym is))
               (λ i d. ap (λ (e : NetworkNode). if nat_eq i there.point then led e else e) (changed-other x (come_up c link) w i d ∙ sym (changed-other x cleared w i d)))
               (λ i. subst (λ (e : NetworkNode). IsSameFlight e (v.node x) i) (sym (at-x cleared))

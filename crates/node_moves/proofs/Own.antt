@@ -1,9 +1,10 @@
 -- Rules that send the node's own management, of which no law speaks, and change nothing else that shows.
-use Rattle.node_moves.proofs.Basics.{◌≡◌, ℕ, Bool, true, false, not, ◌&&◌, ◌≤◌, ◌+◌, ◌*◌, ◌%◌, List, [], ◌∷◌, length, Option, Some, None, Result, Ok, Err, refl, ap, sym, subst, ◌∙◌, arith, if◌then◌else◌, nat_lt, nat_tests, length-set, append_assoc, ◌++◌}
+use Rattle.node_moves.proofs.Basics.{◌≡◌, ℕ, Bool, true, false, not, ◌&&◌, ◌≤◌, ◌+◌, ◌*◌, ◌%◌, List, [], ◌∷◌, length, Option, Some, None, inl, inr, Result, Ok, Err, refl, ap, sym, subst, ◌∙◌, arith, if◌then◌else◌, nat_lt, nat_tests, length-set, append_assoc, ◌++◌}
 use Rattle.node_moves.proofs.Machine.{Other, is_user_message, Shape}
 use Rattle.node_moves.proofs.Definitions.{Message, flow_of, opc_of, dpc_of, service_indicator, Configuration, IsWell, Node, Done, WholeQueues, Parts, Link, down_link, whole, with_parts, answer, links_with, link_at, in_service, changeover_of, queue_on, link_of, no_room, set_of, adjacent_of, management_to, Management, read_management, SIF_OCTETS}
 use Rattle.node_moves.proofs.Reading.{IsShape, says_of, read_says, is_long, says-managed}
-use Rattle.node_moves.proofs.Shown.{Books, naming, IsSilent}
+use Rattle.node_moves.proofs.Shown.{Books, naming, IsSilent, Marks, marks_of}
+use Rattle.node_moves.proofs.Ways.{forced-ways}
 use Rattle.node_moves.proofs.Going.{Goes, goes-none, goes-both}
 use Rattle.node_moves.proofs.Handling.{AreAlike, mid, names-more, goes-alike, makes, discards-loose, places}
 use Rattle.exchange_rules.proofs.Lists.{alike-at, each-set}
@@ -24,6 +25,7 @@ use Rattle.route_management.specs.declared.heard.Heard.TheVariants as hears
 use Rattle.route_management.specs.declared.heard.RouteTest.{RouteTest}
 use Rattle.changeback.specs.Rerouting.{rerouted}
 use Rattle.routes.specs.Routes.{status_of}
+use Rattle.routes.specs.declared.route.Route.{Route}
 use Rattle.routes.specs.declared.route.RouteStatus.{RouteStatus}
 use Rattle.routes.specs.declared.route.RouteStatus.TheVariants.{Allowed, Restricted, Prohibited}
 use Rattle.signalling_types.specs.declared.cause.Cause.{Cause}
@@ -113,8 +115,8 @@ module _ (shape : Shape) (o : IsShape shape) (c : Configuration) (well : IsWell 
   alike n m e = record { each = λ a l k. goes-alike shape o c well n m a l k e }
 
   -- other parts, but links and changeovers
-  pub aside : (n : Node WholeQueues) (p : Parts) → p.links ≡ n.parts.links → p.changeovers ≡ n.parts.changeovers → p.messages_lost ≡ n.parts.messages_lost → p.times_broken ≡ n.parts.times_broken → K n (with_parts n p)
-  aside n p links changeovers lost broken = alike n (with_parts n p) (record {
+  pub aside : (n : Node WholeQueues) (p : Parts) → p.links ≡ n.parts.links → p.changeovers ≡ n.parts.changeovers → p.messages_lost ≡ n.parts.messages_lost → marks_of p ≡ marks_of n.parts → K n (with_parts n p)
+  aside n p links changeovers lost marks = alike n (with_parts n p) (record {
     held = refl;
     ends = λ link. record {
       queue = refl;
@@ -126,15 +128,16 @@ module _ (shape : Shape) (o : IsShape shape) (c : Configuration) (well : IsWell 
       queues = s.queues;
       changeovers = ap (λ xs. length xs) changeovers ∙ s.changeovers;
       silent = λ link. subst (λ (xs : List Link). IsSilent (link_in xs link)) (sym links) (s.silent link);
+      ways = ap (λ (k : Marks). k.ways) marks ∙ s.ways;
     };
     lost = lost;
-    broken = broken;
+    marks = marks;
   })
 
   -- a link, but its alignment
   pub relinked : (n : Node WholeQueues) (link : ℕ) (x : Link) (p : Parts) → p.links ≡ links_with n.parts link x → x.alignment ≡ (link_at n.parts link).alignment → p.changeovers ≡ n.parts.changeovers
-      → p.messages_lost ≡ n.parts.messages_lost → p.times_broken ≡ n.parts.times_broken → (IsSilent (link_at n.parts link) → IsSilent x) → K n (with_parts n p)
-  relinked n link x p links same changeovers lost broken quiet = alike n (with_parts n p) (record {
+      → p.messages_lost ≡ n.parts.messages_lost → marks_of p ≡ marks_of n.parts → (IsSilent (link_at n.parts link) → IsSilent x) → K n (with_parts n p)
+  relinked n link x p links same changeovers lost marks quiet = alike n (with_parts n p) (record {
     held = refl;
     ends = λ other. record {
       queue = refl;
@@ -146,9 +149,10 @@ module _ (shape : Shape) (o : IsShape shape) (c : Configuration) (well : IsWell 
       queues = s.queues;
       changeovers = ap (λ xs. length xs) changeovers ∙ s.changeovers;
       silent = λ other. subst (λ (xs : List Link). IsSilent (link_in xs other)) (sym links) (each-set IsSilent n.parts.links link other x down_link s.silent (quiet (s.silent link)));
+      ways = ap (λ (k : Marks). k.ways) marks ∙ s.ways;
     };
     lost = lost;
-    broken = broken;
+    marks = marks;
   })
 
   -- ---- a message that is loose goes out, or is dropped
@@ -157,7 +161,7 @@ module _ (shape : Shape) (o : IsShape shape) (c : Configuration) (well : IsWell 
       → Goes shape c (mid n a (m ∷ l) k) (mid (send whole c room link m n) a l k)
   sends-loose (Some cause) link m n a l k e says = goes-both shape c _ _ _ (discards-loose shape o c well n m a l k says) ((aside n (unsent cause m n.parts) refl refl refl refl).each a l k)
   sends-loose None None m n a l k e says = goes-both shape c _ _ _ (discards-loose shape o c well n m a l k says) ((aside n _ refl refl refl refl).each a l k)
-  sends-loose None (Some link) m n a l k e says = places shape o c well n link m a l k (chosen_serves c n.parts (flow_of m) link e)
+  sends-loose None (Some link) m n a l k e says = places shape o c well n link m a l k (chosen_serves c n.parts (flow_of m) link e) (inl e)
 
   no-user : (m : Message) → says_of m ≡ Other → is_user_message (says_of m) ≡ false
   no-user m e = ap is_user_message e
@@ -170,7 +174,7 @@ module _ (shape : Shape) (o : IsShape shape) (c : Configuration) (well : IsWell 
 
   -- one goes out on a link in service
   pub queued : (link : ℕ) (m : Message) (n : Node WholeQueues) → in_service n.parts link ≡ true → says_of m ≡ Other → K n (queue_on whole c link m n)
-  queued link m n serves says = record { each = λ a l k. goes-both shape c _ _ _ (makes shape o c well n m a l k says) (places shape o c well n link m a l k serves) }
+  queued link m n serves says = record { each = λ a l k. goes-both shape c _ _ _ (makes shape o c well n m a l k says) (places shape o c well n link m a l k serves (inr says)) }
 
   -- with other parts
   pub routed-with : (m : Message) (n : Node WholeQueues) (p : Parts) → K n (with_parts n p) → says_of m ≡ Other → K n (send_routed whole c m (with_parts n p))
@@ -230,14 +234,18 @@ module _ (shape : Shape) (o : IsShape shape) (c : Configuration) (well : IsWell 
   rerouting-goes destination [] n p e = e
   rerouting-goes destination (sls ∷ others) n p e = both n (with_parts n p) _ e (aside (with_parts n p) _ refl refl refl refl)
 
+  -- a route gets another status
+  forced-goes : (status : RouteStatus) (set destination : ℕ) (n : Node WholeQueues) → K n (with_parts n (forced c set destination status n.parts))
+  forced-goes status set destination n = aside n _ refl refl refl (ap (λ (ways : List (List Route)). record { broken = n.parts.times_broken; ways = ways }) (forced-ways c set destination status n.parts))
+
   heard-goes : (status : RouteStatus) (set destination : ℕ) (n : Node WholeQueues) (p : Parts) → K n (with_parts n p) → K n (with_parts n (rerouted_by status c set destination p))
-  heard-goes Prohibited set destination n p e = both n (with_parts n p) _ e (aside (with_parts n p) _ refl refl refl refl)
+  heard-goes Prohibited set destination n p e = both n (with_parts n p) _ e (forced-goes Prohibited set destination (with_parts n p))
   heard-goes Restricted set destination n p e =
       let next : Parts = forced c set destination Restricted p in
-      rerouting-goes destination (rerouted (facts c p) (facts c next) destination) n next (both n (with_parts n p) _ e (aside (with_parts n p) _ refl refl refl refl))
+      rerouting-goes destination (rerouted (facts c p) (facts c next) destination) n next (both n (with_parts n p) _ e (forced-goes Restricted set destination (with_parts n p)))
   heard-goes Allowed set destination n p e =
       let next : Parts = forced c set destination Allowed p in
-      rerouting-goes destination (rerouted (facts c p) (facts c next) destination) n next (both n (with_parts n p) _ e (aside (with_parts n p) _ refl refl refl refl))
+      rerouting-goes destination (rerouted (facts c p) (facts c next) destination) n next (both n (with_parts n p) _ e (forced-goes Allowed set destination (with_parts n p)))
 
   status-by : (x : Heard) (set destination : ℕ) (status : RouteStatus) (n : Node WholeQueues) → K n (apply_route_status whole c x set destination status n).left
   status-by hears.Ignored set destination status n = stays n

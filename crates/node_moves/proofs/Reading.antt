@@ -1,7 +1,7 @@
 -- What messages say in a network of nodes, and the places of links there: each by its two points and its signalling link
 -- code, whatever other nodes there are.
 use Rattle.node_moves.proofs.Basics.{◌≡◌, ◌≢◌, ℕ, Bool, true, false, ◌+◌, ◌*◌, ◌^◌, ◌<◌, ◌≤◌, length, Result, Ok, Err, nat_eq, nat_lt, refl, ap, ◌∙◌, arith, nat_tests}
-use Rattle.node_moves.proofs.Machine.{Side, Near, Far, opposite, Saying, UserMessage, Order, Answer, Other, is_user_message, Shape, Place, point_at}
+use Rattle.node_moves.proofs.Machine.{Near, Far, opposite, Saying, UserMessage, Order, Answer, Other, is_user_message, Shape, Place, point_at}
 use Rattle.node_moves.proofs.Definitions.{Message, is_management, dpc_of, opc_of, service_indicator, SIF_OCTETS, testing, Management, MgmtFault, read_management}
 use Rattle.mtp3_codec.specs.declared.management.Management.TheVariants as says
 
@@ -15,13 +15,11 @@ place_by false own other slc = record { link = (other * 2 ^ 14 + own) * 2 ^ 4 + 
 abbrev pub place_of : (own other slc : ℕ) → Place
 place_of own other slc = place_by (nat_lt own other) own other slc
 
--- a network with a node at each point, and each link that points and codes name; any message may go by any of them, and
--- no node starts again
+-- a network with a node at each point, and each link that points and codes name; no node starts again
 pub record IsShape (shape : Shape) : Type 0 where
   pub nodes : (point : ℕ) → point < 2 ^ 14 → point < shape.nodes
   pub links : (own other slc : ℕ) → own < 2 ^ 14 → other < 2 ^ 14 → slc < 2 ^ 4 → (place_of own other slc).link < shape.links
   pub points : (own other slc : ℕ) → own < 2 ^ 14 → other < 2 ^ 14 → slc < 2 ^ 4 → point_at shape (place_of own other slc) ≡ own
-  pub leads : (link : ℕ) (side : Side) (m : Message) → shape.leads link side m ≡ true
   pub lasting : (point : ℕ) → shape.restarts point ≡ false
 
 same-link : (first second : Bool) (own one other slc code : ℕ) → nat_lt own one ≡ first → nat_lt own other ≡ second → own < 2 ^ 14 → one < 2 ^ 14 → other < 2 ^ 14 → slc < 2 ^ 4 → code < 2 ^ 4

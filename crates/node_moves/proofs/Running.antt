@@ -4,7 +4,7 @@ use Rattle.node_moves.proofs.Machine.{Side, Near, Far, LinkEnd, Network, Shape, 
 use Rattle.node_moves.proofs.Definitions.{Configuration, Node, WholeQueues, whole, answer, refuse, is_link, link_at, changeover_of, first_queue, Link, down_link, Standing, no_changeover, is_down, is_in_service}
 use Rattle.node_moves.proofs.Reading.{IsShape, says_of, place_by}
 use Rattle.node_moves.proofs.Shown.{no_books, IsShown, IsSilent, is_heard}
-use Rattle.node_moves.proofs.Going.{IsAt, goes-none, last-append, moves-append}
+use Rattle.node_moves.proofs.Going.{IsLed, goes-none, last-append, moves-append}
 use Rattle.node_moves.proofs.Handling.{mid}
 use Rattle.node_moves.proofs.World.{IsFlown, Shown, rests, place_at}
 use Rattle.node_moves.proofs.Flights.{changed-here, changed-other}
@@ -49,13 +49,17 @@ point-back : (first : Bool) (own other slc : ℕ) → own < 2 ^ 14 → other < 2
 point-back true own other slc a b d = omega (arith, a, b, d)
 point-back false own other slc a b d = omega (arith, a, b, d)
 
+-- any message may go by any link there
+pub all-led : (c : Configuration) → IsLed all_points c
+unfolding all_points
+all-led c = record { routed = λ p m link inside ways e plain. refl; others = λ m link e. refl }
+
 pub are-all : IsShape all_points
 unfolding all_points
 are-all = record {
   nodes = λ point l. l;
   links = λ own other slc a b d. line-within (nat_lt own other) own other slc a b d;
   points = λ own other slc a b d. point-back (nat_lt own other) own other slc a b d;
-  leads = λ link side m. refl;
   lasting = λ point. refl;
 }
 
@@ -175,7 +179,7 @@ module _ (settings : (point : ℕ) → Configuration) (t : AreTheirs settings) (
       by false h = record {
         unbroken = broken-before settings t shape o w (changed x up w) x fx (λ y d. changed-other x up w y d)
             (λ none. up-unbroken x link fx (w.node x).node (ap (λ (q : NetworkNode). q.node.parts.times_broken) (sym (changed-here x up w)) ∙ none));
-        goes = λ none p at s. nowhere w x link p fx s m h;
+        goes = λ p at s. nowhere w x link p fx s m h;
       }
 
   led-broken : (w : NetworkState) (y l i : ℕ) → ((changed y (be_led l) w).node i).node.parts.times_broken ≡ (w.node i).node.parts.times_broken
@@ -204,10 +208,10 @@ module _ (settings : (point : ℕ) → Configuration) (t : AreTheirs settings) (
           let inside : link < length (settings x).links = grind (arith, nat_tests, h) in
           first-step settings t shape o w x link fx inside m there (is-other settings t shape o x link there fx inside g) f
       by false h = record {
-        unbroken = λ none. broken-before settings t shape o w one x fx (λ y d. changed-other x (come_up (settings x) link) w y d)
+        unbroken = λ i fi none. broken-before settings t shape o w one x fx (λ y d. changed-other x (come_up (settings x) link) w y d)
             (λ here. up-unbroken x link fx (w.node x).node (ap (λ (q : NetworkNode). q.node.parts.times_broken) (sym (changed-here x (come_up (settings x) link) w)) ∙ here))
-            (λ i fi. sym (led-broken one there.point there.link i) ∙ none i fi);
-        goes = λ none p at s. nowhere w x link p fx s m h;
+            i fi (sym (led-broken one there.point there.link i) ∙ none);
+        goes = λ p at s. nowhere w x link p fx s m h;
       }
 
   -- ---- any of them
@@ -234,16 +238,16 @@ module _ (settings : (point : ℕ) → Configuration) (t : AreTheirs settings) (
 
   both-steps : (w v u : NetworkState) → Goes_on w v → Goes_on v u → Goes_on w u
   both-steps w v u f g = record {
-    unbroken = λ none. f.unbroken (g.unbroken none);
-    goes = λ none p h s.
-        let a : Reaches settings t shape o p v = f.goes (g.unbroken none) p h s in
-        let whole_then : (point : ℕ) → (last_of p a.networks).broken point ≡ false = λ point. a.broken point ∙ h.whole point in
+    unbroken = λ i fi none. f.unbroken i fi (g.unbroken i fi none);
+    goes = λ p h s.
+        let a : Reaches settings t shape o p v = f.goes p h s in
         let b : Reaches settings t shape o (last_of p a.networks) u =
-        g.goes none (last_of p a.networks) (record { lasting = h.lasting; lasts = lasts-after shape says_of h.lasting p a.networks a.moves h.lasts; whole = whole_then }) a.shown in
+        g.goes (last_of p a.networks)
+        (λ x fx. record { lasting = (h x fx).lasting; lasts = lasts-after shape says_of (h x fx).lasting p a.networks a.moves (h x fx).lasts; led = (h x fx).led }) a.shown in
         record {
           networks = a.networks ++ b.networks;
           moves = moves-append shape p a.networks b.networks a.moves b.moves;
-          broken = λ point. ap (λ (q : Network). q.broken point) (last-append shape p a.networks b.networks) ∙ b.broken point ∙ a.broken point;
+          broken = λ point none. ap (λ (q : Network). q.broken point) (last-append shape p a.networks b.networks) ∙ b.broken point none ∙ a.broken point (λ fx. g.unbroken point fx (none fx));
           shown = subst (Shown settings t u) (sym (last-append shape p a.networks b.networks)) b.shown;
         };
   }
@@ -279,6 +283,7 @@ module _ (settings : (point : ℕ) → Configuration) (t : AreTheirs settings) (
             queues = length-replicate (length c.links) first_queue;
             changeovers = length-replicate (length c.links) no_changeover;
             silent = λ link. each-replicate IsSilent (length c.links) link down_link (record { waiting = λ gone. refl; owed = λ gone. refl });
+            ways = refl;
           };
           ends = λ link l. subst (λ (e : LinkEnd). IsShown (of_nodes.first_node c).node link e) (sym (first-near (place_at settings t y link).side)) (closed-shown c link l);
           booked = record { bag = λ test. refl; accepted = λ test. refl; named = omega arith; within = λ test. omega arith };
@@ -300,17 +305,19 @@ module _ (settings : (point : ℕ) → Configuration) (t : AreTheirs settings) (
             heard = λ h. (let no : false ≡ true = sym (ap (λ (y : Link). is_heard y.alignment) at) ∙ h in absurd cc);
           }
 
-  pub first-at : IsAt shape quiet.first_network
-  first-at = record { lasting = o.lasting; lasts = lasts-first shape says_of; whole = λ point. refl }
+  module _ (led : (x : ℕ) → IsNode settings x → IsLed shape (settings x)) where
+    -- so each network that steps reach shows as one that moves reach
+    pub reaches : (steps : List Step) → Reaches settings t shape o quiet.first_network (after_steps settings steps (first_network settings))
+    reaches steps =
+        (all-steps steps (first_network settings)).goes quiet.first_network (λ x fx. record { lasting = o.lasting; lasts = lasts-first shape says_of; led = led x fx }) first-shown
 
-  -- so each network that steps reach while no node is broken shows as one that moves reach
-  pub reached : (steps : List Step) → IsUnbroken settings (after_steps settings steps (first_network settings))
-      → (p : Network) × Sound shape says_of p × Shown settings t (after_steps settings steps (first_network settings)) p
-  reached steps none =
-      let r : Reaches settings t shape o quiet.first_network (after_steps settings steps (first_network settings)) =
-      (all-steps steps (first_network settings)).goes none quiet.first_network first-at first-shown in
-      let whole_then : (point : ℕ) → (last_of quiet.first_network r.networks).broken point ≡ false = λ point. r.broken point in (
-        last_of quiet.first_network r.networks,
-        sound-always shape says_of quiet.first_network r.networks (quiet-first says_of) r.moves whole_then,
-        r.shown,
-      )
+    -- and while no node is broken all laws of moves hold there
+    pub reached : (steps : List Step) → IsUnbroken settings (after_steps settings steps (first_network settings))
+        → (p : Network) × Sound shape says_of p × Shown settings t (after_steps settings steps (first_network settings)) p
+    reached steps none =
+        let r : Reaches settings t shape o quiet.first_network (after_steps settings steps (first_network settings)) = reaches steps in
+        let whole_then : (point : ℕ) → (last_of quiet.first_network r.networks).broken point ≡ false = λ point. r.broken point (none point) in (
+          last_of quiet.first_network r.networks,
+          sound-always shape says_of quiet.first_network r.networks (quiet-first says_of) r.moves whole_then,
+          r.shown,
+        )

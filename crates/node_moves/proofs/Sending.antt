@@ -18,6 +18,7 @@ use Rattle.node_moves.proofs.Steps.{StepGoes, step-none, finish}
 use Rattle.node_moves.specs.Networks.{NetworkNode, NetworkState, IsNode, changed, updated, reach, sent, flies, fetch, other_end}
 use Rattle.node_moves.specs.Networks as of_nodes
 use Rattle.node_moves.specs.Laws.{AreTheirs}
+use Rattle.exchange_rules.proofs.Steps.{ways_of}
 use Rattle.exchange_rules.proofs.Lists.{alike-at, each-set}
 use Rattle.exchange_rules.specs.Sending.{Outgoing, SendsStatus, SendsMessage, Acknowledges, SendsNothing, goes_out, may_send, next_message, status_first, message_first, frame_from, frame_taken, after_sending, after_take, without_owed}
 use Rattle.link.specs.Queue.{Sending, forward_number, to_send, after_sending as sent_by, last_sent}
@@ -256,13 +257,13 @@ module _ (settings : (point : ℕ) → Configuration) (t : AreTheirs settings) (
 
   -- ---- the node at rest, once its frame flies
 
-  flying : (frame : FrameValue) (out : Outgoing) → goes_out whole c link n ≡ out → ((p : Network) → IsAt shape p → ShownAt settings t w x (rests settings t (w.node x)) p
+  flying : (frame : FrameValue) (out : Outgoing) → goes_out whole c link n ≡ out → ((p : Network) → IsAt shape c p → ShownAt settings t w x (rests settings t (w.node x)) p
       → (inside : link < length c.links) × Leads settings t shape o p (gone (other_end settings x link) frame) x (mid (after_sending whole c link n out) [] [] k)) → StepGoes settings t shape o w (gone (other_end settings x link) frame)
   flying frame out e f = record {
-    unbroken = λ none i fi. sym (gone-broken (other_end settings x link) frame i) ∙ none i fi;
-    goes = λ none p h s.
-        let it : (inside : link < length c.links) × Leads settings t shape o p (gone (other_end settings x link) frame) x (mid (after_sending whole c link n out) [] [] k) = f p h (at-work settings t w x p fx s) in
-        finish settings t shape o p (gone (other_end settings x link) frame) (gone (other_end settings x link) frame) x (mid (after_sending whole c link n out) [] [] k) it.1
+    unbroken = λ i fi none. sym (gone-broken (other_end settings x link) frame i) ∙ none;
+    goes = λ p h s.
+        let it : (inside : link < length c.links) × Leads settings t shape o p (gone (other_end settings x link) frame) x (mid (after_sending whole c link n out) [] [] k) = f p (h x fx) (at-work settings t w x p fx s) in
+        finish settings t shape o p (gone (other_end settings x link) frame) (gone (other_end settings x link) frame) x fx (mid (after_sending whole c link n out) [] [] k) it.1
         (ap (λ (g : Outgoing). mid (after_sending whole c link n g) [] [] k) (sym e) ∙ ap (rests settings t) (sym (gone-x (other_end settings x link) frame it.0 refl)))
         (λ i d. refl) (λ i. record { user_data = refl; statuses = refl; follows = refl; came = refl });
   }
@@ -282,13 +283,14 @@ module _ (settings : (point : ℕ) → Configuration) (t : AreTheirs settings) (
     standing = ap (λ ss. changeover_of (record n.parts { changeovers = ss }) l) changeovers;
   }
 
-  said-sized : (node : Node WholeQueues) (y : Link) → length node.queues.links ≡ length n.queues.links → node.parts.links ≡ links_with n.parts link y → node.parts.changeovers ≡ n.parts.changeovers
+  said-sized : (node : Node WholeQueues) (y : Link) → length node.queues.links ≡ length n.queues.links → node.parts.links ≡ links_with n.parts link y → node.parts.changeovers ≡ n.parts.changeovers → node.parts.routes ≡ n.parts.routes
       → (IsSilent (link_at n.parts link) → IsSilent y) → IsSized c n → IsSized c node
-  said-sized node y queues links changeovers quiet z = record {
+  said-sized node y queues links changeovers routes quiet z = record {
     links = ap (λ (xs : List Link). length xs) links ∙ length-set n.parts.links link y ∙ z.links;
     queues = queues ∙ z.queues;
     changeovers = ap (λ xs. length xs) changeovers ∙ z.changeovers;
     silent = λ l. subst (λ (xs : List Link). IsSilent (link_in xs l)) (sym links) (each-set IsSilent n.parts.links link l y down_link z.silent (quiet (z.silent link)));
+    ways = ap ways_of routes ∙ z.ways;
   }
 
   -- ---- what goes out
@@ -324,7 +326,7 @@ module _ (settings : (point : ℕ) → Configuration) (t : AreTheirs settings) (
             }))
             (λ point. refl)
             (flown-shown frame (other_end settings x link) refl (mid node [] [] k) p (with_status y) (node_at shape p its) s (flies-status la ls status y (sayable-status la ls status (number-fits _) (sent-fits (queue_at n.queues link)))) inside
-            (said-sized node new refl refl refl quiet s.here.sized) (shown-alike n node link y.near (alike link) shown) (λ l d. alike l) (booked-alike (node_at shape p its) n node [] [] k refl refl (same-node p (mid n [] [] k) s.here))),
+            (said-sized node new refl refl refl refl quiet s.here.sized) (shown-alike n node link y.near (alike link) shown) (λ l d. alike l) (booked-alike (node_at shape p its) n node [] [] k refl refl (same-node p (mid n [] [] k) s.here))),
       ))
 
   -- an acknowledgement
@@ -357,14 +359,14 @@ module _ (settings : (point : ℕ) → Configuration) (t : AreTheirs settings) (
             (λ point. refl)
             (flown-shown frame (other_end settings x link) refl (mid node [] [] k) p z (node_at shape p its) s
             (flies-data frame (acknowledgement y.near.queue) y z (λ e l. refl) (sayable-empty la ls (number-fits _) (sent-fits (queue_at n.queues link))) (ap (λ (q : Queue). Some (acknowledgement q)) same) refl refl refl refl refl refl refl refl) inside
-            (said-sized node new refl refl refl quiet s.here.sized) (shown-alike n node link y.near (alike link) shown) (λ l d. alike l)
+            (said-sized node new refl refl refl refl quiet s.here.sized) (shown-alike n node link y.near (alike link) shown) (λ l d. alike l)
             (booked-alike (node_at shape p its) n node [] [] k refl refl (same-node p (mid n [] [] k) s.here))),
       ))
 
   -- ---- a message
 
   -- the next that goes out isn't too long
-  brief-next : (p : Network) (next : Sending) → IsAt shape p → (line_at p its).near.serving ≡ true → IsNext (line_at p its).near.queue c.window next → is_long next.message ≡ false
+  brief-next : (p : Network) (next : Sending) → IsAt shape c p → (line_at p its).near.serving ≡ true → IsNext (line_at p its).near.queue c.window next → is_long next.message ≡ false
   brief-next p next h serving is = by (is_long next.message) refl
     where
       q : Queue
@@ -434,7 +436,7 @@ module _ (settings : (point : ℕ) → Configuration) (t : AreTheirs settings) (
             (flown-shown frame (other_end settings x link) refl (mid node [] [] k) p z (node_at shape p its) s
             (flies-data frame (machine.MessageFrame next.number (last_accepted y.near.queue) next.message) y z (λ e l. refl) (sayable-message la next.number next.message (number-fits _) fits short)
             (ap (λ (g : Queue). Some (machine.MessageFrame next.number (last_accepted g) next.message)) same) refl refl refl refl refl refl refl refl) inside
-            (said-sized node new (ap (λ (g : WholeQueues). length g.links) queues ∙ length-set n.queues.links link (sent_by q (Some next))) refl refl quiet s.here.sized)
+            (said-sized node new (ap (λ (g : WholeQueues). length g.links) queues ∙ length-set n.queues.links link (sent_by q (Some next))) refl refl refl quiet s.here.sized)
             (record {
               queue =
                   ap (λ (g : WholeQueues). queue_at g link) queues

@@ -1,7 +1,8 @@
 -- A network in which one node is another, or also one end of a link at it; and what stays as it was around a node.
-use Rattle.node_moves.proofs.Basics.{◌≡◌, ◌≢◌, ℕ, Bool, ◌<◌, refl, ap, sym, subst, ◌∙◌, nat_eq, if◌then◌else◌, ⊎_elim, cases_eq, ne_eqb, eq-eqb}
+use Rattle.node_moves.proofs.Basics.{◌≡◌, ◌≢◌, ℕ, Bool, true, ◌<◌, refl, ap, sym, subst, ◌∙◌, nat_eq, if◌then◌else◌, ⊎_elim, cases_eq, ne_eqb, eq-eqb}
 use Rattle.node_moves.proofs.Machine.{Side, Near, Far, LinkEnd, Line, Network, Shape, seen, end_at, Place, line_at, point_at, NodeBecomes, Becomes}
 use Rattle.network_moves.specs.Networks as net
+use Rattle.network_moves.specs.Returning.{Breaks}
 
 -- ---- one node is another, and one end of a link at it
 
@@ -41,9 +42,27 @@ module _ (shape : Shape) where
     broken = λ other. refl;
   }
 
+-- and a node is broken
+abbrev pub with_broken : Network → (point : ℕ) → Network
+with_broken p point = record p { broken = λ other. if nat_eq other point then true else p.broken other }
+
 seen-twice : (side : Side) (z : Line) → seen side (seen side z) ≡ z
 seen-twice Near z = refl
 seen-twice Far z = refl
+
+module _ (shape : Shape) where
+  pub break-set : (p : Network) (place : Place) (e : LinkEnd) (n : net.Node) → place.link < shape.links → point_at shape place < shape.nodes
+      → Breaks shape p (with_broken (with_end shape p place e n) (point_at shape place)) place (with_near (line_at p place) e) n
+  break-set p place e n linked inside =
+      let set : Becomes shape p (with_end shape p place e n) place (with_near (line_at p place) e) n = end-set shape p place e n linked inside in
+      record {
+        inside = inside;
+        lines = record { inside = linked; here = set.lines.here; others = set.lines.others };
+        here = set.here;
+        others = set.others;
+        broken = ap (λ (b : Bool). if b then true else p.broken (point_at shape place)) (eq-eqb (point_at shape place) (point_at shape place) refl);
+        others_broken = λ other d. ap (λ (b : Bool). if b then true else p.broken other) (ne_eqb other (point_at shape place) d);
+      }
 
 module _ (shape : Shape) (p : Network) (place : Place) (e : LinkEnd) (n : net.Node) where
   pub line-here : line_at (with_end shape p place e n) place ≡ with_near (line_at p place) e
@@ -100,18 +119,18 @@ flown-seen Far z y e = record {
 
 pub record StaysAround (shape : Shape) (point : ℕ) (p q : Network) : Type 0 where
   pub nodes : (other : ℕ) → other ≢ point → q.node other ≡ p.node other
-  pub broken : (other : ℕ) → q.broken other ≡ p.broken other
+  pub broken : (other : ℕ) → other ≢ point → q.broken other ≡ p.broken other
   pub flown : (link : ℕ) → IsFlownAlike (p.line link) (q.line link)
   pub ends : (link : ℕ) (side : Side) → shape.point link side ≢ point → end_at q link side ≡ end_at p link side
 
 module _ (shape : Shape) (point : ℕ) where
   pub around-none : (p : Network) → StaysAround shape point p p
-  around-none p = record { nodes = λ other d. refl; broken = λ other. refl; flown = λ link. flown-none (p.line link); ends = λ link side d. refl }
+  around-none p = record { nodes = λ other d. refl; broken = λ other d. refl; flown = λ link. flown-none (p.line link); ends = λ link side d. refl }
 
   pub around-both : (p q r : Network) → StaysAround shape point p q → StaysAround shape point q r → StaysAround shape point p r
   around-both p q r e f = record {
     nodes = λ other d. f.nodes other d ∙ e.nodes other d;
-    broken = λ other. f.broken other ∙ e.broken other;
+    broken = λ other d. f.broken other d ∙ e.broken other d;
     flown = λ link. flown-both (p.line link) (q.line link) (r.line link) (e.flown link) (f.flown link);
     ends = λ link side d. f.ends link side d ∙ e.ends link side d;
   }
@@ -119,7 +138,7 @@ module _ (shape : Shape) (point : ℕ) where
   pub around-node : (p : Network) (n : net.Node) → StaysAround shape point p (with_node p point n)
   around-node p n = record {
     nodes = λ other d. ap (λ (b : Bool). if b then n else p.node other) (ne_eqb other point d);
-    broken = λ other. refl;
+    broken = λ other d. refl;
     flown = λ link. flown-none (p.line link);
     ends = λ link side d. refl;
   }
@@ -142,7 +161,7 @@ module _ (shape : Shape) (p : Network) (place : Place) (e : LinkEnd) (n : net.No
   pub around-end : e.came ≡ (line_at p place).near.came → StaysAround shape (point_at shape place) p after
   around-end same = record {
     nodes = λ other d. ap (λ (b : Bool). if b then n else p.node other) (ne_eqb other (point_at shape place) d);
-    broken = λ other. refl;
+    broken = λ other d. refl;
     flown = λ link.
         ⊎_elim
         (λ (here : link ≡ place.link).
@@ -159,3 +178,12 @@ module _ (shape : Shape) (p : Network) (place : Place) (e : LinkEnd) (n : net.No
         (λ (away : link ≢ place.link). ap (λ (b : Bool). (seen side (if b then seen place.side (with_near (line_at p place) e) else p.line link)).near) (ne_eqb link place.link away))
         (cases_eq link place.link);
   }
+
+-- what stays also if the node is broken
+pub around-broken : (shape : Shape) (point : ℕ) (p q : Network) → StaysAround shape point p q → StaysAround shape point p (with_broken q point)
+around-broken shape point p q e = record {
+  nodes = e.nodes;
+  broken = λ other d. ap (λ (b : Bool). if b then true else q.broken other) (ne_eqb other point d) ∙ e.broken other d;
+  flown = e.flown;
+  ends = e.ends;
+}

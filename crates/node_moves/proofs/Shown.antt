@@ -1,12 +1,15 @@
 -- A node at work, as a network of the machine of moves shows it.
-use Rattle.node_moves.proofs.Basics.{◌≡◌, ◌≢◌, ℕ, Bool, true, false, not, ◌+◌, ◌-◌, ◌^◌, ◌≤◌, ◌<◌, List, [], ◌++◌, length, Some, count_by, min, ap, sym, subst, ◌∙◌}
+use Rattle.node_moves.proofs.Basics.{◌≡◌, ◌≢◌, ℕ, Bool, true, false, not, ◌+◌, ◌-◌, ◌^◌, ◌≤◌, ◌<◌, List, [], ◌++◌, length, map, Some, count_by, min, ap, sym, subst, ◌∙◌}
 use Rattle.node_moves.proofs.Machine.{user, Phase, Live, Moved, Gone, LinkEnd, Network, Shape, Place, line_at, point_at}
-use Rattle.node_moves.proofs.Definitions.{Message, Configuration, IsWell, Node, WholeQueues, down, in_service, link_at, queue_at, changeover_of, entry_of, peer_of, set_of, Queue, emptied, Standing, Link, Alignment, Down, NotAligned, Aligned, Proving, AlignedReady, InService, is_down, is_in_service}
+use Rattle.node_moves.proofs.Definitions.{Message, Configuration, IsWell, Node, WholeQueues, Parts, down, in_service, link_at, queue_at, changeover_of, entry_of, peer_of, set_of, Queue, emptied, Standing, Link, Alignment, Down, NotAligned, Aligned, Proving, AlignedReady, InService, is_down, is_in_service}
 use Rattle.node_moves.proofs.Reading.{IsShape, place_of, places-apart, says_of}
 use Rattle.exchange_rules.proofs.MadeManagement.{code-fits, adjacent-fits}
 use Rattle.exchange_rules.proofs.NamedLinks.{link-named}
+use Rattle.exchange_rules.proofs.Steps.{ways_of}
 use Rattle.exchange_rules.specs.Messages.{link_with_code}
 use Rattle.network_moves.specs.Networks as net
+use Rattle.routes.specs.Routes.{first_routes}
+use Rattle.routes.specs.declared.route.Route.{Route}
 
 -- ---- a node at work
 
@@ -78,12 +81,25 @@ pub record IsSilent (l : Link) : Type 0 where
   pub waiting : is_down l.alignment ≡ true → l.waiting ≡ []
   pub owed : is_down l.alignment ≡ true → l.acknowledgement_owed ≡ false
 
--- a node has its links, and those that are down are silent
+-- the sets by which routes go, whatever their statuses, are those of the settings
+abbrev pub HasWays : Configuration → Parts → Type 0
+HasWays c p = ways_of p.routes ≡ ways_of (map first_routes c.destinations)
+
+-- a node has its links, those that are down are silent, and its routes go by the sets of the settings
 pub record IsSized (c : Configuration) (n : Node WholeQueues) : Type 0 where
   pub links : length n.parts.links ≡ length c.links
   pub queues : length n.queues.links ≡ length c.links
   pub changeovers : length n.parts.changeovers ≡ length c.links
   pub silent : (link : ℕ) → IsSilent (link_at n.parts link)
+  pub ways : HasWays c n.parts
+
+-- how often a node was broken, and by which sets its routes go
+pub record Marks : Type 0 where
+  pub broken : ℕ
+  pub ways : List (List Route)
+
+abbrev pub marks_of : Parts → Marks
+marks_of p = record { broken = p.times_broken; ways = ways_of p.routes }
 
 -- ---- the books of a node
 

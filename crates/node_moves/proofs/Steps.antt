@@ -13,7 +13,7 @@ use Rattle.node_moves.proofs.World.{IsFlown, AreStatuses, Shown, books_of, rests
 use Rattle.node_moves.proofs.Relining.{Leads, leads-none, leads-one, leads-goes, with_line}
 use Rattle.node_moves.proofs.Flights.{IsSameFlight, same-flight, changed-here, changed-other, updated-here, updated-other, only-changed, statuses-changed}
 use Rattle.node_moves.specs.Networks.{NetworkNode, NetworkState, IsNode, changed, happens, hand_over, with_statuses, state_of}
-use Rattle.node_moves.specs.Laws.{AreTheirs, IsUnbroken}
+use Rattle.node_moves.specs.Laws.{AreTheirs}
 use Rattle.exchange_rules.specs.Reroutings.{first_reroutings}
 use Rattle.exchange_rules.specs.Conserving.{brought_in, brought_to, gone, gone_by, gone_by_release}
 unfoldable use Rattle.exchange_rules.specs.Exchange.{apply}
@@ -50,23 +50,25 @@ module _ (settings : (point : ℕ) → Configuration) (t : AreTheirs settings) (
   pub record Reaches (p : Network) (v : NetworkState) : Type 0 where
     pub networks : List Network
     pub moves : Moves shape says_of p networks
-    pub broken : (point : ℕ) → (last_of p networks).broken point ≡ p.broken point
+    pub broken : (point : ℕ) → (IsNode settings point → (v.node point).node.parts.times_broken ≡ 0) → (last_of p networks).broken point ≡ p.broken point
     pub shown : Shown settings t v (last_of p networks)
 
   pub record StepGoes (w v : NetworkState) : Type 0 where
-    pub unbroken : IsUnbroken settings v → IsUnbroken settings w
-    pub goes : IsUnbroken settings v → (p : Network) → IsAt shape p → Shown settings t w p → Reaches p v
+    pub unbroken : (point : ℕ) → IsNode settings point → (v.node point).node.parts.times_broken ≡ 0 → (w.node point).node.parts.times_broken ≡ 0
+    pub goes : (p : Network) → ((point : ℕ) → IsNode settings point → IsAt shape (settings point) p) → Shown settings t w p → Reaches p v
 
   pub step-none : (w : NetworkState) → StepGoes w w
-  step-none w = record { unbroken = λ e. e; goes = λ e p h s. record { networks = []; moves = tt; broken = λ point. refl; shown = s } }
+  step-none w = record { unbroken = λ point f e. e; goes = λ p h s. record { networks = []; moves = tt; broken = λ point none. refl; shown = s } }
 
   -- once a node is at rest
-  pub finish : (p : Network) (w v : NetworkState) (x : ℕ) (u : Mid) → Leads settings t shape o p w x u → u ≡ rests settings t (v.node x) → ((y : ℕ) → y ≢ x → v.node y ≡ w.node y)
+  pub finish : (p : Network) (w v : NetworkState) (x : ℕ) → IsNode settings x → (u : Mid) → Leads settings t shape o p w x u → u ≡ rests settings t (v.node x) → ((y : ℕ) → y ≢ x → v.node y ≡ w.node y)
       → ((l : ℕ) → IsSameFlight (w.node x) (v.node x) l) → Reaches p v
-  finish p w v x u l same others flights = record {
+  finish p w v x fx u l same others flights = record {
     networks = l.networks;
     moves = l.moves;
-    broken = l.broken;
+    broken = λ point none. l.broken point (λ is.
+        let here : point ≡ x = is ∙ t.own x fx in
+        ap (λ (m : Mid). m.node.parts.times_broken) same ∙ subst (λ (i : ℕ). (v.node i).node.parts.times_broken ≡ 0) here (none (subst (λ (i : ℕ). IsNode settings i) (sym here) fx)));
     shown = at-rest settings t v x (last_of p l.networks) (record {
       here = subst (λ (m : Mid). Shows (settings x) (last_of p l.networks) m) same l.shown.here;
       others = λ y fy d. subst (λ (e : NetworkNode). Shows (settings y) (last_of p l.networks) (rests settings t e)) (sym (others y d)) (l.shown.others y fy d);
@@ -84,11 +86,11 @@ module _ (settings : (point : ℕ) → Configuration) (t : AreTheirs settings) (
 
   -- what is broken afterwards was so before, where one node changed
   pub broken-before : (w v : NetworkState) (x : ℕ) → IsNode settings x → ((y : ℕ) → y ≢ x → v.node y ≡ w.node y) → ((v.node x).node.parts.times_broken ≡ 0 → (w.node x).node.parts.times_broken ≡ 0)
-      → IsUnbroken settings v → IsUnbroken settings w
-  broken-before w v x fx others here none y fy =
+      → (y : ℕ) → IsNode settings y → (v.node y).node.parts.times_broken ≡ 0 → (w.node y).node.parts.times_broken ≡ 0
+  broken-before w v x fx others here y fy none =
       ⊎_elim
-      (λ (same : y ≡ x). subst (λ (j : ℕ). (w.node j).node.parts.times_broken ≡ 0) (sym same) (here (none x fx)))
-      (λ (d : y ≢ x). subst (λ (e : NetworkNode). e.node.parts.times_broken ≡ 0) (others y d) (none y fy))
+      (λ (same : y ≡ x). subst (λ (j : ℕ). (w.node j).node.parts.times_broken ≡ 0) (sym same) (here (subst (λ (j : ℕ). (v.node j).node.parts.times_broken ≡ 0) same none)))
+      (λ (d : y ≢ x). subst (λ (e : NetworkNode). e.node.parts.times_broken ≡ 0) (others y d) none)
       (cases_eq y x)
 
   -- ---- an event that nothing in flight brings about
@@ -100,10 +102,10 @@ module _ (settings : (point : ℕ) → Configuration) (t : AreTheirs settings) (
       let is : v.node x ≡ f (w.node x) = changed-here x f w in
       record {
         unbroken = broken-before w v x fx (λ y d. changed-other x f w y d) (λ none. g.unbroken (ap (λ (e : NetworkNode). e.node.parts.times_broken) (sym is) ∙ none));
-        goes = λ none p h s.
-            finish p w v x (rests settings t (f (w.node x)))
-            (leads-goes settings t shape o p w x (rests settings t (w.node x)) (rests settings t (f (w.node x))) fx h
-            (leads-none settings t shape o p w x (rests settings t (w.node x)) (at-work settings t w x p fx s)) g (ap (λ (e : NetworkNode). e.node.parts.times_broken) (sym is) ∙ none x fx))
+        goes = λ p h s.
+            finish p w v x fx (rests settings t (f (w.node x)))
+            (leads-goes settings t shape o p w x (rests settings t (w.node x)) (rests settings t (f (w.node x))) fx (h x fx)
+            (leads-none settings t shape o p w x (rests settings t (w.node x)) (at-work settings t w x p fx s)) g)
             (ap (rests settings t) (sym is)) (λ y d. changed-other x f w y d) (λ l. subst (λ (e : NetworkNode). IsSameFlight (w.node x) e l) (sym is) (flights l));
       }
 
@@ -157,10 +159,10 @@ module _ (settings : (point : ℕ) → Configuration) (t : AreTheirs settings) (
       let is : v.node x ≡ g (w.node x) = changed-here x g w in
       record {
         unbroken = broken-before w v x fx (λ y d. changed-other x g w y d) (λ none. ap (λ (e : NetworkNode). e.node.parts.times_broken) (sym is) ∙ none);
-        goes = λ none p h s.
+        goes = λ p h s.
             let it : (count : ℕ) × AreStatuses left count
             × Move shape says_of p (with_line shape p (place_at settings t x link) (with_statuses_left (line_at p (place_at settings t x link)) count) (node_at shape p (place_at settings t x link))) = f p s in
-            finish p v v x (rests settings t (w.node x))
+            finish p v v x fx (rests settings t (w.node x))
             (leads-one settings t shape o p _ v x (rests settings t (w.node x)) it.2 (λ point. refl)
             (statuses-changed settings t shape o w v x link (rests settings t (w.node x)) p it.0 fx inside (at-work settings t w x p fx s)
             (only-changed settings t shape o w x link g (λ l d. record { user_data = refl; statuses = updated-other (w.node x).statuses link left l d; follows = refl; came = refl }))

@@ -7,3 +7,5 @@ pub mod Possible
 pub mod MatedPair
 pub mod MatedRun
 pub mod LossRun
+pub mod Hops
+pub mod HopRun

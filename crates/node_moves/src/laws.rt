@@ -8,6 +8,8 @@
 
 ghost use Rattle.node_moves.specs.EndToEnd.{each_message_is_accounted_for, messages_come_from_end_to_end};
 ghost use Rattle.node_moves.specs.Fates.{each_message_has_its_fate};
+ghost use Rattle.node_moves.specs.HopRun.{MatesAreAHop};
+ghost use Rattle.node_moves.specs.Hops.{messages_come_over_a_hop, nothing_is_lost_over_a_hop};
 ghost use Rattle.node_moves.specs.Laws.{each_message_ends_once};
 ghost use Rattle.node_moves.specs.LossRun.{NamesWhatIsLost};
 ghost use Rattle.node_moves.specs.Lossless.{flags_tell_of_each_loss, nodes_lose_nothing};
@@ -65,6 +67,18 @@ pub fn nothing_is_lost_while_no_flag_is_raised()
     ensures ends { nothing_is_lost_from_end_to_end }
 {}
 
+/// A hop asks for the counts of its two nodes alone, whatever the others are, broken or not, and whatever their routes.
+/// Where one set alone leads from each of two nodes to the other, and neither of the two is broken: of the user messages
+/// for the far node that the near one accepted, by any test, those that came to the far node by a link from the near one
+/// and those that wait at the near one, in Held or on such a link, are together no more than it accepted. So a message
+/// that it accepted once comes once at most, and doesn't wait if it came. The rest are gone: by any test, no more than
+/// the near node named as lost; nor than its `messages_lost` counts. While neither of the two has raised its flag of
+/// losses, none is gone. It is so in both directions.
+pub fn messages_come_over_a_hop()
+    ensures once { messages_come_over_a_hop }
+    ensures flags { nothing_is_lost_over_a_hop }
+{}
+
 /// The node law isn't vacuous. Of a mated pair and two points that it transfers for, whose orders to change over go by
 /// any route: the only link between one of the pair and one of the points fails, with a message on it that came and
 /// wasn't confirmed, and one that didn't come. The orders and the answers go by the mate, and so does the second
@@ -80,6 +94,14 @@ pub fn messages_come_by_the_mate()
 /// no more is named. The link is barred until the answer comes late, by the mate; no node is broken.
 pub fn a_message_is_named_as_lost()
     ensures { NamesWhatIsLost }
+{}
+
+/// Nor is the law of hops. Of the same nodes, the pair is a hop, though two sets lead from each of the two to every
+/// other point. In a run the link between one of the pair and one of the points fails, T2 runs out at that point, and an
+/// operator there releases the link. So that point is broken, and neither of the pair is; and a message from one of the
+/// pair to the other comes, once.
+pub fn mates_are_a_hop()
+    ensures { MatesAreAHop }
 {}
 
 /// The laws ask this little of links. On a link of a node the next link status in flight may be lost, or come twice.
