@@ -1,6 +1,7 @@
 -- What concerns a group of nodes is at no other node, and on no link that isn't within.
 use Rattle.network_moves.proofs.Basics.{◌≡◌, ◌≢◌, ℕ, zero, suc, Bool, true, false, ◌+◌, ◌≤◌, ◌&&◌, List, [], ◌∷◌, ◌++◌, count_by, drop, refl, ap, sym, ◌∙◌, subst, arith, ⊎_elim, cases_eq}
 use Rattle.network_moves.proofs.Definitions.{Message, Side, Near, Far, opposite, Saying, UserMessage, Order, Answer, Other, Frame, EmptyFrame, MessageFrame, Line, Node, Network, Shape, seen, Place, line_at, point_at, node_at, one_if, LinesBecome}
+pub use Rattle.network_moves.specs.Groups.{frames_by}
 use Rattle.network_moves.specs.Groups.{says_of_group}
 use Rattle.network_moves.proofs.Counts.{count-cons}
 use Rattle.network_moves.proofs.Lines.{both}
@@ -8,11 +9,6 @@ use Rattle.network_moves.proofs.Masking.{within, within-side}
 use Rattle.std.specs.Prelude.{take}
 
 -- ---- the messages of frames
-
-abbrev pub frames_by : (Message → Bool) → List Frame → ℕ
-frames_by test [] = 0
-frames_by test (EmptyFrame fsn bsn ∷ frames) = frames_by test frames
-frames_by test (MessageFrame fsn bsn m ∷ frames) = one_if (test m) + frames_by test frames
 
 pub frames-empty : (test : Message → Bool) (fsn bsn : ℕ) (frames : List Frame) → frames_by test (frames ++ EmptyFrame fsn bsn ∷ []) ≡ frames_by test frames
 frames-empty test fsn bsn [] = refl

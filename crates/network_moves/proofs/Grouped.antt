@@ -1,15 +1,16 @@
 -- What a group of nodes that keeps to itself does with its messages, whatever the others do.
 use Rattle.network_moves.proofs.Basics.{◌≡◌, ◌≢◌, ℕ, Bool, true, false, ◌+◌, ◌&&◌, List, [], ◌∷◌, ◌++◌, count_by, nat_eq, refl, ap, sym, ◌∙◌, subst, arith, if◌then◌else◌, ⊎_elim, cases_eq}
-use Rattle.network_moves.proofs.Definitions.{Message, Near, Far, Saying, user, Line, Network, Shape, turned, waiting, given_up, point_at, Move, Moves, last_of, closed_line, first_network, came_from, sum_at, EndsOnce}
+use Rattle.network_moves.proofs.Definitions.{Message, Near, Far, Saying, user, Line, Network, Shape, turned, waiting, given_up, point_at, one_if, Move, Moves, last_of, closed_line, first_network, came_from, sum_at, EndsOnce}
 use Rattle.network_moves.specs.Moves as moves
-use Rattle.network_moves.specs.Groups.{KeepsToItself, sum_within, came_within, users_for, EndsOnceWithin, groups_decide_alone}
-use Rattle.network_moves.proofs.Counts.{sum-alike}
+use Rattle.network_moves.specs.Groups.{KeepsToItself, sum_within, came_within, users_for, EndsOnceWithin, groups_decide_alone, is_left, IsClear, Begins, NothingIsLeft, groups_begin_anew}
+use Rattle.network_moves.specs.Quiet.{AreOthers, IsAtRest, IsIdle, IsQuiet, first_node}
+use Rattle.network_moves.proofs.Counts.{count-cons, sum-alike}
 use Rattle.network_moves.proofs.Lines.{both}
 use Rattle.network_moves.proofs.First.{quiet-first}
 use Rattle.network_moves.proofs.Sound.{Sound}
 use Rattle.network_moves.proofs.Keeping.{sound-always}
 use Rattle.network_moves.proofs.Concluded.{ends-once}
-use Rattle.network_moves.proofs.Masking.{within, masked, users-are, IsLike, IsMask}
+use Rattle.network_moves.proofs.Masking.{within, masked, other-saying, users-are, IsLike, IsMask}
 use Rattle.network_moves.proofs.Apart.{IsApart}
 use Rattle.network_moves.proofs.Following.{last-append, moves-append, Follows, breaks, goes}
 use Rattle.network_moves.proofs.FollowedNodes.{follows-submits, follows-makes, follows-ends, follows-gives_up, follows-discards, follows-places}
@@ -94,30 +95,30 @@ module _ (shape : Shape) (read : Message → Saying) (group : ℕ → Bool) (for
 
   -- ---- lists of moves, from where the network is nothing but the group to the group
 
-  data IsFollowed (p : Network) : Type 0 where
-    broken : (x : ℕ) → group x ≡ true → p.broken x ≡ true → IsFollowed p
-    followed : IsApart shape read group for_group p → (networks : List Network) → Moves shape (masked shape read group for_group) first_network networks
-        → IsMask shape read group for_group p (last_of first_network networks) → IsFollowed p
+  data IsFollowed (base p : Network) : Type 0 where
+    broken : (x : ℕ) → group x ≡ true → p.broken x ≡ true → IsFollowed base p
+    followed : IsApart shape read group for_group p → (networks : List Network) → Moves shape (masked shape read group for_group) base networks
+        → IsMask shape read group for_group p (last_of base networks) → IsFollowed base p
 
-  one-more : KeepsToItself shape read group for_group → (p q : Network) → Move shape read p q → IsFollowed p → IsFollowed q
-  one-more c p q m (broken x inside e) = broken x inside (lasts p q m x e)
-  one-more c p q m (followed a networks ms h) = by (follows c p q (last_of first_network networks) a h m)
+  one-more : KeepsToItself shape read group for_group → (base p q : Network) → Move shape read p q → IsFollowed base p → IsFollowed base q
+  one-more c base p q m (broken x inside e) = broken x inside (lasts p q m x e)
+  one-more c base p q m (followed a networks ms h) = by (follows c p q (last_of base networks) a h m)
     where
-      by : Follows shape read group for_group q (last_of first_network networks) → IsFollowed q
+      by : Follows shape read group for_group q (last_of base networks) → IsFollowed base q
       by (breaks x inside e) = broken x inside e
       by (goes b more ns g) =
-          followed b (networks ++ more) (moves-append shape read group for_group first_network networks more ms ns)
-          (subst (IsMask shape read group for_group q) (sym (last-append shape read group for_group first_network networks more)) g)
+          followed b (networks ++ more) (moves-append shape read group for_group base networks more ms ns)
+          (subst (IsMask shape read group for_group q) (sym (last-append shape read group for_group base networks more)) g)
 
-  all-more : KeepsToItself shape read group for_group → (p : Network) (networks : List Network) → Moves shape read p networks → IsFollowed p → IsFollowed (last_of p networks)
-  all-more c p [] ms f = f
-  all-more c p (q ∷ rest) ms f = all-more c q rest ms.1 (one-more c p q ms.0 f)
+  all-more : KeepsToItself shape read group for_group → (base p : Network) (networks : List Network) → Moves shape read p networks → IsFollowed base p → IsFollowed base (last_of p networks)
+  all-more c base p [] ms f = f
+  all-more c base p (q ∷ rest) ms f = all-more c base q rest ms.1 (one-more c base p q ms.0 f)
 
   closed-if : (b : Bool) → closed_line ≡ (if b then closed_line else closed_line)
   closed-if true = refl
   closed-if false = refl
 
-  first-followed : IsFollowed first_network
+  first-followed : IsFollowed first_network first_network
   first-followed = followed
       (record { bags = λ x out. refl; lines = λ link out. record { near = refl; far = refl; to_far = refl; to_near = refl } })
       [] tt
@@ -126,6 +127,62 @@ module _ (shape : Shape) (read : Message → Saying) (group : ℕ → Bool) (for
         lines = λ link. closed-if (within shape read group for_group link);
         whole = λ x. refl;
       })
+
+  -- ---- a network where nothing of the group is left, as it is to the group
+
+  module _ (start : Network) (left : NothingIsLeft shape read group for_group start) where
+    abbrev pub alone : Network
+    alone = record {
+      node = λ x. if group x then start.node x else first_node;
+      line = λ link. if within shape read group for_group link then start.line link else closed_line;
+      broken = λ x. false;
+    }
+
+    none-of-group : (b : Bool) → one_if b ≡ 0 → b ≡ false
+    none-of-group true e = absurd (omega (arith, e))
+    none-of-group false e = refl
+
+    others-all : (ms : List Message) → count_by (is_left shape read group for_group true) ms ≡ 0 → AreOthers (masked shape read group for_group) ms
+    others-all [] e = tt
+    others-all (m ∷ ms) e =
+        let both_none : one_if (is_left shape read group for_group true m) + count_by (is_left shape read group for_group true) ms ≡ 0 = sym (count-cons (is_left shape read group for_group true) m ms) ∙ e in (
+          other-saying shape read group for_group m (none-of-group (is_left shape read group for_group true m) (omega (arith, both_none))),
+          others-all ms (omega (arith, both_none)),
+        )
+
+    alone-quiet : IsQuiet (masked shape read group for_group) alone
+    alone-quiet = record { lines = λ link. line-by link (within shape read group for_group link) refl; nodes = λ x. node-by x (group x) refl }
+      where
+        line-by : (link : ℕ) (b : Bool) → within shape read group for_group link ≡ b → IsAtRest (if b then start.line link else closed_line)
+        line-by link true e = left.lines link e
+        line-by link false e = (quiet-first (masked shape read group for_group)).lines link
+
+        node-by : (x : ℕ) (b : Bool) → group x ≡ b → IsIdle (masked shape read group for_group) (if b then start.node x else first_node)
+        node-by x true e =
+            let books : Begins (start.node x) = left.books x e in
+            record {
+              bag = others-all (start.node x).bag (subst (λ (b : Bool). count_by (is_left shape read group for_group b) (start.node x).bag ≡ 0) e (left.bags x));
+              submitted = books.submitted;
+              accepted = books.accepted;
+              ended = books.ended;
+              gone = books.gone;
+              named = books.named;
+            }
+        node-by x false e = (quiet-first (masked shape read group for_group)).nodes x
+
+    alone-followed : IsFollowed alone start
+    alone-followed = followed
+        (record {
+          bags = λ x out. subst (λ (b : Bool). count_by (is_left shape read group for_group b) (start.node x).bag ≡ 0) out (left.bags x);
+          lines = λ link out. (let clear : IsClear shape read group for_group link (start.line link) = left.others link out in record { near = clear.near; far = clear.far; to_far = clear.to_far; to_near = clear.to_near });
+        })
+        [] tt
+        (record {
+          nodes = λ x inside. subst (λ (b : Bool). IsLike shape read group for_group (start.node x) (if b then start.node x else first_node)) (sym inside)
+              (record { bag = λ test. refl; accepted = λ test. refl; ended = λ test. refl; gone = λ test. refl; named = λ test. refl });
+          lines = λ link. refl;
+          whole = λ x. refl;
+        })
 
   -- ---- the node law, of the group
 
@@ -206,14 +263,20 @@ module _ (shape : Shape) (read : Message → Saying) (group : ℕ → Bool) (for
           named = λ test. omega (arith, e.named test, like.gone test, like.named test, same-count test (p.node point).gone, same-count test (p.node point).named, gone-alike test);
         }
 
+module _ (shape : Shape) (read : Message → Saying) (group : ℕ → Bool) (for_group : Message → Bool) (base p : Network) (quiet : IsQuiet (masked shape read group for_group) base)
+    (none : (other : ℕ) → group other ≡ true → p.broken other ≡ false) (point : ℕ) (inside : group point ≡ true) where
+  ends-followed : IsFollowed shape read group for_group base p → EndsOnceWithin shape read group for_group p point
+  ends-followed (broken x in_it e) = both e (none x in_it)
+  ends-followed (followed a seen ns h) =
+      let sound : Sound shape (masked shape read group for_group) (last_of base seen) = sound-always shape (masked shape read group for_group) base seen quiet ns h.whole in
+      ends-within shape read group for_group p (last_of base seen) h point inside (ends-once shape (masked shape read group for_group) (last_of base seen) sound point)
+
 pub groups-decide : groups_decide_alone
 groups-decide shape read group for_group networks point closed ms none inside =
-    by (all-more shape read group for_group closed first_network networks ms (first-followed shape read group for_group))
-  where
-    by : IsFollowed shape read group for_group (last_of first_network networks) → EndsOnceWithin shape read group for_group (last_of first_network networks) point
-    by (broken x in_it e) = both e (none x in_it)
-    by (followed a seen ns h) =
-        let sound : Sound shape (masked shape read group for_group) (last_of first_network seen) =
-        sound-always shape (masked shape read group for_group) first_network seen (quiet-first (masked shape read group for_group)) ns h.whole in
-        ends-within shape read group for_group (last_of first_network networks) (last_of first_network seen) h point inside
-        (ends-once shape (masked shape read group for_group) (last_of first_network seen) sound point)
+    ends-followed shape read group for_group first_network (last_of first_network networks) (quiet-first (masked shape read group for_group)) none point inside
+    (all-more shape read group for_group closed first_network first_network networks ms (first-followed shape read group for_group))
+
+pub groups-anew : groups_begin_anew
+groups-anew shape read group for_group start networks point closed left ms none inside =
+    ends-followed shape read group for_group (alone shape read group for_group start left) (last_of start networks) (alone-quiet shape read group for_group start left) none point inside
+    (all-more shape read group for_group closed (alone shape read group for_group start left) start networks ms (alone-followed shape read group for_group start left))

@@ -1,11 +1,12 @@
 -- Of a group of nodes that keeps to itself: what became of the messages for it is told by the books of its own nodes,
 -- whatever else the others do.
-use Rattle.std.specs.Prelude.{◌≡◌, ◌+◌, ◌≤◌, ◌&&◌, ℕ, Bool, true, false, List, count_by, nat_eq, if◌then◌else◌}
+use Rattle.std.specs.Prelude.{◌≡◌, ◌+◌, ◌≤◌, ◌&&◌, ℕ, Bool, true, false, List, [], ◌∷◌, count_by, nat_eq, if◌then◌else◌}
 use Rattle.signalling_types.specs.Message.{Message}
 use Rattle.network_moves.specs.Sayings.{Near, Far, Saying, UserMessage, Order, Answer, Other, user}
-use Rattle.network_moves.specs.Networks.{Line, Network, Shape, Place, point_at, sum_of_ends, waiting, given_up}
+use Rattle.network_moves.specs.Networks.{Frame, EmptyFrame, MessageFrame, Line, Node, Network, Shape, Place, point_at}
+use Rattle.network_moves.specs.Networks.{one_if, sum_of_ends, waiting, given_up}
 use Rattle.network_moves.specs.Moves.{Moves, last_of}
-use Rattle.network_moves.specs.Quiet.{first_network}
+use Rattle.network_moves.specs.Quiet.{IsAtRest, first_network}
 
 module _ (shape : Shape) (read : Message → Saying) (group : ℕ → Bool) (for_group : Message → Bool) where
   -- a link within the group: both its ends are at nodes of the group
@@ -71,3 +72,48 @@ groups_decide_alone =
     (point : ℕ) → KeepsToItself shape read group for_group → Moves shape read first_network networks →
     ((other : ℕ) → group other ≡ true → (last_of first_network networks).broken other ≡ false) →
     group point ≡ true → EndsOnceWithin shape read group for_group (last_of first_network networks) point
+
+-- ---- where nothing of the group is left
+
+-- how many messages in User Data in flight pass a test
+abbrev pub frames_by : (Message → Bool) → List Frame → ℕ
+frames_by test [] = 0
+frames_by test (EmptyFrame fsn bsn ∷ frames) = frames_by test frames
+frames_by test (MessageFrame fsn bsn m ∷ frames) = one_if (test m) + frames_by test frames
+
+-- the books of a node begin
+pub record Begins (n : Node) : Type 0 where
+  pub submitted : n.submitted ≡ []
+  pub accepted : n.accepted ≡ []
+  pub ended : n.ended ≡ []
+  pub gone : n.gone ≡ []
+  pub named : n.named ≡ []
+
+module _ (shape : Shape) (read : Message → Saying) (group : ℕ → Bool) (for_group : Message → Bool) where
+  -- what concerns the group, at a node of it; at another node, words about links within
+  abbrev pub is_left : (of_group : Bool) → Message → Bool
+  is_left of_group m = says_of_group shape read group for_group (of_group && for_group m) (read m)
+
+  -- none is on a link, nor in flight there
+  pub record IsClear (link : ℕ) (z : Line) : Type 0 where
+    pub near : count_by (is_left (group (shape.point link Near))) z.near.queue.all ≡ 0
+    pub far : count_by (is_left (group (shape.point link Far))) z.far.queue.all ≡ 0
+    pub to_far : frames_by (is_left false) z.to_far ≡ 0
+    pub to_near : frames_by (is_left false) z.to_near ≡ 0
+
+  -- nothing is left: the links within are at rest, nothing that concerns the group is at its nodes or on other links
+  -- from there, and no word about a link within is anywhere else. And the books of its nodes begin
+  pub record NothingIsLeft (p : Network) : Type 0 where
+    pub lines : (link : ℕ) → is_within shape read group for_group link ≡ true → IsAtRest (p.line link)
+    pub bags : (point : ℕ) → count_by (is_left (group point)) (p.node point).bag ≡ 0
+    pub others : (link : ℕ) → is_within shape read group for_group link ≡ false → IsClear link (p.line link)
+    pub books : (point : ℕ) → group point ≡ true → Begins (p.node point)
+
+-- so the law of groups begins anew from each such network on, whatever was lost before
+abbrev pub groups_begin_anew : Type 0
+groups_begin_anew =
+    (shape : Shape) (read : Message → Saying) (group : ℕ → Bool) (for_group : Message → Bool) (start : Network)
+    (networks : List Network) (point : ℕ) → KeepsToItself shape read group for_group →
+    NothingIsLeft shape read group for_group start → Moves shape read start networks →
+    ((other : ℕ) → group other ≡ true → (last_of start networks).broken other ≡ false) →
+    group point ≡ true → EndsOnceWithin shape read group for_group (last_of start networks) point

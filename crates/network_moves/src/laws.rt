@@ -1,7 +1,7 @@
-//! What holds after every list of moves from every quiet network on, as the first is, while no node is broken; two laws
-//! ask less of nodes, and begin with the first network. A network is quiet (`specs/Quiet.antt`) while all its links are
-//! closed at both ends, its nodes' books begin, and no node has a user message, an order or an answer. It may have any
-//! shape. The moves are those of `specs/Passing.antt` (Q.704 §2), `specs/Carrying.antt` (RFC 4165 §2),
+//! What holds after every list of moves from every quiet network on, as the first is, while no node is broken; three
+//! laws ask less of nodes, of which two begin with the first network. A network is quiet (`specs/Quiet.antt`) while all
+//! its links are closed at both ends, its nodes' books begin, and no node has a user message, an order or an answer. It
+//! may have any shape. The moves are those of `specs/Passing.antt` (Q.704 §2), `specs/Carrying.antt` (RFC 4165 §2),
 //! `specs/Failing.antt` (Q.704 §5) and `specs/Returning.antt` (Q.704 §6).
 
 ghost use Rattle.network_moves.specs.Theorems.{Always, LinesFlow, FirstEndsAreAlone, EndsAreSound, MovedEndsAreAlone};
@@ -12,7 +12,7 @@ ghost use Rattle.network_moves.specs.Theorems.{OrdersMoveWhatIsLacked, AnswersMo
 ghost use Rattle.network_moves.specs.Theorems.{OrdersAreReasonable, AnswersAreReasonable};
 ghost use Rattle.network_moves.specs.Theorems.{EachMessageEntersOnce, EachMessageEndsOnce, EachMessageIsAccountedFor};
 ghost use Rattle.network_moves.specs.Laws.{WordsAreAwaited, WordsAreTrue};
-ghost use Rattle.network_moves.specs.Groups.{groups_decide_alone};
+ghost use Rattle.network_moves.specs.Groups.{groups_begin_anew, groups_decide_alone};
 ghost use Rattle.network_moves.specs.Lasting.{ends_last};
 ghost use Rattle.network_moves.specs.Quiet.{first_networks_are_quiet};
 ghost use Rattle.network_moves.specs.Crossing.{Crosses};
@@ -82,6 +82,13 @@ pub fn each_message_is_accounted_for()
 /// or on such a link; or are gone. And no more are gone than its notices of loss name.
 pub fn groups_decide_alone()
     ensures { groups_decide_alone }
+{}
+
+/// The law of groups begins anew from each network on in which nothing of the group is left, whatever was lost before:
+/// the links between its nodes are at rest, nothing that concerns it is at its nodes or on other links from there, and
+/// no order or answer about a link between its nodes is anywhere else. The books of its nodes begin there.
+pub fn groups_begin_anew()
+    ensures { groups_begin_anew }
 {}
 
 /// So much holds whichever nodes are broken, while none starts again, after every list of moves from the first network
