@@ -109,4 +109,5 @@ class Steady:
         self.test.assertLess(latest, LATE, "seconds until the latest message came")
         self.test.assertLess(logged, LOG_OCTETS, "octets of the log in a second")
         self.test.assertLess(grown, MEMORY_OCTETS, "octets of memory")
+        self.test.assertGreater(turn, 0, "seconds of the longest round")
         self.test.assertLess(turn, LONGEST_TURN, "seconds of the longest round")

@@ -1,11 +1,11 @@
-"""Attacks that would hold a node up, beside two good links with messages at a steady pace, for as long as is asked: how late
-the latest message came, what the log and the memory grew by, and the longest round.
+"""Attacks that would hold a node up, beside two good links with messages at a steady pace, for as long as is asked: how
+late the latest message came, what the log and the memory grew by, and the longest round.
 
     python3 tests/interop/held_up.py [SECONDS [TEST..]]
 
-Each attack of test_held_up.py lasts 60 seconds by default. On an idle machine, with the built program, no round may take
-longer than 50 ms. It needs the built program (crates/stp/out/stp, or another one by the environment variable STP), and no
-privilege.
+Each attack of test_held_up.py lasts 60 seconds by default. On an idle machine, with the built program, no round may
+take longer than 50 ms. It needs the built program (crates/stp/out/stp, or another one by the environment variable STP);
+the case of another user's terminal needs root, too.
 """
 
 import pathlib

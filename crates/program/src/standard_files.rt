@@ -10,8 +10,8 @@ const NOTHING: &str = "/dev/null";
 const LAST: i32 = 2;
 
 /// Opens a file in place of each standard one that is closed, for good. So no socket and no other file ever has its
-/// number, and is written to as if it were the standard one. As before, a read of standard input fails then, and a write
-/// to the others.
+/// number, and is written to as if it were the standard one. As before, a read of standard input fails then, and a
+/// write to the others.
 pub(crate) fn hold_standard_files(rt: &HostRuntime) {
     hold_next(rt, true, 0);
     for _ in 0..LAST {

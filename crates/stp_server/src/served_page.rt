@@ -142,8 +142,8 @@ impl ServedPage {
         }
     }
 
-    /// Gives a client a place. If none is free, an idle one makes way, and its connection is closed; if none is idle, the
-    /// new one's is.
+    /// Gives a client a place. If none is free, an idle one makes way, and its connection is closed; if none is idle,
+    /// the new one's is.
     fn seat(&mut self, mut stream: TcpStream, registry: &Registry, now_ms: u64)
         ensures { self.new ≡ self.old }
     {

@@ -1,5 +1,5 @@
-//! A node on sockets. It has its links, its status page and the clients of its console; a function is lent those of them
-//! that it uses, since a proof works out all that a whole server owns.
+//! A node on sockets. It has its links, its status page and the clients of its console; a function is lent those of
+//! them that it uses, since a proof works out all that a whole server owns.
 
 mod links;
 mod opening;

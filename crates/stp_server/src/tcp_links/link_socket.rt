@@ -199,8 +199,9 @@ impl LinkSocket {
         self.next_try = now.saturating_add(Duration::from_secs(seconds));
     }
 
-    /// Makes one read, to the front of the buffer, and hands in what came. So each link has as many octets of a round as
-    /// the buffer has, and none holds up the others. If something came, the next wait for a try is the first one again.
+    /// Makes one read, to the front of the buffer, and hands in what came. So each link has as many octets of a round
+    /// as the buffer has, and none holds up the others. If something came, the next wait for a try is the first one
+    /// again.
     pub(crate) fn read<W: Sink, U: Watch>(
         &mut self,
         buffer: &mut [u8],
