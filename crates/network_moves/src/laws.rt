@@ -84,9 +84,10 @@ pub fn groups_decide_alone()
     ensures { groups_decide_alone }
 {}
 
-/// The law of groups begins anew from each network on in which nothing of the group is left, whatever was lost before:
-/// the links between its nodes are at rest, nothing that concerns it is at its nodes or on other links from there, and
-/// no order or answer about a link between its nodes is anywhere else. The books of its nodes begin there.
+/// The law of groups begins anew from each network on in which nothing of the group is left: the links between its nodes
+/// are at rest, nothing that concerns it is at its nodes or on other links from there, and no order or answer about a
+/// link between its nodes is anywhere else. The books of its nodes and links begin there, and none of its nodes is
+/// broken, there or later.
 pub fn groups_begin_anew()
     ensures { groups_begin_anew }
 {}

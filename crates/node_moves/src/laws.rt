@@ -67,7 +67,7 @@ pub fn nothing_is_lost_while_no_flag_is_raised()
     ensures ends { nothing_is_lost_from_end_to_end }
 {}
 
-/// A hop asks for the counts of its two nodes alone, whatever the others are, broken or not, and whatever their routes.
+/// A hop asks for the counts of its two nodes alone, whatever the other nodes count, and whatever their routes.
 /// Where one set alone leads from each of two nodes to the other, and neither of the two is broken: of the user messages
 /// for the far node that the near one accepted, by any test, those that came to the far node by a link from the near one
 /// and those that wait at the near one, in Held or on such a link, are together no more than it accepted. So a message

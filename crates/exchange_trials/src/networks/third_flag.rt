@@ -1,4 +1,5 @@
-//! What the flags of third nodes are for: messages come twice, and neither of the two ends of their hop has a flag.
+//! What the flags of third nodes are for: messages come twice between two neighbours to which several sets lead, and
+//! neither of the two has a flag.
 //!
 //! Four nodes, each joined to each by one link; orders to change over go by any route. At node 3 alone T2 and the bar
 //! are short. Nodes 1 and 2 do nothing wrong, and messages go from 1 to 2 alone:
