@@ -30,7 +30,10 @@ STP = os.path.abspath(os.environ.get("STP") or ROOT / "crates/stp/out/stp")
 PATIENCE = 40.0
 
 HOST = "127.0.0.1"
-MALFORMED = "malformed: help lists the lines"
+
+# A line that no console knows, and what it answers.
+UNKNOWN = "end"
+UNKNOWN_ANSWER = f"malformed: no command {UNKNOWN}; help lists them"
 
 # Ticks of each timer if none is to run out: at 50 ms a tick, longer than any test waits.
 LONG = 2000
@@ -186,11 +189,17 @@ class Caller:
 
     def ask(self, line: str) -> list[str]:
         """Writes a line that has an answer of any length. Returns its lines."""
-        self.write(f"{line}\n?\n")
+        self.write(f"{line}\n{UNKNOWN}\n")
         lines = []
-        while (answered := self.read_line()) != MALFORMED:
+        while (answered := self.read_line()) != UNKNOWN_ANSWER:
             lines.append(answered)
         return lines
+
+    def read_to_end(self) -> list[str]:
+        """Waits for the end of the connection, and takes the lines before it."""
+        while self._hear():
+            pass
+        return self.read_lines(len(self.lines))
 
     def sees_end(self) -> bool:
         """Waits for the end of the connection. Says whether nothing came before it."""

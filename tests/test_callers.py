@@ -3,7 +3,7 @@
 import signal
 import socket
 
-from harness import MALFORMED, Link, NodeTest, free_port
+from harness import Link, NodeTest, free_port
 from traffic import FAR, NEAR, Pair, submit_to
 
 MESSAGES = 64
@@ -12,7 +12,7 @@ KEPT_NOTICES = 64
 LOST = 100
 LINE_OCTETS = 8300
 QUESTIONS = 6000
-HELP_LINES = 25
+HELP_LINES = 28
 ROUTE = f"route {FAR} to-{FAR} allowed"
 FLAGS = ["flag lost_any 0", "flag late_any 0"]
 
@@ -23,18 +23,88 @@ POST = "POST / HTTP/1.1\r\nHost: localhost\r\n\r\n"
 IN_PARTS = {0: "0-000-0", 9: "0-001-1", 4237: "2-017-5", 16383: "7-255-7"}
 
 # Lines that add no row: a point is in the wrong format, or no point is read there.
-NO_POINTS = (
-    "title add 0 1 4 4917 8-000-0 ssn 6",
-    "title add 0 1 4 4917 2-256-5 ssn 6",
-    "title add 0 1 4 4917 2-017-8 ssn 6",
-    "title add 0 1 4 4917 2-17-5 ssn 6",
-    "title add 2-017-5 1 4 4917 9 ssn 6",
-    "title add 0 1 4 4917",
-    "title add  0 1 4 4917 2-017-5 ssn 6",
-    "title remove 0 1 4 4917 2-017-5",
-    "title add",
-    "route 2-017-5",
-)
+NO_POINTS = {
+    "title add 0 1 4 4917 8-000-0 ssn 6": "title add: POINT must be a point code",
+    "title add 0 1 4 4917 2-256-5 ssn 6": "title add: POINT must be a point code",
+    "title add 0 1 4 4917 2-017-8 ssn 6": "title add: POINT must be a point code",
+    "title add 0 1 4 4917 2-17-5 ssn 6": "title add: POINT must be a point code",
+    "title add 2-017-5 1 4 4917 9 ssn 6": "title: T must be 0 to 255",
+    "title add 0 1 4 4917": "title add: POINT must be a point code",
+    "title remove 0 1 4 4917 2-017-5": "title remove: nothing may be behind DIGITS",
+    "route 2-017-5": "no command route; help lists them",
+}
+
+# Lines that a caller may not write, and what is wrong with them.
+OF_SCRIPTS = "for scripts alone: here links and clock are real"
+NO_COMMAND = "no such command; help lists them"
+OF_SHOW = "must be show and what help lists behind it"
+OF_SUBMIT = "must be submit HEX, of two hexadecimal digits for each octet"
+OF_ACTIVATE = "must be activate LINK, or activate LINK emergency"
+OF_CAPTURE = "must be capture start or capture stop, for all links; or with LINK behind it, for that one"
+BEHIND = "title add: behind SSN may be backup POINT, then changed PLAN NATURE REMOVE ADD"
+ROW = "title add 0 1 4 4917 9 ssn 6"
+MISTAKES = {
+    "shw links": "no command shw; the nearest is show",
+    "sohw links": "no command sohw; the nearest is show",
+    "Show links": "no command Show; the nearest is show",
+    "deactivaet e0": "no command deactivaet; the nearest is deactivate",
+    "reboot": "no command reboot; help lists them",
+    "ok": "no command ok; help lists them",
+    "x" * 32: f"no command {'x' * 32}; help lists them",
+    "x" * 33: NO_COMMAND,
+    "h\u00e9lp": NO_COMMAND,
+    "show\tlinks": NO_COMMAND,
+    "up e0": OF_SCRIPTS,
+    "down": OF_SCRIPTS,
+    "frame e0 00": OF_SCRIPTS,
+    "tick 1": OF_SCRIPTS,
+    "take e0": OF_SCRIPTS,
+    "wants e0": OF_SCRIPTS,
+    "show lnks": "show has no lnks; the nearest is links",
+    "show link e0": "show has no link; the nearest is links",
+    "show everything": "show has no everything; help lists them",
+    f"show {'x' * 33}": "show has no such text; help lists them",
+    "show": OF_SHOW,
+    "show links e0": OF_SHOW,
+    "submit": OF_SUBMIT,
+    "submit 85 02": OF_SUBMIT,
+    "submit 850g": "submit: a character that is no hexadecimal digit",
+    "submit 850": "submit: an odd number of digits",
+    f"submit {'00' * 4097}": "submit: more than 4096 octets",
+    "activate": OF_ACTIVATE,
+    "activate e0 quickly": OF_ACTIVATE,
+    "activate e0 emergency now": OF_ACTIVATE,
+    "deactivate": "must be deactivate LINK",
+    "deactivate e0 e1": "must be deactivate LINK",
+    "release": "must be release LINK",
+    "users now": "must be users",
+    "watch e0": "must be watch, or watch frames",
+    "capture": OF_CAPTURE,
+    "capture e0": OF_CAPTURE,
+    "help me": "must be help",
+    "quit now": "must be quit",
+    "stop now": "must be stop",
+    "title": "title: add or remove must be behind it",
+    "title set 0 1 4 4917 9 ssn 6": "title: add or remove must be behind it",
+    "title add": "title: T must be 0 to 255",
+    "title add 256 1 4 4917 9 ssn 6": "title: T must be 0 to 255",
+    "title add 0 16 4 4917 9 ssn 6": "title: P must be 0 to 15",
+    "title remove 0 1 128 4917": "title: N must be 0 to 127",
+    "title remove 0 1 4 491g": "title: DIGITS must be 1 to 32 of 0 to 9 and a to f",
+    f"title remove 0 1 4 {'1' * 33}": "title: DIGITS must be 1 to 32 of 0 to 9 and a to f",
+    "title remove 0 1 4 4917 9": "title remove: nothing may be behind DIGITS",
+    "title add 0 1 4 4917 16384 ssn 6": "title add: POINT must be a point code",
+    "title add 0 1 4 4917 9 gt 6": "title add: ROUTE must be title or ssn",
+    "title add 0 1 4 4917 9 ssn -": "title add: SSN must be 1 to 255, or - if ROUTE is title",
+    "title add 0 1 4 4917 9 title 0": "title add: SSN must be 1 to 255, or - if ROUTE is title",
+    f"{ROW} backup": "title add: a point code must be behind backup",
+    f"{ROW} spare 10": BEHIND,
+    f"{ROW} backup 10 changed 1 4 0 - -": BEHIND,
+    f"{ROW} changed 16 4 0 -": "title add: PLAN must be 0 to 15, or -",
+    f"{ROW} changed 1 128 0 -": "title add: NATURE must be 0 to 127, or -",
+    f"{ROW} changed - - 33 -": "title add: REMOVE must be 0 to 32",
+    f"{ROW} backup 10 changed 1 4 0 x": "title add: ADD must be 1 to 32 of 0 to 9 and a to f, or -",
+}
 
 
 class Callers(NodeTest):
@@ -55,9 +125,41 @@ class Callers(NodeTest):
         caller = self.near.call()
         self.assertEqual(caller.ask("show routes"), [ROUTE])
         caller.write("up e0\n")
-        self.assertEqual(caller.read_line(), MALFORMED, "the network isn't a caller's")
+        self.assertEqual(caller.read_line(), f"malformed: {OF_SCRIPTS}", "the network isn't a caller's")
         caller.write("title add 0 1 4 4917 0-000-2 ssn 6\n")
-        self.assertEqual(caller.read_line(), MALFORMED, "points are numbers")
+        self.assertEqual(caller.read_line(), "malformed: title add: POINT must be a point code", "points are numbers")
+        self.assertEqual(caller.ask("show version"), ["stp 0.1.0"])
+        self.assertEqual(caller.ask("?"), self.near.ask("help"))
+
+    def test_mistakes(self) -> None:
+        """Each is answered by what is wrong, and nothing is done."""
+        caller = self.near.call()
+        shown = {line: caller.ask(line) for line in ("show routes", "show titles", "show capture")}
+        for line, wrong in MISTAKES.items():
+            caller.write(f"{line}\n")
+            self.assertEqual(caller.read_line(), f"malformed: {wrong}", line)
+        for line, lines in shown.items():
+            self.assertEqual(caller.ask(line), lines)
+        self.assertEqual([state for state, _ in self.near.links().values()], ["InService"] * 3)
+
+    def test_blanks(self) -> None:
+        """They don't matter before and behind a line, nor how many are between words. A line of blanks is empty."""
+        caller = self.near.call()
+        for line in ("show routes", "  show routes", "show routes  ", "show    routes", "   show   routes  \r"):
+            self.assertEqual(caller.ask(line), [ROUTE], line)
+        for line in ("   ", "  # nothing", "  \r"):
+            self.assertEqual(caller.ask(line), [], line)
+        self.assertEqual(caller.ask(" title  add 0 1 4  4917 9 ssn   6 "), ["handled"])
+        self.assertEqual(caller.ask("show titles"), ["title 0 1 4 4917 9 ssn 6"])
+
+    def test_quit(self) -> None:
+        """All that was asked for before is answered, and nothing behind it is done."""
+        caller = self.near.call()
+        caller.write("users\nwatch\nwatch frames\n" + "show routes\n" * QUESTIONS + "quit\ndeactivate e0\nstop\n")
+        self.assertEqual(caller.read_lines(3), ["handled"] * 3)
+        rest = [line for line in caller.read_to_end() if not line.startswith(("local ", "e0 ", "e1 ", "e2 "))]
+        self.assertEqual(rest, [ROUTE] * QUESTIONS + ["handled"])
+        self.assertEqual([state for state, _ in self.near.links().values()], ["InService"] * 3)
 
     def test_messages_are_told(self) -> None:
         listener, submitter = self.near.call(), self.far.call()
@@ -93,7 +195,7 @@ class Callers(NodeTest):
         first, second = self.near.call(), self.near.call()
         self.assertEqual(first.ask("show routes"), [ROUTE])
         first.write("x" * LINE_OCTETS + "\n")
-        self.assertEqual(first.read_line(), MALFORMED)
+        self.assertEqual(first.read_line(), f"malformed: {NO_COMMAND}")
         second.write("x" * (LINE_OCTETS + 1))
         self.assertTrue(second.sees_end())
         self.assertEqual(first.ask("show routes"), [ROUTE])
@@ -109,7 +211,7 @@ class Callers(NodeTest):
         self.near.await_log("caller .* gone$", 3)
         self.assertEqual(caller.ask("show routes"), [ROUTE])
         caller.write(POST.splitlines(keepends=True)[0])
-        self.assertEqual(caller.read_line(), MALFORMED)
+        self.assertEqual(caller.read_line(), "malformed: no command POST; help lists them")
         self.assertEqual(caller.ask("show routes"), [ROUTE])
         self.assertEqual([state for state, _ in self.near.links().values()], ["InService"] * 3)
         self.assertEqual(self.near.logged("notice"), 0)
@@ -160,9 +262,9 @@ class Points(NodeTest):
     def test_what_is_no_point(self) -> None:
         caller = self.near.call()
         self.assertEqual(caller.ask("show titles"), [])
-        for line in NO_POINTS:
-            caller.write(line + "\n")
-            self.assertEqual(caller.read_line(), MALFORMED, line)
+        for line, wrong in NO_POINTS.items():
+            caller.write(f"{line}\n")
+            self.assertEqual(caller.read_line(), f"malformed: {wrong}", line)
         self.assertEqual(self.near.ask("show titles"), [])
 
 

@@ -13,6 +13,7 @@ from harness import Node, NodeTest, free_port, links_between, run
 from traffic import FAR, NEAR, Pair
 
 CAPTURE = "node.pcap"
+MISTAKE = "must be capture start or capture stop, for all links; or with LINK behind it, for that one"
 MESSAGES = 200
 
 # A ring of three files, the longest messages, and as many as fill some files more: a packet of one has 336 octets.
@@ -303,12 +304,12 @@ class Orders(NodeTest):
 
     def test_other_lines(self) -> None:
         pair = Pair(self, near_capture=CAPTURE)
-        for line in ("capture start e9", "capture stop e9", "capture start ", "capture stop e0 e1"):
+        for line in ("capture start e9", "capture stop e9", "capture stop e0 e1"):
             self.assertEqual(pair.near.ask(line), ["refused 22 NoSuchName"], line)
         for node in (pair.near, pair.far):
             for line in ("capture", "capture ", "capture e0", "capture starts"):
                 node.operator.write(f"{line}\n")
-                self.assertEqual(node.operator.read_line(), "malformed: help lists the lines", line)
+                self.assertEqual(node.operator.read_line(), f"malformed: {MISTAKE}", line)
         self.assertEqual(pair.near.ask("show capture"), ["capture e0 on", "capture e1 on", "capture e2 on"])
 
     def test_no_capture(self) -> None:

@@ -12,13 +12,13 @@ import threading
 import unittest
 from typing import Any, Iterator
 
-from harness import HOST, MALFORMED, PATIENCE, STP, Link, Node, NodeTest, free_port, run
+from harness import HOST, PATIENCE, STP, Link, Node, NodeTest, free_port, run
 
 REFUSED = 1
 FAILED = 4
 FLAGS = "flag lost_any 0\nflag late_any 0\n"
 QUESTIONS = 6000
-HELP_LINES = 25
+HELP_LINES = 28
 MOST_CALLERS = 16
 LINE_OCTETS = 8300
 NOBODY = 65534
@@ -29,7 +29,7 @@ UNANSWERED = "the connection ended before all was answered"
 ANSWERS = (
     ("users\nusers", "handled\nhandled\n", 0),
     ("users\nusers\n", "handled\n", FAILED),
-    ("users\nshow flags\n# nothing\n\n\r\nshow\n", f"handled\n{FLAGS}{MALFORMED}\n", REFUSED),
+    ("users\nshow flags\n# nothing\n\n\r\nshow\n", f"handled\n{FLAGS}malformed: must be show ..\n", REFUSED),
     ("users\nwatch\n", "handled\nlocal e0 850240001001001000\nhandled\nrefused 6 NoUserPart e0\n", 0),
     ("users\nwatch\n", "handled\nlocal e0 850240001001001000\nrefused 6 NoUserPart e0\n", FAILED),
     ("submit 8502\nhelp\n", "queued e0\n", FAILED),
@@ -82,7 +82,7 @@ class Tell(LoneTest):
         """A first line that is malformed ends the connection, a later one doesn't."""
         for node in (self.lone(), self.at_a_socket()):
             node.start()
-            mistake = f"{MALFORMED}\n"
+            mistake = "malformed: no command shw; the nearest is show\n"
             self.assertEqual(self.told(node, "shw", "links"), (REFUSED, mistake))
             self.assertEqual(self.told(node, text="shw\n" + "show flags\n" * QUESTIONS), (REFUSED, mistake))
             self.assertEqual(self.told(node, text="show flags\nshw\nshow flags\n"), (REFUSED, FLAGS + mistake + FLAGS))

@@ -5,3 +5,8 @@ pub mod Commands
 pub mod Numbers
 pub mod TitleWords
 pub mod Orders
+pub mod Trimming
+pub mod ClientWords
+pub mod TitleMistakes
+pub mod Mistakes
+pub mod Malformed

@@ -1,5 +1,5 @@
 -- Orders as an operator writes them, with points in the format that he writes.
-use Rattle.std.specs.Prelude.{ℕ, Bool, not, nat_eq, if◌then◌else◌, List, [], ◌∷◌, length, bytes_eq, codes}
+use Rattle.std.specs.Prelude.{ℕ, Bool, if◌then◌else◌, List, [], ◌∷◌, bytes_eq, codes}
 use Rattle.std.specs.Prelude.{Option, None, Some}
 use Rattle.std.specs.Option.{option_map, option_and_then}
 use Rattle.settings.specs.Configuration.{Configuration, TitleEntry}
@@ -22,9 +22,6 @@ pub data Instruction : Type 0 where
   ToRelease : (link : List ℕ) → Instruction
   ToAddTitle : (row : TitleEntry) → Instruction
   ToRemoveTitle : (key : TitleKey) (digits : List ℕ) → Instruction
-
-abbrev pub is_some_word : List ℕ → Bool
-is_some_word word = not (nat_eq (length word) 0)
 
 -- the order about the row of this name: it is removed, or added with the words after
 abbrev pub title_order_about : PointFormat → RowName → (verb : List ℕ) → List (List ℕ) → Option Instruction

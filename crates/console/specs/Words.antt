@@ -1,5 +1,5 @@
 -- The words of a line, and the parts of a text.
-use Rattle.std.specs.Prelude.{ℕ, ◌==◌, if◌then◌else◌, List, [], ◌∷◌, ◌++◌, Option, None, Some}
+use Rattle.std.specs.Prelude.{ℕ, Bool, not, nat_eq, length, ◌==◌, if◌then◌else◌, List, [], ◌∷◌, ◌++◌, Option, None, Some}
 use Rattle.std.specs.Borrow.{Bor}
 
 -- an octet before the first of some parts
@@ -15,6 +15,10 @@ parted mark (octet ∷ rest) = if octet == mark then [] ∷ parted mark rest els
 -- the words of a line: what its spaces (32) part
 abbrev pub words : List ℕ → List (List ℕ)
 words line = parted 32 line
+
+-- a word that isn't empty
+abbrev pub is_some_word : List ℕ → Bool
+is_some_word word = not (nat_eq (length word) 0)
 
 -- a text before the first of some parts
 abbrev pub begun : List ℕ → List (List ℕ) → List (List ℕ)

@@ -42,7 +42,7 @@ fn read_change(plan: &[u8], nature: &[u8], removed: &[u8], added: &[u8]) -> Opti
 }
 
 /// A number up to the most, or none if it is written `-`.
-fn read_given(text: &[u8], most: u16) -> Option<Option<u8>>
+pub(crate) fn read_given(text: &[u8], most: u16) -> Option<Option<u8>>
     requires { most < 2 ^ 8 }
     ensures value { result ≡ given_written most text.now }
     ensures below { IfSome result (λ given. IfSome given (λ n. n ≤ most)) }
@@ -55,7 +55,7 @@ fn read_given(text: &[u8], most: u16) -> Option<Option<u8>>
 }
 
 /// The digits that are put on, or none if they are written `-`.
-fn read_added(text: &[u8]) -> Option<TitleDigits>
+pub(crate) fn read_added(text: &[u8]) -> Option<TitleDigits>
     ensures value { option_map (λ digits. digits.items) result ≡ added_written text.now }
     ensures fits { IfSome result (λ digits. length digits.items ≤ Limits.TITLE_DIGITS) }
     ensures range { IfSome result (λ digits. All (λ digit. digit < 2 ^ 4) digits.items) }

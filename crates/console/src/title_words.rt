@@ -18,7 +18,7 @@ use exchange::{TitleDigits, TitleKey};
 use settings::{Limits, PointCode, PointFormat, Ssn, TitleRoute, TitleRow, parse_point};
 
 /// The largest translation type.
-const LAST_TRANSLATION: u16 = 255;
+pub(crate) const LAST_TRANSLATION: u16 = 255;
 
 /// The largest numbering plan.
 pub(crate) const LAST_PLAN: u16 = 15;
@@ -174,7 +174,7 @@ fn digit_value(octet: u8) -> Option<u8>
 }
 
 /// How this word says that addresses are routed, with this subsystem number, if any.
-fn route_named(way: &[u8], ssn: Option<Ssn>) -> Option<TitleRoute>
+pub(crate) fn route_named(way: &[u8], ssn: Option<Ssn>) -> Option<TitleRoute>
     ensures { result ≡ route_named way.now ssn }
 {
     match ssn {
@@ -185,7 +185,7 @@ fn route_named(way: &[u8], ssn: Option<Ssn>) -> Option<TitleRoute>
 }
 
 /// A subsystem number, or none if it is written `-`.
-fn read_ssn(text: &[u8]) -> Option<Option<Ssn>>
+pub(crate) fn read_ssn(text: &[u8]) -> Option<Option<Ssn>>
     ensures { result ≡ ssn_written text.now }
 {
     if text == b"-".as_slice() {

@@ -23,10 +23,10 @@ use Rattle.served_node.specs.Captured.{Captured, answer_to, captured_line, order
 use Rattle.served_node.specs.Clients.{ClientState}
 use Rattle.served_node.specs.WholeLines.{IsTold, IsRefused}
 use Rattle.served_node.specs.declared.console_session.client.Ending.{Ending}
-use Rattle.served_node.specs.declared.console_session.client.Ending.TheVariants.{Stays, Closes, Stops}
+use Rattle.served_node.specs.declared.console_session.client.Ending.TheVariants.{Stays, Closes, Leaves, Stops}
 use Rattle.served_node.specs.declared.captured_links.CaptureOrder.{CaptureOrder}
 use Rattle.served_node.specs.declared.console_session.help.TheConstants.{HELP}
-use Rattle.program.specs.ConsoleLaws.{Answers, IsSaid, IsHelp, IsOrderAnswer, LinesAnswer, IsNone, ShownAnswersNone, outcomes_answer}
+use Rattle.program.specs.ConsoleLaws.{Answers, IsMalformedAnswer, IsSaid, IsHelp, IsOrderAnswer, LinesAnswer, IsNone, ShownAnswersNone, outcomes_answer}
 
 -- a line without anything unknown is judged by computing
 pub judged : (refuses closes_first closes : Bool) (line : List ℕ) → nat_le (length line) 64 ≡ true → is_answer line ≡ true → is_refusal line ≡ refuses
@@ -109,16 +109,19 @@ outcomes name (outcome.Refused why) none short = (reads why).outcome
 told-said : (IsText : List ℕ → Type 0) (text : List ℕ) (last ending : Ending) (old new : ClientState) → IsText text → IsTold text last ending old new → IsSaid IsText old new
 told-said IsText text last Closes old new is told = inl told
 told-said IsText text last Stays old new is told = inr (text, is, told.1)
+told-said IsText text last Leaves old new is told = inr (text, is, told.1)
 told-said IsText text last Stops old new is told = inr (text, is, told.1)
 
-malformed : Answers true true false (codes "malformed: help lists the lines\n")
-malformed = judged true true false (codes "malformed: help lists the lines") refl refl refl refl refl
+-- whatever is wrong, it is said behind the same words
+malformed : (why : List ℕ) → IsMalformedAnswer (codes "malformed: " ++ (why ++ codes "\n"))
+malformed why = record { line = codes "malformed: " ++ why; whole = refl; answers = refl; says = refl; first = refl; later = refl }
 
-malformed-said : (is_first : Bool) (ending : Ending) (old new : ClientState) → IsRefused is_first ending old new → IsSaid (Answers true true false) old new
-malformed-said is_first Stays old new refused = inr (_, malformed, refused.1)
-malformed-said is_first Closes old new (inl full) = inl full
-malformed-said is_first Closes old new (inr refused) = inr (_, malformed, refused.1)
-malformed-said is_first Stops old new refused = absurd refused
+malformed-said : (points : PointFormat) (line : List ℕ) (is_first : Bool) (ending : Ending) (old new : ClientState) → IsRefused points line is_first ending old new → IsSaid IsMalformedAnswer old new
+malformed-said points line is_first Stays old new (late, lacks_memory, is) = inr (_, malformed _, is)
+malformed-said points line is_first Closes old new (inl full) = inl full
+malformed-said points line is_first Closes old new (inr (first, lacks_memory, is)) = inr (_, malformed _, is)
+malformed-said points line is_first Leaves old new refused = absurd refused
+malformed-said points line is_first Stops old new refused = absurd refused
 
 watching : Answers false false false (codes "handled\n")
 watching = judged false false false (codes "handled") refl refl refl refl refl
@@ -137,11 +140,12 @@ ordered (Some order) captured = done-or-ignored order captured captured.is_there
 
 pub others : LinesAnswer
 others = record {
-  malformed = λ is_first counters captured captured_after ending s after old new does. malformed-said is_first ending old new does.2;
+  malformed = λ points line is_first counters captured captured_after ending s after old new does. malformed-said points line is_first ending old new does.2;
   users = λ is_first counters captured captured_after ending s after old new does. told-said (Answers false false false) _ Stays ending _ new watching does.2;
   notices = λ is_first counters captured captured_after ending s after old new does. told-said (Answers false false false) _ Stays ending _ new watching does.2;
   frames = λ is_first counters captured captured_after ending s after old new does. told-said (Answers false false false) _ Stays ending _ new watching does.2;
   help = λ is_first counters captured captured_after ending s after old new does. told-said IsHelp HELP.now Stays ending old new refl does.2;
+  quit = λ is_first counters captured captured_after ending s after old new does. told-said (Answers false false false) _ Leaves ending _ new watching does.2;
   stop = λ is_first counters captured captured_after ending s after old new does. told-said (Answers false true true) _ Stops ending old new stopping does.2;
   capture = λ is_on name is_first counters captured captured_after ending s after old new does. told-said IsOrderAnswer _ Stays ending old new (ordered (order_of s.settings is_on name) captured) does.2;
 }
@@ -195,5 +199,6 @@ shown = record {
   reroutings = reroutings;
   counters = λ counter name value. refl;
   datagrams = λ name value. refl;
+  version = (codes "stp 0.1.0", refl, refl);
   captured = captured-lines;
 }

@@ -22,9 +22,9 @@ is_refused_outcome line = starts_with nat_eq line (codes "refused ") && nat_eq (
 abbrev pub is_queued_outcome : List ℕ → Bool
 is_queued_outcome line = starts_with nat_eq line (codes "queued ") && nat_eq (blanks line) 1
 
--- the line isn't one that a client may write
+-- the line isn't one that a client may write; why is behind these words
 abbrev pub is_malformed : List ℕ → Bool
-is_malformed line = bytes_eq line (codes "malformed: help lists the lines")
+is_malformed line = starts_with nat_eq line (codes "malformed: ")
 
 -- the node had no place for the client
 abbrev pub is_no_place : List ℕ → Bool

@@ -17,11 +17,12 @@ use Rattle.served_link.specs.Lines.{counter_line, datagram_line}
 use Rattle.console.specs.Texts.{link_text, route_text, title_text, subsystem_text, notice_text, flag_line, loss_line, rerouting_line}
 use Rattle.script.specs.Texts.{outcome_line}
 use Rattle.served_node.specs.Captured.{Captured, captured_line}
-use Rattle.served_node.specs.Clients.{ClientState, told_of}
-use Rattle.served_node.specs.Lines.{Heard as Line, HearsUsers, HearsNotices, HearsFrames, HearsHelp, HearsStop}
+use Rattle.served_node.specs.Clients.{ClientState, told_of, untold}
+use Rattle.served_node.specs.Lines.{Heard as Line, HearsUsers, HearsNotices, HearsFrames, HearsHelp, HearsQuit, HearsStop}
 use Rattle.served_node.specs.Lines.{HearsCapture, HearsNoLine}
 use Rattle.served_node.specs.WholeLines.{DoesHeard, answered, unanswered}
 use Rattle.served_node.specs.declared.console_session.client.Ending.{Ending}
+use Rattle.served_node.specs.declared.console_session.client.TheConstants.{VERSION}
 use Rattle.served_node.specs.declared.console_session.client.News.TheVariants as news
 use Rattle.program.specs.ConsoleAnswers.{blanks, is_answer, is_last, is_refusal, read, nothing}
 
@@ -63,6 +64,16 @@ Says line begun IsText =
     (old new : ClientState) → DoesHeard line is_first counters captured captured_after ending s after old new
     → IsSaid IsText (begun old) new
 
+-- A line says that another one is malformed: something wasn't done, and the console closes the connection if this is the
+-- first line that comes. What is looked at of it is enough to tell.
+pub record IsMalformedAnswer (text : List ℕ) : Type 0 where
+  pub line : List ℕ
+  pub whole : text ≡ line ++ 10 ∷ []
+  pub answers : is_answer (take 64 line) ≡ true
+  pub says : is_refusal (take 64 line) ≡ true
+  pub first : is_last true (take 64 line) ≡ true
+  pub later : is_last false (take 64 line) ≡ false
+
 -- of the text of `help` the first line is an answer, and no other
 abbrev pub IsHelp : List ℕ → Type 0
 IsHelp text = read text nothing ≡ record nothing { is_first = false; answers = 1 }
@@ -73,11 +84,12 @@ IsOrderAnswer text = Answers false false false text ⊎ Answers true false false
 
 -- what other lines are answered
 pub record LinesAnswer : Type 0 where
-  pub malformed : Says HearsNoLine (λ old. old) (Answers true true false)
+  pub malformed : (points : PointFormat) (line : List ℕ) → Says (HearsNoLine points line) (λ old. old) IsMalformedAnswer
   pub users : Says HearsUsers (λ old. told_of old news.Message) (Answers false false false)
   pub notices : Says HearsNotices (λ old. told_of old news.Notice) (Answers false false false)
   pub frames : Says HearsFrames (λ old. told_of old news.Frame) (Answers false false false)
   pub help : Says HearsHelp (λ old. old) IsHelp
+  pub quit : Says HearsQuit untold (Answers false false false)
   pub stop : Says HearsStop (λ old. old) (Answers false true true)
   pub capture : (is_on : Bool) (name : Option (List ℕ)) → Says (HearsCapture is_on name) (λ old. old) IsOrderAnswer
 
@@ -99,4 +111,5 @@ pub record ShownAnswersNone : Type 0 where
   pub reroutings : (s : Kept) (k : ℕ) (line : List ℕ) → rerouting_line s k ≡ Some line → IsNone line
   pub counters : (counter : Counter) (name : List ℕ) (value : ℕ) → IsNone (counter_line counter name value)
   pub datagrams : (name : List ℕ) (value : ℕ) → IsNone (datagram_line name value)
+  pub version : (line : List ℕ) × (VERSION.now ≡ line ++ 10 ∷ []) × IsNone line
   pub captured : (name : List ℕ) (is_on : Bool) → IsNone (captured_line name is_on)

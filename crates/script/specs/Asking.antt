@@ -4,9 +4,9 @@ use Rattle.std.specs.Prelude.{Option, None, Some, Result, Ok, Err, bytes_eq}
 use Rattle.std.specs.Option.{option_map}
 use Rattle.console.specs.Commands.{command_named}
 use Rattle.console.specs.Numbers.{number_within}
-use Rattle.console.specs.Orders.{Instruction, ToActivate, ToDeactivate, ToRelease, instruction, instructed_by, is_some_word}
+use Rattle.console.specs.Orders.{Instruction, ToActivate, ToDeactivate, ToRelease, instruction, instructed_by}
 use Rattle.settings.specs.declared.point.PointFormat.{PointFormat}
-use Rattle.console.specs.Words.{words}
+use Rattle.console.specs.Words.{is_some_word, words}
 use Rattle.console.specs.declared.commands.Command.{Command}
 use Rattle.console.specs.declared.commands.Command.TheVariants as command
 use Rattle.signalling_types.specs.declared.limits.TheConstants.Limits.{TICKS}

@@ -130,7 +130,8 @@ impl OpenLine {
 
     /// What was read of the line.
     pub fn octets(&self) -> &[u8]
-        ensures { result.now ≡ self.now.octets }
+        ensures octets { result.now ≡ self.now.octets }
+        ensures short { length result.now ≤ LINE_OCTETS }
     {
         self.octets.as_slice()
     }

@@ -38,6 +38,10 @@ told_of client Message = record client { sees_messages = true }
 told_of client Notice = record client { sees_notices = true }
 told_of client Frame = record client { sees_frames = true }
 
+-- it is told no news from now on
+abbrev pub untold : ClientState → ClientState
+untold client = record client { sees_messages = false; sees_notices = false; sees_frames = false }
+
 -- its next line isn't its first
 abbrev pub begun : ClientState → ClientState
 begun client = record client { is_first = false }

@@ -1,6 +1,6 @@
 -- What a client of the console asks for by a line.
 use Rattle.std.specs.Prelude.{ℕ, Bool, true, false, if◌then◌else◌, List, codes, Option, None, Some, Result, Ok, Err}
-use Rattle.std.specs.Prelude.{bytes_eq, length, take, drop}
+use Rattle.std.specs.Prelude.{◌||◌, bytes_eq, length, take, drop}
 use Rattle.std.specs.Option.{option_map}
 use Rattle.settings.specs.declared.point.PointFormat.{PointFormat}
 use Rattle.script.specs.Asking.{Asked, AskUp, AskDown, AskFrame, AskTick, AskTake, AskWants, AskSubmit, AskOrder}
@@ -9,19 +9,22 @@ use Rattle.script.specs.declared.line.Malformed.{Malformed}
 use Rattle.served_node.specs.declared.console_session.command.ConsoleLine.{ConsoleLine}
 use Rattle.served_node.specs.declared.console_session.command.ConsoleLine.TheVariants as line
 
--- what a line asks for: nothing, what a script asks for too, what only a client asks for; or it is malformed
+-- what a line asks for: nothing, what a script asks for too, what only a client asks for; or it is malformed, with points
+-- in a format
 pub data Heard : Type 0 where
   HearsNothing : Heard
   HearsScript : Asked → Heard
   HearsCounters : Heard
   HearsCapture : (is_on : Bool) → (name : Option (List ℕ)) → Heard
   HearsCaptured : Heard
+  HearsVersion : Heard
   HearsHelp : Heard
   HearsUsers : Heard
   HearsNotices : Heard
   HearsFrames : Heard
+  HearsQuit : Heard
   HearsStop : Heard
-  HearsNoLine : Heard
+  HearsNoLine : PointFormat → (line : List ℕ) → Heard
 
 -- what is behind a front, if a text begins with that
 abbrev pub behind : (front text : List ℕ) → Option (List ℕ)
@@ -50,12 +53,14 @@ capture_line text =
 -- the lines that only a client writes
 abbrev pub own_line : List ℕ → Option Heard
 own_line text =
-    if bytes_eq text (codes "help") then Some HearsHelp
+    if bytes_eq text (codes "help") || bytes_eq text (codes "?") then Some HearsHelp
     else if bytes_eq text (codes "users") then Some HearsUsers
     else if bytes_eq text (codes "watch") then Some HearsNotices
     else if bytes_eq text (codes "watch frames") then Some HearsFrames
     else if bytes_eq text (codes "show counters") then Some HearsCounters
+    else if bytes_eq text (codes "quit") then Some HearsQuit
     else if bytes_eq text (codes "stop") then Some HearsStop
+    else if bytes_eq text (codes "show version") then Some HearsVersion
     else if bytes_eq text (codes "show capture") then Some HearsCaptured
     else capture_line text
 
@@ -72,14 +77,15 @@ is_for_clients (AskSubmit octets) = true
 is_for_clients (AskOrder order) = true
 is_for_clients (AskShow what) = true
 
-abbrev pub heard_in_script : Reading → Heard
-heard_in_script Skips = HearsNothing
-heard_in_script IsMalformed = HearsNoLine
-heard_in_script (Asks asked) = if is_for_clients asked then HearsScript asked else HearsNoLine
+abbrev pub heard_in_script : PointFormat → (line : List ℕ) → Reading → Heard
+heard_in_script points line Skips = HearsNothing
+heard_in_script points line IsMalformed = HearsNoLine points line
+heard_in_script points line (Asks asked) =
+    if is_for_clients asked then HearsScript asked else HearsNoLine points line
 
 abbrev pub heard_unless : Option Heard → PointFormat → List ℕ → Heard
 heard_unless (Some own) points text = own
-heard_unless None points text = heard_in_script (parsed_line points text)
+heard_unless None points text = heard_in_script points text (parsed_line points text)
 
 -- a line without its end, with points in this format
 abbrev pub heard : PointFormat → List ℕ → Heard
@@ -92,15 +98,17 @@ heard_line (line.Script asked) = HearsScript (asked_line asked)
 heard_line line.Counters = HearsCounters
 heard_line (line.Capture is_on name) = HearsCapture is_on (option_map (λ name. name.now) name)
 heard_line line.Captured = HearsCaptured
+heard_line line.Version = HearsVersion
 heard_line line.Help = HearsHelp
 heard_line line.Users = HearsUsers
 heard_line line.Notices = HearsNotices
 heard_line line.Frames = HearsFrames
+heard_line line.Quit = HearsQuit
 heard_line line.Stop = HearsStop
 
-abbrev pub heard_of : Result ConsoleLine Malformed → Heard
-heard_of (Ok read) = heard_line read
-heard_of (Err malformed) = HearsNoLine
+abbrev pub heard_of : PointFormat → List ℕ → Result ConsoleLine Malformed → Heard
+heard_of points text (Ok read) = heard_line read
+heard_of points text (Err malformed) = HearsNoLine points text
 
 abbrev pub own_line_of : Option ConsoleLine → Option Heard
 own_line_of None = None

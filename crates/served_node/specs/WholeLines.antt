@@ -1,20 +1,22 @@
 -- What a whole line of a client does.
 use Rattle.std.specs.Prelude.{◌≡◌, ℕ, ◌⊎◌, Bool, true, false, List, ◌++◌, take, Some, Result, Ok, Err}
+use Rattle.console.specs.Malformed.{malformed_answer}
+use Rattle.console.specs.Trimming.{trimmed}
 use Rattle.exchange.specs.Calls.{Kept}
 use Rattle.script.specs.Asking.{Asked}
 use Rattle.script.specs.Streams.{Output, counted}
 use Rattle.script.specs.declared.sink.WriteFailed.{WriteFailed}
-use Rattle.served_node.specs.Lines.{Heard, heard, HearsNothing, HearsScript, HearsCounters, HearsCapture, HearsCaptured, HearsHelp, HearsUsers, HearsNotices, HearsFrames, HearsStop, HearsNoLine}
+use Rattle.served_node.specs.Lines.{Heard, heard, HearsNothing, HearsScript, HearsCounters, HearsCapture, HearsCaptured, HearsVersion, HearsHelp, HearsUsers, HearsNotices, HearsFrames, HearsQuit, HearsStop, HearsNoLine}
 use Rattle.served_node.specs.Answers.{Waiting, IsAnswered}
-use Rattle.served_node.specs.Clients.{ClientState, begun, OnlyOutboxChanges, told_of}
+use Rattle.served_node.specs.Clients.{ClientState, begun, OnlyOutboxChanges, told_of, untold}
 use Rattle.served_node.specs.Counters.{counters_text}
 use Rattle.served_node.specs.Captured.{Captured, after_order, answer_to, captured_text, order_of}
 use Rattle.served_node.specs.declared.console_session.help.TheConstants.{HELP}
-use Rattle.served_node.specs.declared.console_session.client.TheConstants.{MALFORMED, WATCHING, STOPPING}
+use Rattle.served_node.specs.declared.console_session.client.TheConstants.{VERSION, WATCHING, STOPPING}
 use Rattle.served_link.specs.Counting.{NodeCounters}
 use Rattle.settings.specs.declared.point.PointFormat.{PointFormat}
 use Rattle.served_node.specs.declared.console_session.client.Ending.{Ending}
-use Rattle.served_node.specs.declared.console_session.client.Ending.TheVariants.{Stays, Closes, Stops}
+use Rattle.served_node.specs.declared.console_session.client.Ending.TheVariants.{Stays, Closes, Leaves, Stops}
 use Rattle.served_node.specs.declared.console_session.client.News.TheVariants.{Message, Notice, Frame}
 
 -- the outbox of a client, as an output
@@ -31,6 +33,7 @@ abbrev pub IsDone : Asked → Ending → (s after : Kept) → (old new : Waiting
 IsDone asked Stays s after old new = IsAnswered asked s (Ok tt) after (output_of old) (output_of new)
 IsDone asked Closes s after old new =
     (failed : WriteFailed) × IsAnswered asked s (Err failed) after (output_of old) (output_of new)
+IsDone asked Leaves s after old new = ⊥
 IsDone asked Stops s after old new = ⊥
 
 -- a text was added to what waits for the client
@@ -46,25 +49,36 @@ abbrev pub IsAnsweredBy : (text : List ℕ) → Result Unit WriteFailed → (old
 IsAnsweredBy text (Ok x) old new = new ≡ answered old text
 IsAnsweredBy text (Err failed) old new = new ≡ unanswered old
 
--- a line has one text for its answer; then the client stays, or the node stops
+-- a line has one text for its answer; then the client stays or leaves, or the node stops
 abbrev pub IsTold : (text : List ℕ) → (last : Ending) → Ending → (old new : ClientState) → Type 0
 IsTold text last Closes old new = new ≡ unanswered old
 IsTold text last Stays old new = (Stays ≡ last) × (new ≡ answered old text)
+IsTold text last Leaves old new = (Leaves ≡ last) × (new ≡ answered old text)
 IsTold text last Stops old new = (Stops ≡ last) × (new ≡ answered old text)
 
 -- a text of many lines is answered, or its first octets, as far as there was room
 abbrev pub IsShown : (text : List ℕ) → Ending → (old new : ClientState) → Type 0
 IsShown text Stays old new = new ≡ answered old text
 IsShown text Closes old new = (count : ℕ) × (new ≡ unanswered (answered old (take count text)))
+IsShown text Leaves old new = ⊥
 IsShown text Stops old new = ⊥
 
--- A line that a client may not write has one text for its answer. Then the client stays, or, if it was its first line,
--- is to be closed.
-abbrev pub IsRefused : (is_first : Bool) → Ending → (old new : ClientState) → Type 0
-IsRefused is_first Stays old new = (is_first ≡ false) × (new ≡ answered old MALFORMED.now)
-IsRefused is_first Closes old new =
-    (new ≡ unanswered old) ⊎ ((is_first ≡ true) × (new ≡ answered old MALFORMED.now))
-IsRefused is_first Stops old new = ⊥
+-- A line that a client may not write is answered by why it is none, whether memory was refused for that or not.
+abbrev pub IsExplained : PointFormat → (line : List ℕ) → (old new : ClientState) → Type 0
+IsExplained points line old new = (lacks_memory : Bool) × (new ≡ answered old (malformed_answer lacks_memory points line))
+
+abbrev pub IsRefusedBy : PointFormat → (line : List ℕ) → Result Unit WriteFailed → (old new : ClientState) → Type 0
+IsRefusedBy points line (Ok x) old new = IsExplained points line old new
+IsRefusedBy points line (Err failed) old new = new ≡ unanswered old
+
+-- Then the client stays, or, if it was its first line, is to be closed.
+abbrev pub IsRefused :
+    PointFormat → (line : List ℕ) → (is_first : Bool) → Ending → (old new : ClientState) → Type 0
+IsRefused points line is_first Stays old new = (is_first ≡ false) × IsExplained points line old new
+IsRefused points line is_first Closes old new =
+    (new ≡ unanswered old) ⊎ ((is_first ≡ true) × IsExplained points line old new)
+IsRefused points line is_first Leaves old new = ⊥
+IsRefused points line is_first Stops old new = ⊥
 
 -- What a line does to the node, to what is captured and to its client, and what becomes of the client. Only a line of
 -- a script changes the node, only an order about the capture what is captured, and only `stop` asks the node to stop.
@@ -83,6 +97,8 @@ DoesHeard (HearsCapture is_on name) is_first counters captured captured_after en
     × IsTold (answer_to (order_of s.settings is_on name) captured) Stays ending old new
 DoesHeard HearsCaptured is_first counters captured captured_after ending s after old new =
     (after ≡ s) × (captured_after ≡ captured) × IsShown (captured_text s captured) ending old new
+DoesHeard HearsVersion is_first counters captured captured_after ending s after old new =
+    (after ≡ s) × (captured_after ≡ captured) × IsTold VERSION.now Stays ending old new
 DoesHeard HearsHelp is_first counters captured captured_after ending s after old new =
     (after ≡ s) × (captured_after ≡ captured) × IsTold HELP.now Stays ending old new
 DoesHeard HearsUsers is_first counters captured captured_after ending s after old new =
@@ -91,12 +107,14 @@ DoesHeard HearsNotices is_first counters captured captured_after ending s after 
     (after ≡ s) × (captured_after ≡ captured) × IsTold WATCHING.now Stays ending (told_of old Notice) new
 DoesHeard HearsFrames is_first counters captured captured_after ending s after old new =
     (after ≡ s) × (captured_after ≡ captured) × IsTold WATCHING.now Stays ending (told_of old Frame) new
+DoesHeard HearsQuit is_first counters captured captured_after ending s after old new =
+    (after ≡ s) × (captured_after ≡ captured) × IsTold WATCHING.now Leaves ending (untold old) new
 DoesHeard HearsStop is_first counters captured captured_after ending s after old new =
     (after ≡ s) × (captured_after ≡ captured) × IsTold STOPPING.now Stops ending old new
-DoesHeard HearsNoLine is_first counters captured captured_after ending s after old new =
-    (after ≡ s) × (captured_after ≡ captured) × IsRefused is_first ending old new
+DoesHeard (HearsNoLine points line) is_first counters captured captured_after ending s after old new =
+    (after ≡ s) × (captured_after ≡ captured) × IsRefused points line is_first ending old new
 
--- what a line of a client does, which is its first or isn't, with points in this format
+-- what a line of a client without needless blanks does, which is its first or isn't, with points in this format
 abbrev pub DoesLineAt : PointFormat → (is_first : Bool) → List ℕ → NodeCounters → (captured captured_after : Captured)
     → Ending → (s after : Kept) → (old new : ClientState) → Type 0
 DoesLineAt points is_first line counters captured captured_after ending s after old new =
@@ -106,4 +124,4 @@ DoesLineAt points is_first line counters captured captured_after ending s after 
 abbrev pub DoesLine : PointFormat → List ℕ → NodeCounters → (captured captured_after : Captured) → Ending
     → (s after : Kept) → (old new : ClientState) → Type 0
 DoesLine points line counters captured captured_after ending s after old new =
-    DoesLineAt points old.is_first line counters captured captured_after ending s after (begun old) new
+    DoesLineAt points old.is_first (trimmed line) counters captured captured_after ending s after (begun old) new

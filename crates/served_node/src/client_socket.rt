@@ -54,7 +54,10 @@ pub(crate) struct ClientSocket {
     end: usize,
     can_read: bool,
     can_write: bool,
+    /// Whether its lines are over: it ended its half, or it left.
     has_ended: bool,
+    /// Whether it asked to be closed.
+    has_left: bool,
     /// Whether octets came from it, or went to it, in this round.
     has_moved: bool,
     /// Whether octets went to it so far.
@@ -83,6 +86,7 @@ impl ClientSocket {
             can_read: true,
             can_write: true,
             has_ended: false,
+            has_left: false,
             has_moved: false,
             was_answered: false,
             active_at: now,
@@ -92,7 +96,7 @@ impl ClientSocket {
 
     /// Its socket may be ready.
     pub(crate) fn mark(&mut self, event: &Event) {
-        self.can_read = true;
+        self.can_read = !self.has_left;
         self.can_write = self.can_write || event.is_writable();
     }
 
@@ -150,7 +154,18 @@ impl ClientSocket {
         let (count, ending) = self.client.read(octets, context);
         self.start = self.start.saturating_add(count);
         self.obey(ending);
+        if ending == Ending::Leaves {
+            self.leave();
+        }
         ending == Ending::Stops
+    }
+
+    /// Nothing more of it is read, and the connection is over once all is written.
+    fn leave(&mut self) {
+        self.start = self.end;
+        self.can_read = false;
+        self.has_left = true;
+        self.has_ended = true;
     }
 
     /// Reads the next octets. False if none came.

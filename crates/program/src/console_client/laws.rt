@@ -4,8 +4,8 @@ ghost use Rattle.program.specs.ConsoleLaws.{outcomes_answer, LinesAnswer, ShownA
 
 /// What a console says of a line that always has an answer is read as it is meant. Of the outcomes, those that say that
 /// something wasn't done are refusals, and no other is, nor closes one the connection. That a line is malformed is a
-/// refusal, and closes the connection if it comes first. What `users`, `watch` and `watch frames` are answered, and
-/// `help`, is no refusal, nor is what `stop` is, which closes it.
+/// refusal, and closes the connection if it comes first. What `users`, `watch`, `watch frames` and `quit` are answered,
+/// and `help`, is no refusal, nor is what `stop` is, which closes it.
 pub fn answers_are_heard_as_they_are_meant()
     ensures outcomes { outcomes_answer }
     ensures others { LinesAnswer }

@@ -6,9 +6,9 @@ ghost use Rattle.script.specs.Asking.{asked_line};
 ghost use Rattle.served_node.specs.Answers.{IsAnswered};
 ghost use Rattle.std.specs.Option.{option_map};
 ghost use Rattle.served_node.specs.Captured.{after_order, answer_to, order_of};
-ghost use Rattle.served_node.specs.Clients.{just_came, sees_of, told_of, OnlyOutboxChanges};
+ghost use Rattle.served_node.specs.Clients.{just_came, sees_of, told_of, untold, OnlyOutboxChanges};
 ghost use Rattle.served_node.specs.Clients.{line_feed, without_return, EndsNoLine, IsOneLine};
-ghost use Rattle.served_node.specs.WholeLines.{DoesLine, DoesLineAt, IsAnsweredBy, ending_of, output_of};
+ghost use Rattle.served_node.specs.WholeLines.{DoesLine, DoesLineAt, IsAnsweredBy, IsRefusedBy, ending_of, output_of};
 ghost use Rattle.served_node.specs.declared.console_session.outbox.TheConstants.{OUTBOX_OCTETS};
 
 use super::answering::do_script_line;
@@ -18,6 +18,7 @@ use super::counting::print_counters;
 use super::help::HELP;
 use super::outbox::Outbox;
 use crate::captured_links::CapturedLinks;
+use console::{MalformedAnswer, SpacedLine};
 use exchange::Exchange;
 use script::{Grown, Line, Malformed, OpenLine, Sink, WriteFailed};
 use served_link::Counters;
@@ -29,14 +30,14 @@ use std::mem;
 /// Octets of a line of a client, at most, without the line feed that ends it: as many as in a script.
 pub const LINE_OCTETS: usize = 8300;
 
-/// The answer to a line that a client may not write.
-const MALFORMED: &[u8] = b"malformed: help lists the lines\n";
-
-/// The answer to a line that asks to be told something from now on.
+/// The answer to a line that asks to be told something from now on, and to `quit`.
 const WATCHING: &[u8] = b"handled\n";
 
 /// The answer to `stop`.
 const STOPPING: &[u8] = b"stopping\n";
+
+/// What `show version` shows.
+const VERSION: &[u8] = b"stp 0.1.0\n";
 
 /// What a client is told from when it asks for it.
 #[derive(Clone, Copy, Debug, PartialEq, Eq)]
@@ -57,6 +58,8 @@ pub enum Ending {
     /// Its connection must be closed: a line was too long or its first line malformed, or what it is told had no room.
     /// Empty lines and remarks do nothing, so none of them is its first line.
     Closes,
+    /// It asked to be closed, once all that waits for it is written. Nothing more is read of it.
+    Leaves,
     /// It asked the node to stop.
     Stops,
 }
@@ -79,6 +82,7 @@ pub struct ConsoleContext<'a> {
 /// One whose first line is malformed is closed, so a web page that posts to the console's port does nothing.
 #[derive(Drop)]
 pub struct ConsoleClient {
+    alloc: Global,
     line: OpenLine,
     is_first: bool,
     outbox: Outbox,
@@ -108,6 +112,7 @@ impl ConsoleClient {
         ensures { result ≡ just_came }
     {
         ConsoleClient {
+            alloc,
             line: OpenLine::first(),
             is_first: true,
             outbox: Outbox::new(alloc),
@@ -168,14 +173,15 @@ impl ConsoleClient {
     {
         let line = mem::replace(&mut self.line, OpenLine::first());
         let is_first = mem::replace(&mut self.is_first, false);
-        match self.do_line(without_return(line.octets()), is_first, context) {
+        let spaced = SpacedLine::of(without_return(line.octets()));
+        match self.do_line(spaced.trimmed(), is_first, context) {
             Ok(ending) => ending,
             Err(WriteFailed) => Ending::Closes,
         }
     }
 
-    /// Does a whole line, the client's first one or a later one. The error means that there is no room for its answer.
-    /// Behind an empty line or a remark the next one is still the first.
+    /// Does a whole line without needless spaces, the client's first one or a later one. The error means that there is
+    /// no room for its answer. Behind an empty line or a remark the next one is still the first.
     fn do_line(
         &mut self,
         line: &[u8],
@@ -198,16 +204,21 @@ impl ConsoleClient {
             Ok(ConsoleLine::Captured) => {
                 print_captured(context.exchange, context.captured, &mut self.outbox)?;
             }
+            Ok(ConsoleLine::Version) => self.answer(VERSION)?,
             Ok(ConsoleLine::Help) => self.answer(HELP)?,
             Ok(ConsoleLine::Users) => self.begin(News::Message)?,
             Ok(ConsoleLine::Notices) => self.begin(News::Notice)?,
             Ok(ConsoleLine::Frames) => self.begin(News::Frame)?,
+            Ok(ConsoleLine::Quit) => {
+                self.leave()?;
+                return Ok(Ending::Leaves);
+            }
             Ok(ConsoleLine::Stop) => {
                 self.answer(STOPPING)?;
                 return Ok(Ending::Stops);
             }
             Err(Malformed) => {
-                self.answer(MALFORMED)?;
+                self.refuse(line, context.points)?;
                 if is_first {
                     return Ok(Ending::Closes);
                 }
@@ -251,6 +262,24 @@ impl ConsoleClient {
     {
         let answer = order_capture(context.exchange.settings(), context.captured, is_on, name);
         self.answer(answer)
+    }
+
+    /// Answers a line that a client may not write by what is wrong with it.
+    fn refuse(&mut self, line: &[u8], points: PointFormat) -> Result<(), WriteFailed>
+        ensures { IsRefusedBy points line.now result self.old self.new }
+    {
+        let answer = MalformedAnswer::to(self.alloc, line, points);
+        self.answer(answer.as_slice())
+    }
+
+    /// The client is told no news from now on.
+    fn leave(&mut self) -> Result<(), WriteFailed>
+        ensures { IsAnsweredBy WATCHING.now result (untold self.old) self.new }
+    {
+        self.sees_messages = false;
+        self.sees_notices = false;
+        self.sees_frames = false;
+        self.answer(WATCHING)
     }
 
     fn answer(&mut self, text: &[u8]) -> Result<(), WriteFailed>

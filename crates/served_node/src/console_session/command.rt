@@ -1,6 +1,6 @@
 //! The lines of a client.
 
-ghost use Rattle.std.specs.Prelude.{◌≡◌};
+ghost use Rattle.std.specs.Prelude.{◌≡◌, ◌≤◌, length};
 ghost use Rattle.std.specs.Option.{option_map};
 ghost use Rattle.served_node.specs.Lines.{heard, heard_line, heard_of, own_line, own_line_of, is_for_clients};
 ghost use Rattle.served_node.specs.Lines.{HearsCapture, behind, capture_line, capture_of_link};
@@ -32,7 +32,9 @@ pub enum ConsoleLine<'a> {
     },
     /// `show capture`: whether each link is captured.
     Captured,
-    /// `help`: what a client may write.
+    /// `show version`: the program's version.
+    Version,
+    /// `help`, or `?`: what a client may write.
     Help,
     /// `users`: from now on the messages for this point.
     Users,
@@ -40,6 +42,8 @@ pub enum ConsoleLine<'a> {
     Notices,
     /// `watch frames`: from now on the frames.
     Frames,
+    /// `quit`: the client is closed once its answers are written.
+    Quit,
     /// `stop`: the node closes its connections and ends.
     Stop,
 }
@@ -47,7 +51,7 @@ pub enum ConsoleLine<'a> {
 /// What a line without its end asks for. What only a script can do, as `up`, `down`, `frame`, `tick`, `take` and
 /// `wants`, is malformed: here the connections and the clock do it. Points are read and shown in this format.
 pub fn parse_console_line(line: &[u8], points: PointFormat) -> Result<ConsoleLine<'_>, Malformed>
-    ensures { heard_of result ≡ heard points line.now }
+    ensures { heard_of points line.now result ≡ heard points line.now }
 {
     if let Some(own) = own_line(line) {
         return Ok(own);
@@ -63,7 +67,7 @@ pub fn parse_console_line(line: &[u8], points: PointFormat) -> Result<ConsoleLin
 fn own_line(line: &[u8]) -> Option<ConsoleLine<'_>>
     ensures { own_line_of result ≡ own_line line.now }
 {
-    if line == b"help".as_slice() {
+    if line == b"help".as_slice() || line == b"?".as_slice() {
         Some(ConsoleLine::Help)
     } else if line == b"users".as_slice() {
         Some(ConsoleLine::Users)
@@ -73,8 +77,12 @@ fn own_line(line: &[u8]) -> Option<ConsoleLine<'_>>
         Some(ConsoleLine::Frames)
     } else if line == b"show counters".as_slice() {
         Some(ConsoleLine::Counters)
+    } else if line == b"quit".as_slice() {
+        Some(ConsoleLine::Quit)
     } else if line == b"stop".as_slice() {
         Some(ConsoleLine::Stop)
+    } else if line == b"show version".as_slice() {
+        Some(ConsoleLine::Version)
     } else if line == b"show capture".as_slice() {
         Some(ConsoleLine::Captured)
     } else {
@@ -136,7 +144,8 @@ fn is_for_clients(line: &Line<'_>) -> bool
 
 /// A line without the carriage return at its end, if it has one.
 pub(crate) fn without_return(line: &[u8]) -> &[u8]
-    ensures { result.now ≡ without_return line.now }
+    ensures line { result.now ≡ without_return line.now }
+    ensures short { length result.now ≤ length line.now }
 {
     match line {
         [front @ .., CARRIAGE_RETURN] => front,

@@ -3,6 +3,7 @@
 /// Each command with a line.
 pub const HELP: &[u8] = b"\
 help                      these lines
+?                         these lines, too
 show links                each link: its state, how many messages wait, the last numbers
 show routes               each destination: the sets that messages take, and their status
 show titles               the translation rows
@@ -12,6 +13,7 @@ show flags                how often a message may have been lost, or flows gone 
 show losses               the messages named as lost, and how often that wasn't known for sure
 show reroutings           how often a flow changed its link set, but away from its destination's own
 show counters             what passed on each link since the start: counter NAME LINK VALUE
+show version              the version of the program
 show capture              each link: whether it is captured
 submit HEX                a user part submits a message: its SIO, then its SIF
 activate LINK             the link may open; activate LINK emergency: with emergency proving
@@ -26,5 +28,6 @@ watch                     from now on each notice as it falls
 watch frames              from now on each frame in words
 capture start             from now on all links are captured; capture start LINK: that one, too
 capture stop              from now on no link is captured; capture stop LINK: that one isn't
+quit                      this connection ends once its answers are written
 stop                      the node closes its connections and ends
 ";

@@ -22,7 +22,7 @@ returns-in_err-do_line-in-Whole-clause-run g c =
     let w0 = (g.W.Sink.output c.args.writer.now).written in
     let w1 = (g.W.Sink.output c.do_line.new.writer).written in
     rw e (grown-broken c.args.octet c.args.self.now c.add.new.self c.octets.result.now s c.do_line.new.exchange fault w0 w1
-    c.in-Whole.ensures.line c.add.ensures.short c.octets.ensures
+    c.in-Whole.ensures.line c.add.ensures.short c.octets.ensures.octets
     (subst (λ (l : LineSoFar). DoesLine l.number (parsed_line Plain c.octets.result.now) s (Err fault) c.do_line.new.exchange w0 w1) c.self-in-Whole.view_is
     c.in_err-do_line-in-Whole.ensures.run))
 
@@ -32,6 +32,6 @@ returns-in_ok-do_line-in-Whole-clause-run g c =
     let w0 = (g.W.Sink.output c.args.writer.now).written in
     let w1 = (g.W.Sink.output c.do_line.new.writer).written in
     rw c.begin_next.ensures (grown-done c.args.octet c.args.self.now c.add.new.self c.octets.result.now s c.do_line.new.exchange tt w0 w1
-    c.in-Whole.ensures.line c.add.ensures.short c.octets.ensures
+    c.in-Whole.ensures.line c.add.ensures.short c.octets.ensures.octets
     (subst (λ (l : LineSoFar). DoesLine l.number (parsed_line Plain c.octets.result.now) s (Ok tt) c.do_line.new.exchange w0 w1) c.self-in-Whole.view_is
     c.in_ok-do_line-in-Whole.ensures.run))

@@ -1,0 +1,78 @@
+-- Why a line is none that a client may write. Each mistake is looked for from the left, so a line has one, the first.
+use Rattle.std.specs.Prelude.{ℕ, ◌%◌, ◌*◌, nat_eq, nat_lt, Bool, true, false, not, if◌then◌else◌, List, [], ◌∷◌, length}
+use Rattle.std.specs.Prelude.{Option, None, Some}
+use Rattle.std.specs.List.{list_all}
+use Rattle.std.specs.Char.{is_ascii_hexdigit}
+use Rattle.signalling_types.specs.declared.limits.TheConstants.Limits.{FRAME_OCTETS}
+use Rattle.settings.specs.declared.point.PointFormat.{PointFormat}
+use Rattle.console.specs.Words.{words}
+use Rattle.console.specs.Commands.{command_named}
+use Rattle.console.specs.ClientWords.{first_client_word}
+use Rattle.console.specs.TitleMistakes.{title_mistake}
+use Rattle.console.specs.declared.commands.Command.{Command}
+use Rattle.console.specs.declared.commands.Command.TheVariants as script
+use Rattle.console.specs.declared.client_words.ClientWord.{ClientWord}
+use Rattle.console.specs.declared.client_words.ClientWord.TheVariants as word
+use Rattle.console.specs.declared.client_words.TheConstants.{COMMANDS, TEXTS}
+use Rattle.console.specs.declared.mistakes.Mistake.{Mistake}
+use Rattle.console.specs.declared.mistakes.Mistake.TheVariants as mistake
+
+-- commands of scripts alone: for a client the network and the clock do what they do
+abbrev pub is_of_scripts : Option Command → Bool
+is_of_scripts (Some script.Up) = true
+is_of_scripts (Some script.Down) = true
+is_of_scripts (Some script.Frame) = true
+is_of_scripts (Some script.Tick) = true
+is_of_scripts (Some script.Take) = true
+is_of_scripts (Some script.Wants) = true
+is_of_scripts (Some script.Submit) = false
+is_of_scripts (Some script.Activate) = false
+is_of_scripts (Some script.Deactivate) = false
+is_of_scripts (Some script.Release) = false
+is_of_scripts (Some script.Title) = false
+is_of_scripts (Some script.Show) = false
+is_of_scripts None = false
+
+-- behind `submit` is the text of octets
+abbrev pub octets_mistake : (digits : List ℕ) → Mistake
+octets_mistake digits =
+    if not (list_all is_ascii_hexdigit digits) then mistake.NoHexDigit
+    else if not (nat_eq (length digits % 2) 0) then mistake.OddDigits
+    else if nat_lt (2 * FRAME_OCTETS) (length digits) then mistake.TooManyOctets
+    else mistake.Form word.Submit
+
+abbrev pub submit_mistake : (behind : List (List ℕ)) → Mistake
+submit_mistake [] = mistake.Form word.Submit
+submit_mistake (digits ∷ []) = octets_mistake digits
+submit_mistake (digits ∷ second ∷ more) = mistake.Form word.Submit
+
+-- behind `show` is a name of what is shown
+abbrev pub no_text_unless : Option ClientWord → Mistake
+no_text_unless (Some name) = mistake.Form word.Show
+no_text_unless None = mistake.NoText
+
+abbrev pub show_mistake : (behind : List (List ℕ)) → Mistake
+show_mistake [] = mistake.Form word.Show
+show_mistake (name ∷ more) = no_text_unless (first_client_word name TEXTS.now)
+
+-- what is wrong behind a command
+abbrev pub mistake_behind : PointFormat → ClientWord → (behind : List (List ℕ)) → Mistake
+mistake_behind points word.Submit behind = submit_mistake behind
+mistake_behind points word.Show behind = show_mistake behind
+mistake_behind points word.Title behind = mistake.Title (title_mistake points behind)
+mistake_behind points command behind = mistake.Form command
+
+abbrev pub mistake_by : PointFormat → Option ClientWord → (behind : List (List ℕ)) → Mistake
+mistake_by points (Some command) behind = mistake_behind points command behind
+mistake_by points None behind = mistake.NoCommand
+
+-- what is wrong with a line of these words
+abbrev pub mistake_in : PointFormat → List (List ℕ) → Mistake
+mistake_in points [] = mistake.NoCommand
+mistake_in points (first ∷ behind) =
+    if is_of_scripts (command_named first) then mistake.OfScripts
+    else mistake_by points (first_client_word first COMMANDS.now) behind
+
+-- why a line is none that a client may write, if it is none
+abbrev pub mistake_of : PointFormat → List ℕ → Mistake
+mistake_of points line = mistake_in points (words line)

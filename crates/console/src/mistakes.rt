@@ -1,0 +1,134 @@
+//! Why a line is none that a client may write.
+
+ghost use Rattle.std.specs.Prelude.{◌≡◌};
+ghost use Rattle.std.specs.List.{list_all};
+ghost use Rattle.std.specs.Char.{is_ascii_hexdigit};
+ghost use Rattle.console.specs.Words.{words_left};
+ghost use Rattle.console.specs.Commands.{command_named};
+ghost use Rattle.console.specs.Mistakes.{is_of_scripts, mistake_behind, mistake_of, octets_mistake};
+ghost use Rattle.console.specs.Mistakes.{show_mistake, submit_mistake};
+
+use crate::client_words::{COMMANDS, ClientWord, TEXTS, first_client_word};
+use crate::commands::Command;
+use crate::title_mistakes::{TitleMistake, title_mistake};
+use crate::words::cut;
+use settings::{Limits, PointFormat};
+
+/// Why a line is none that a client may write.
+#[derive(Clone, Copy)]
+pub enum Mistake {
+    /// Its first word is no command.
+    NoCommand,
+    /// Its command is one of scripts alone: `up`, `down`, `frame`, `tick`, `take` or `wants`.
+    OfScripts,
+    /// Nothing has the name behind `show`.
+    NoText,
+    /// Behind `submit` a character is no hexadecimal digit.
+    NoHexDigit,
+    /// The octets behind `submit` have an odd number of digits.
+    OddDigits,
+    /// They are more than a message has.
+    TooManyOctets,
+    /// A word of a translation row is wrong or missing.
+    Title(TitleMistake),
+    /// The words behind this command aren't of its form.
+    Form(ClientWord),
+}
+
+/// Why a line is none that a client may write, if it is none. Points are read in this format.
+pub(crate) fn find_mistake(line: &[u8], points: PointFormat) -> Mistake
+    ensures { result ≡ mistake_of points line.now }
+{
+    let (word, behind) = cut(line);
+    if is_of_scripts(word) {
+        return Mistake::OfScripts;
+    }
+    match first_client_word(word, COMMANDS) {
+        Some(command) => mistake_behind(command, behind, points),
+        None => Mistake::NoCommand,
+    }
+}
+
+/// Whether a word is a command of scripts alone.
+fn is_of_scripts(word: &[u8]) -> bool
+    ensures { result ≡ is_of_scripts (command_named word.now) }
+{
+    match Command::named(word) {
+        Some(
+            Command::Up
+            | Command::Down
+            | Command::Frame
+            | Command::Tick
+            | Command::Take
+            | Command::Wants,
+        ) => true,
+        _ => false,
+    }
+}
+
+/// What is wrong behind a command.
+fn mistake_behind(command: ClientWord, behind: Option<&[u8]>, points: PointFormat) -> Mistake
+    ensures { result ≡ mistake_behind points command (words_left behind.entry) }
+{
+    match command {
+        ClientWord::Submit => submit_mistake(behind),
+        ClientWord::Show => show_mistake(behind),
+        ClientWord::Title => Mistake::Title(title_mistake(behind, points)),
+        _ => Mistake::Form(command),
+    }
+}
+
+/// What is wrong behind `show`.
+fn show_mistake(behind: Option<&[u8]>) -> Mistake
+    ensures { result ≡ show_mistake (words_left behind.entry) }
+{
+    let Some(behind) = behind else {
+        return Mistake::Form(ClientWord::Show);
+    };
+    let (name, _) = cut(behind);
+    match first_client_word(name, TEXTS) {
+        Some(_) => Mistake::Form(ClientWord::Show),
+        None => Mistake::NoText,
+    }
+}
+
+/// What is wrong behind `submit`.
+fn submit_mistake(behind: Option<&[u8]>) -> Mistake
+    ensures { result ≡ submit_mistake (words_left behind.entry) }
+{
+    let Some(behind) = behind else {
+        return Mistake::Form(ClientWord::Submit);
+    };
+    match cut(behind) {
+        (digits, None) => octets_mistake(digits),
+        (_, Some(_)) => Mistake::Form(ClientWord::Submit),
+    }
+}
+
+/// What is wrong with the octets of a message.
+fn octets_mistake(digits: &[u8]) -> Mistake
+    ensures { result ≡ octets_mistake digits.now }
+{
+    if !are_hex_digits(digits) {
+        return Mistake::NoHexDigit;
+    }
+    if digits.len() % 2 != 0 {
+        return Mistake::OddDigits;
+    }
+    if digits.len() > 2 * Limits::FRAME_OCTETS {
+        return Mistake::TooManyOctets;
+    }
+    Mistake::Form(ClientWord::Submit)
+}
+
+/// Whether all octets of a text are hexadecimal digits.
+fn are_hex_digits(text: &[u8]) -> bool
+    ensures { result ≡ list_all is_ascii_hexdigit text.now }
+{
+    for octet in text {
+        if !octet.is_ascii_hexdigit() {
+            return false;
+        }
+    }
+    true
+}
