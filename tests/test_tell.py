@@ -76,6 +76,7 @@ class Tell(LoneTest):
             for silent in ("show notices", "# nothing", ""):
                 self.assertEqual(self.told(node, silent), (0, ""))
             self.assertEqual(self.told(node, text="show flags\n\nusers\nshow flags"), (0, f"{FLAGS}handled\n{FLAGS}"))
+            self.assertEqual(self.told(node, text="  show flags\n   \n # nothing\n \r\n users \n  "), (0, f"{FLAGS}handled\n"))
             self.assertEqual(self.told(node, text=""), (0, ""))
 
     def test_mistakes(self) -> None:

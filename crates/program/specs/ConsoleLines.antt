@@ -24,11 +24,12 @@ pub record Written : Type 0 where
 abbrev pub unwritten : Written
 unwritten = record { front = []; due = 0 }
 
--- an octet is written; only the first five of a line are looked at
+-- an octet is written; only the first five of a line behind its blanks (32) are looked at
 abbrev pub with_octet : ℕ → Written → Written
 with_octet octet w =
     if nat_eq octet 10
     then record { front = []; due = counted_if (has_answer w.front) w.due }
+    else if nat_eq octet 32 && nat_eq (length w.front) 0 then w
     else record w { front = if nat_lt (length w.front) 5 then w.front ++ octet ∷ [] else w.front }
 
 abbrev pub with : List ℕ → Written → Written

@@ -48,15 +48,17 @@ impl WrittenLines {
     fn add_octet(&mut self, octet: u8)
         ensures { self.new ≡ with_octet octet self.old }
     {
+        // a console leaves out blanks before a line
+        let is_needless = octet == b' ' && self.front.is_empty();
         if octet == b'\n' {
             self.due = counted_if(has_answer(self.front.as_slice()), self.due);
             self.front.clear();
-        } else if !self.front.is_full() {
+        } else if !is_needless && !self.front.is_full() {
             self.front.push(octet);
         }
     }
 
-    /// Whether a line isn't ended.
+    /// Whether a line that has more than blanks isn't ended.
     pub(crate) fn is_within_line(&self) -> bool
         ensures { result ≡ not (nat_eq (length self.now.front) 0) }
     {
