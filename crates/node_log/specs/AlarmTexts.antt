@@ -1,0 +1,52 @@
+-- The names of alarms, and the lines of those that are raised.
+use Rattle.std.specs.Prelude.{ℕ, ◌/◌, ◌%◌, List, [], ◌++◌, codes, decimal, slice_get, slice_index_or, Option, None, Some, unwrap_or}
+use Rattle.std.specs.Option.{option_map}
+use Rattle.settings.specs.Configuration.{Configuration}
+use Rattle.settings.specs.Points.{point_text}
+use Rattle.settings.specs.declared.point.PointFormat.{PointFormat}
+use Rattle.node_log.specs.Alarms.{alarm_at}
+use Rattle.node_log.specs.declared.alarm.Alarm.{Alarm}
+use Rattle.node_log.specs.declared.alarm.Alarm.TheVariants as alarm
+
+-- the name of a link or a set, and the point of a destination; nothing if none has this number
+abbrev pub link_name_in : Configuration → ℕ → List ℕ
+link_name_in c link = unwrap_or (option_map (λ row. row.name) (slice_get c.links link)) []
+
+abbrev pub set_name_in : Configuration → ℕ → List ℕ
+set_name_in c set = unwrap_or (option_map (λ row. row.name) (slice_get c.sets set)) []
+
+abbrev pub destination_name_in : PointFormat → Configuration → ℕ → List ℕ
+destination_name_in points c destination =
+    unwrap_or (option_map (λ row. point_text points row.point) (slice_get c.destinations destination)) []
+
+-- the name of an alarm
+abbrev pub alarm_name : PointFormat → Configuration → Alarm → List ℕ
+alarm_name points c alarm.LostAny = codes "flag lost_any"
+alarm_name points c alarm.LateAny = codes "flag late_any"
+alarm_name points c alarm.Pool = codes "pool"
+alarm_name points c alarm.Capture = codes "capture"
+alarm_name points c alarm.Behind = codes "behind"
+alarm_name points c (alarm.Link link) = codes "link " ++ link_name_in c link
+alarm_name points c (alarm.Set set) = codes "set " ++ set_name_in c set
+alarm_name points c (alarm.Destination destination) =
+    codes "destination " ++ destination_name_in points c destination
+
+-- milliseconds as seconds, with three digits behind the point
+abbrev pub seconds_text : (ms : ℕ) → List ℕ
+seconds_text ms =
+    decimal (ms / 1000) ++ codes "." ++ decimal (ms / 100 % 10) ++ decimal (ms / 10 % 10) ++ decimal (ms % 10)
+
+-- the line of an alarm that is raised since then
+abbrev pub alarm_line : PointFormat → Configuration → Alarm → (since : ℕ) → List ℕ
+alarm_line points c alarm since =
+    codes "alarm " ++ alarm_name points c alarm ++ codes " since " ++ seconds_text since ++ codes "\n"
+
+-- the line of an alarm; nothing if there is none, or if it isn't raised
+abbrev pub line_since : PointFormat → Configuration → Option Alarm → (since : Option ℕ) → List ℕ
+line_since points c None since = []
+line_since points c (Some alarm) None = []
+line_since points c (Some alarm) (Some since) = alarm_line points c alarm since
+
+-- the line of the alarm at a place of the table
+abbrev pub line_at : PointFormat → Configuration → List (Option ℕ) → (place : ℕ) → List ℕ
+line_at points c table place = line_since points c (alarm_at place) (slice_index_or table place None)
