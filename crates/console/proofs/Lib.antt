@@ -1,5 +1,4 @@
 pub mod Parting
-pub mod TitleWords
-pub mod Ordered
+pub mod LastWords
 pub mod NearestWord
 pub mod Trimmed

@@ -1,10 +1,10 @@
 -- What a client is answered to a line that it may not write.
-use Rattle.std.specs.Prelude.{ℕ, Bool, if◌then◌else◌, List, [], ◌∷◌, ◌++◌, codes, Option, None, Some}
+use Rattle.std.specs.Prelude.{ℕ, Bool, if◌then◌else◌, List, [], ◌++◌, codes, Option, None, Some}
 use Rattle.settings.specs.declared.point.PointFormat.{PointFormat}
-use Rattle.console.specs.Words.{words}
+use Rattle.console.specs.Words.{words, first_word, second_word}
 use Rattle.console.specs.ClientWords.{client_word, form, is_shown, nearest}
 use Rattle.console.specs.Mistakes.{mistake_of}
-use Rattle.console.specs.TitleMistakes.{first_word, rest_of, title_sentence}
+use Rattle.console.specs.TitleMistakes.{title_sentence}
 use Rattle.console.specs.declared.client_words.ClientWord.{ClientWord}
 use Rattle.console.specs.declared.client_words.TheConstants.{COMMANDS, TEXTS}
 use Rattle.console.specs.declared.mistakes.Mistake.{Mistake}
@@ -24,7 +24,7 @@ unknown_text front such word near = (if is_shown word then front ++ word else su
 
 -- the word that isn't known, where that is the mistake
 abbrev pub word_asked : Mistake → List (List ℕ) → List ℕ
-word_asked mistake.NoText ws = first_word (rest_of ws)
+word_asked mistake.NoText ws = second_word ws
 word_asked _ ws = first_word ws
 
 -- the words that would have been known there

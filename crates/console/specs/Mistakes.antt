@@ -1,37 +1,20 @@
 -- Why a line is none that a client may write. Each mistake is looked for from the left, so a line has one, the first.
-use Rattle.std.specs.Prelude.{ℕ, ◌%◌, ◌*◌, nat_eq, nat_lt, Bool, true, false, not, if◌then◌else◌, List, [], ◌∷◌, length}
-use Rattle.std.specs.Prelude.{Option, None, Some}
+use Rattle.std.specs.Prelude.{ℕ, ◌%◌, ◌*◌, nat_eq, nat_lt, not, is_some, if◌then◌else◌, List, [], ◌∷◌, length}
+use Rattle.std.specs.Prelude.{Option, None, Some, Result, Ok, Err}
 use Rattle.std.specs.List.{list_all}
 use Rattle.std.specs.Char.{is_ascii_hexdigit}
 use Rattle.signalling_types.specs.declared.limits.TheConstants.Limits.{FRAME_OCTETS}
 use Rattle.settings.specs.declared.point.PointFormat.{PointFormat}
-use Rattle.console.specs.Words.{words}
+use Rattle.console.specs.Words.{words, first_word, rest_of}
 use Rattle.console.specs.Commands.{command_named}
 use Rattle.console.specs.ClientWords.{first_client_word}
-use Rattle.console.specs.TitleMistakes.{title_mistake}
-use Rattle.console.specs.declared.commands.Command.{Command}
-use Rattle.console.specs.declared.commands.Command.TheVariants as script
+use Rattle.console.specs.Orders.{Instruction, title_order}
 use Rattle.console.specs.declared.client_words.ClientWord.{ClientWord}
 use Rattle.console.specs.declared.client_words.ClientWord.TheVariants as word
 use Rattle.console.specs.declared.client_words.TheConstants.{COMMANDS, TEXTS}
 use Rattle.console.specs.declared.mistakes.Mistake.{Mistake}
 use Rattle.console.specs.declared.mistakes.Mistake.TheVariants as mistake
-
--- commands of scripts alone: for a client the network and the clock do what they do
-abbrev pub is_of_scripts : Option Command → Bool
-is_of_scripts (Some script.Up) = true
-is_of_scripts (Some script.Down) = true
-is_of_scripts (Some script.Frame) = true
-is_of_scripts (Some script.Tick) = true
-is_of_scripts (Some script.Take) = true
-is_of_scripts (Some script.Wants) = true
-is_of_scripts (Some script.Submit) = false
-is_of_scripts (Some script.Activate) = false
-is_of_scripts (Some script.Deactivate) = false
-is_of_scripts (Some script.Release) = false
-is_of_scripts (Some script.Title) = false
-is_of_scripts (Some script.Show) = false
-is_of_scripts None = false
+use Rattle.console.specs.declared.title_mistakes.TitleMistake.{TitleMistake}
 
 -- behind `submit` is the text of octets
 abbrev pub octets_mistake : (digits : List ℕ) → Mistake
@@ -55,23 +38,30 @@ abbrev pub show_mistake : (behind : List (List ℕ)) → Mistake
 show_mistake [] = mistake.Form word.Show
 show_mistake (name ∷ more) = no_text_unless (first_client_word name TEXTS.now)
 
+-- behind `title` is an order about a row
+abbrev pub title_mistake : Result Instruction TitleMistake → Mistake
+title_mistake (Ok order) = mistake.Form word.Title
+title_mistake (Err title) = mistake.Title title
+
 -- what is wrong behind a command
 abbrev pub mistake_behind : PointFormat → ClientWord → (behind : List (List ℕ)) → Mistake
 mistake_behind points word.Submit behind = submit_mistake behind
 mistake_behind points word.Show behind = show_mistake behind
-mistake_behind points word.Title behind = mistake.Title (title_mistake points behind)
+mistake_behind points word.Title behind = title_mistake (title_order points behind)
 mistake_behind points command behind = mistake.Form command
 
-abbrev pub mistake_by : PointFormat → Option ClientWord → (behind : List (List ℕ)) → Mistake
-mistake_by points (Some command) behind = mistake_behind points command behind
-mistake_by points None behind = mistake.NoCommand
+-- a word that is no command of a client may be one of a script: there the network and the clock are its
+abbrev pub unknown_mistake : List ℕ → Mistake
+unknown_mistake first = if is_some (command_named first) then mistake.OfScripts else mistake.NoCommand
+
+abbrev pub mistake_by : PointFormat → (first : List ℕ) → Option ClientWord → (behind : List (List ℕ)) → Mistake
+mistake_by points first (Some command) behind = mistake_behind points command behind
+mistake_by points first None behind = unknown_mistake first
 
 -- what is wrong with a line of these words
 abbrev pub mistake_in : PointFormat → List (List ℕ) → Mistake
-mistake_in points [] = mistake.NoCommand
-mistake_in points (first ∷ behind) =
-    if is_of_scripts (command_named first) then mistake.OfScripts
-    else mistake_by points (first_client_word first COMMANDS.now) behind
+mistake_in points ws =
+    mistake_by points (first_word ws) (first_client_word (first_word ws) COMMANDS.now) (rest_of ws)
 
 -- why a line is none that a client may write, if it is none
 abbrev pub mistake_of : PointFormat → List ℕ → Mistake

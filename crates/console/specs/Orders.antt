@@ -1,7 +1,8 @@
 -- Orders as an operator writes them, with points in the format that he writes.
-use Rattle.std.specs.Prelude.{ℕ, Bool, if◌then◌else◌, List, [], ◌∷◌, bytes_eq, codes}
-use Rattle.std.specs.Prelude.{Option, None, Some}
-use Rattle.std.specs.Option.{option_map, option_and_then}
+use Rattle.std.specs.Prelude.{ℕ, Bool, ◌||◌, if◌then◌else◌, List, bytes_eq, codes}
+use Rattle.std.specs.Prelude.{Option, None, Some, Result, Ok, Err}
+use Rattle.std.specs.Option.{option_map}
+use Rattle.std.specs.Result.{result_ok}
 use Rattle.settings.specs.Configuration.{Configuration, TitleEntry}
 use Rattle.sccp_codec.specs.declared.title.TitleKey.{TitleKey}
 use Rattle.settings.specs.Readings.{link_place}
@@ -10,7 +11,10 @@ use Rattle.exchange.specs.declared.event.Order.TheVariants.{Activate, Deactivate
 use Rattle.console.specs.declared.order.OrderText.{OrderText}
 use Rattle.console.specs.declared.order.OrderText.TheVariants as text
 use Rattle.settings.specs.declared.point.PointFormat.{PointFormat}
-use Rattle.console.specs.TitleWords.{name_written, row_written}
+use Rattle.console.specs.Words.{first_word, rest_of, second_word, third_word, fourth_word, behind_four}
+use Rattle.console.specs.TitleWords.{and_then, if_last, name_written, row_written}
+use Rattle.console.specs.declared.title_mistakes.TitleMistake.{TitleMistake}
+use Rattle.console.specs.declared.title_mistakes.TitleMistake.TheVariants as title
 use Rattle.console.specs.declared.title_words.RowName.{RowName}
 use Rattle.console.specs.declared.commands.Command.{Command}
 use Rattle.console.specs.declared.commands.Command.TheVariants as command
@@ -23,25 +27,31 @@ pub data Instruction : Type 0 where
   ToAddTitle : (row : TitleEntry) → Instruction
   ToRemoveTitle : (key : TitleKey) (digits : List ℕ) → Instruction
 
--- the order about the row of this name: it is removed, or added with the words after
-abbrev pub title_order_about : PointFormat → RowName → (verb : List ℕ) → List (List ℕ) → Option Instruction
-title_order_about points name verb [] =
-    if bytes_eq verb (codes "remove") then Some (ToRemoveTitle name.key name.digits.items) else None
-title_order_about points name verb (point ∷ behind) =
-    if bytes_eq verb (codes "add")
-    then option_map (λ row. ToAddTitle row) (row_written points name (point ∷ behind))
-    else None
+-- the order about the row of this name: it is removed, or added with the words behind
+abbrev pub title_order_about : PointFormat → (verb : List ℕ) → RowName → List (List ℕ) → Result Instruction TitleMistake
+title_order_about points verb name behind =
+    if bytes_eq verb (codes "remove")
+    then if_last behind title.BehindName (ToRemoveTitle name.key name.digits.items)
+    else and_then (row_written points name behind) (λ row. Ok (ToAddTitle row))
+
+abbrev pub is_verb : List ℕ → Bool
+is_verb word = bytes_eq word (codes "remove") || bytes_eq word (codes "add")
+
+abbrev pub title_order_by : PointFormat → (verb : List ℕ) → List (List ℕ) → Result Instruction TitleMistake
+title_order_by points verb ws =
+    if is_verb verb
+    then and_then (name_written (first_word ws) (second_word ws) (third_word ws) (fourth_word ws)) (λ name.
+    title_order_about points verb name (behind_four ws))
+    else Err title.Verb
 
 -- the order that the words after `title` give: `add T P N DIGITS` with the words of the rest of the row, or
--- `remove T P N DIGITS`
-abbrev pub title_order : PointFormat → List (List ℕ) → Option Instruction
-title_order points (verb ∷ translation ∷ plan ∷ nature ∷ digits ∷ behind) =
-    option_and_then (λ name. title_order_about points name verb behind) (name_written translation plan nature digits)
-title_order points _ = None
+-- `remove T P N DIGITS`; or else the first mistake in them, from the left
+abbrev pub title_order : PointFormat → List (List ℕ) → Result Instruction TitleMistake
+title_order points ws = title_order_by points (first_word ws) (rest_of ws)
 
 -- the order that a command gives by more words than one
 abbrev pub instructed_by : PointFormat → Command → List (List ℕ) → Option Instruction
-instructed_by points command.Title behind = title_order points behind
+instructed_by points command.Title behind = result_ok (title_order points behind)
 instructed_by points _ behind = None
 
 abbrev pub instruction : OrderText → Instruction
@@ -50,6 +60,10 @@ instruction (text.Deactivate link) = ToDeactivate link.now
 instruction (text.Release link) = ToRelease link.now
 instruction (text.AddTitle row) = ToAddTitle row
 instruction (text.RemoveTitle key digits) = ToRemoveTitle key digits.items
+
+abbrev pub instruction_or : Result OrderText TitleMistake → Result Instruction TitleMistake
+instruction_or (Ok order) = Ok (instruction order)
+instruction_or (Err mistake) = Err mistake
 
 abbrev pub instruction_of : Option OrderText → Option Instruction
 instruction_of None = None

@@ -2,14 +2,13 @@
 
 ghost use Rattle.std.specs.Prelude.{◌≡◌, ◌+◌, ◌≤◌, ◌++◌, Bool, length};
 ghost use Rattle.console.specs.Words.{words};
-ghost use Rattle.console.specs.TitleMistakes.{first_word, rest_of};
 ghost use Rattle.console.specs.Malformed.{answer_text, known_to, malformed_answer, mistake_text, near_text};
 ghost use Rattle.console.specs.Malformed.{near_word, unknown_text, word_asked};
 
 use crate::client_words::{COMMANDS, ClientWord, TEXTS};
 use crate::mistakes::{Mistake, find_mistake};
 use crate::nearest_word::{is_shown, nearest};
-use crate::title_mistakes::first_word;
+use crate::words::next_word;
 use arrayvec::ArrayVec;
 use settings::PointFormat;
 use std::alloc::Global;
@@ -41,7 +40,7 @@ impl MalformedAnswer {
         let mistake = find_mistake(line, points);
         let word = word_asked(mistake, line);
         let near = near_word(alloc, word, known_to(mistake));
-        MalformedAnswer::of(mistake, word, near.word)
+        MalformedAnswer::of(mistake, word, near)
     }
 
     /// The answer about this mistake, with the word that isn't known, where that is the mistake, and the nearest one.
@@ -93,8 +92,7 @@ impl MalformedAnswer {
         }
     }
 
-    /// Appends that a word isn't known, and the nearest one. It is shown in front of a text that stands for it if a
-    /// terminal prints it.
+    /// Appends that a word isn't known, and the nearest one. A word that a terminal doesn't print isn't shown.
     fn push_unknown(&mut self, front: &[u8], such: &[u8], word: &[u8], near: Option<ClientWord>)
         requires front { length front.now ≤ 32 }
         requires such { length such.now ≤ 64 }
@@ -126,43 +124,15 @@ impl MalformedAnswer {
     }
 }
 
-/// The nearest word, if one is near, and whether memory was refused for that.
-#[derive(Clone, Copy)]
-struct NearWord {
-    word: Option<ClientWord>,
-    lacks_memory: bool,
-}
-
-fn near_word(alloc: Global, word: &[u8], known: &[ClientWord]) -> NearWord
-    ensures { result.word ≡ near_word result.lacks_memory word.now known.now }
-{
-    match nearest(alloc, word, known) {
-        Ok(word) => NearWord {
-            word,
-            lacks_memory: false,
-        },
-        Err(_) => NearWord {
-            word: None,
-            lacks_memory: true,
-        },
-    }
-}
-
 /// The word that isn't known, where that is the mistake.
 fn word_asked(mistake: Mistake, line: &[u8]) -> &[u8]
     ensures { result.now ≡ word_asked mistake (words line.now) }
 {
+    let (first, rest) = next_word(Some(line));
     match mistake {
-        Mistake::NoText => second_word(line),
-        _ => first_word(Some(line)).0,
+        Mistake::NoText => next_word(rest).0,
+        _ => first,
     }
-}
-
-fn second_word(line: &[u8]) -> &[u8]
-    ensures { result.now ≡ first_word (rest_of (words line.now)) }
-{
-    let (_, rest) = first_word(Some(line));
-    first_word(rest).0
 }
 
 /// The words that would have been known there.
@@ -173,5 +143,15 @@ fn known_to(mistake: Mistake) -> &'static [ClientWord]
         Mistake::NoCommand => COMMANDS,
         Mistake::NoText => TEXTS,
         _ => &[],
+    }
+}
+
+/// The one of these words that a word is nearest to, if one is near, and if there is memory to look for it.
+fn near_word(alloc: Global, word: &[u8], known: &[ClientWord]) -> Option<ClientWord>
+    ensures { (lacks_memory : Bool) × (result ≡ near_word lacks_memory word.now known.now) }
+{
+    match nearest(alloc, word, known) {
+        Ok(near) => near,
+        Err(_) => None,
     }
 }

@@ -4,14 +4,15 @@ ghost use Rattle.std.specs.Prelude.{◌≡◌};
 ghost use Rattle.std.specs.List.{list_all};
 ghost use Rattle.std.specs.Char.{is_ascii_hexdigit};
 ghost use Rattle.console.specs.Words.{words_left};
-ghost use Rattle.console.specs.Commands.{command_named};
-ghost use Rattle.console.specs.Mistakes.{is_of_scripts, mistake_behind, mistake_of, octets_mistake};
-ghost use Rattle.console.specs.Mistakes.{show_mistake, submit_mistake};
+ghost use Rattle.console.specs.Orders.{title_order};
+ghost use Rattle.console.specs.Mistakes.{mistake_behind, mistake_of, octets_mistake, show_mistake, submit_mistake};
+ghost use Rattle.console.specs.Mistakes.{title_mistake};
 
 use crate::client_words::{COMMANDS, ClientWord, TEXTS, first_client_word};
 use crate::commands::Command;
-use crate::title_mistakes::{TitleMistake, title_mistake};
-use crate::words::cut;
+use crate::order::title_order;
+use crate::title_mistakes::TitleMistake;
+use crate::words::{cut, next_word};
 use settings::{Limits, PointFormat};
 
 /// Why a line is none that a client may write.
@@ -39,30 +40,11 @@ pub enum Mistake {
 pub(crate) fn find_mistake(line: &[u8], points: PointFormat) -> Mistake
     ensures { result ≡ mistake_of points line.now }
 {
-    let (word, behind) = cut(line);
-    if is_of_scripts(word) {
-        return Mistake::OfScripts;
-    }
+    let (word, behind) = next_word(Some(line));
     match first_client_word(word, COMMANDS) {
         Some(command) => mistake_behind(command, behind, points),
+        None if Command::named(word).is_some() => Mistake::OfScripts,
         None => Mistake::NoCommand,
-    }
-}
-
-/// Whether a word is a command of scripts alone.
-fn is_of_scripts(word: &[u8]) -> bool
-    ensures { result ≡ is_of_scripts (command_named word.now) }
-{
-    match Command::named(word) {
-        Some(
-            Command::Up
-            | Command::Down
-            | Command::Frame
-            | Command::Tick
-            | Command::Take
-            | Command::Wants,
-        ) => true,
-        _ => false,
     }
 }
 
@@ -73,8 +55,18 @@ fn mistake_behind(command: ClientWord, behind: Option<&[u8]>, points: PointForma
     match command {
         ClientWord::Submit => submit_mistake(behind),
         ClientWord::Show => show_mistake(behind),
-        ClientWord::Title => Mistake::Title(title_mistake(behind, points)),
+        ClientWord::Title => title_mistake(behind, points),
         _ => Mistake::Form(command),
+    }
+}
+
+/// What is wrong behind `title`.
+fn title_mistake(behind: Option<&[u8]>, points: PointFormat) -> Mistake
+    ensures { result ≡ title_mistake (title_order points (words_left behind.entry)) }
+{
+    match title_order(behind, points) {
+        Ok(_) => Mistake::Form(ClientWord::Title),
+        Err(mistake) => Mistake::Title(mistake),
     }
 }
 
@@ -93,6 +85,7 @@ fn show_mistake(behind: Option<&[u8]>) -> Mistake
 }
 
 /// What is wrong behind `submit`.
+#[tactic(auto, using(crate::proofs::LastWords::last_steps))]
 fn submit_mistake(behind: Option<&[u8]>) -> Mistake
     ensures { result ≡ submit_mistake (words_left behind.entry) }
 {

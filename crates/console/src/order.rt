@@ -1,12 +1,17 @@
 //! Orders as an operator writes them.
 
 ghost use Rattle.std.specs.Prelude.{◌≡◌};
-ghost use Rattle.console.specs.Words.{words};
-ghost use Rattle.console.specs.Orders.{instructed_by, instruction, instruction_of, order_named, title_order};
+ghost use Rattle.console.specs.Words.{words, words_left};
+ghost use Rattle.console.specs.TitleWords.{if_last};
+ghost use Rattle.console.specs.Orders.{ToRemoveTitle, instructed_by, instruction, instruction_of, instruction_or};
+ghost use Rattle.console.specs.Orders.{is_verb, order_named, title_order, title_order_about};
+ghost use Rattle.settings.specs.TitleRanges.{HasTitleRanges};
+ghost use Rattle.console.specs.declared.title_mistakes.TitleMistake.TheVariants.{BehindName};
 
 use crate::commands::Command;
-use crate::title_words::{read_name, read_row};
-use crate::words::cut;
+use crate::title_mistakes::TitleMistake;
+use crate::title_words::{RowName, read_name, read_row};
+use crate::words::next_word;
 use exchange::{Order, TitleDigits, TitleKey};
 use settings::{PointFormat, Settings, TitleRow};
 
@@ -51,32 +56,69 @@ pub fn order_by(command: Command, behind: &[u8], points: PointFormat) -> Option<
     ensures { instruction_of result ≡ instructed_by points command (words behind.now) }
 {
     match command {
-        Command::Title => title_order(behind, points),
+        Command::Title => match title_order(Some(behind), points) {
+            Ok(order) => Some(order),
+            Err(_) => None,
+        },
         _ => None,
     }
 }
 
-/// The order that the words after `title` give.
-#[tactic(auto, using(crate::proofs::Ordered::about_some))]
-fn title_order(text: &[u8], points: PointFormat) -> Option<OrderText<'_>>
-    ensures { instruction_of result ≡ title_order points (words text.now) }
+/// The order that the words after `title` give. The error is the first mistake in them.
+pub(crate) fn title_order(
+    text: Option<&[u8]>,
+    points: PointFormat,
+) -> Result<OrderText<'_>, TitleMistake>
+    ensures { instruction_or result ≡ title_order points (words_left text.entry) }
 {
-    let (verb, rest) = cut(text);
-    let (translation, rest) = cut(rest?);
-    let (plan, rest) = cut(rest?);
-    let (nature, rest) = cut(rest?);
-    let (digits, rest) = cut(rest?);
+    let (verb, rest) = next_word(text);
+    if !is_verb(verb) {
+        return Err(TitleMistake::Verb);
+    }
+    let (translation, rest) = next_word(rest);
+    let (plan, rest) = next_word(rest);
+    let (nature, rest) = next_word(rest);
+    let (digits, rest) = next_word(rest);
     let name = read_name(translation, plan, nature, digits)?;
-    match rest {
-        None if verb == b"remove".as_slice() => Some(OrderText::RemoveTitle {
+    order_about(verb, name, rest, points)
+}
+
+fn is_verb(word: &[u8]) -> bool
+    ensures { result ≡ is_verb word.now }
+{
+    word == b"remove".as_slice() || word == b"add".as_slice()
+}
+
+/// The order about the row of this name: it is removed, or added with the words behind. The error is the first mistake
+/// in them.
+fn order_about<'a>(
+    verb: &[u8],
+    name: RowName,
+    text: Option<&'a [u8]>,
+    points: PointFormat,
+) -> Result<OrderText<'a>, TitleMistake>
+    requires { HasTitleRanges name.key.plan name.key.nature name.digits.items }
+    ensures { instruction_or result ≡ title_order_about points verb.now name (words_left text.entry) }
+{
+    if verb == b"remove".as_slice() {
+        return removal(name, text);
+    }
+    let row = read_row(&name, text, points)?;
+    Ok(OrderText::AddTitle { row })
+}
+
+/// The order that removes the row of this name, if no words are behind it.
+#[tactic(auto, using(crate::proofs::LastWords::last_steps))]
+fn removal(name: RowName, text: Option<&[u8]>) -> Result<OrderText<'_>, TitleMistake>
+    ensures { instruction_or result
+        ≡ if_last (words_left text.entry) BehindName (ToRemoveTitle name.key name.digits.items) }
+{
+    match text {
+        None => Ok(OrderText::RemoveTitle {
             key: name.key,
             digits: name.digits,
         }),
-        Some(rest) if verb == b"add".as_slice() => {
-            let row = read_row(&name, rest, points)?;
-            Some(OrderText::AddTitle { row })
-        }
-        _ => None,
+        Some(_) => Err(TitleMistake::BehindName),
     }
 }
 

@@ -1,7 +1,7 @@
 //! The words of a line.
 
 ghost use Rattle.std.specs.Prelude.{◌≡◌, ◌∷◌};
-ghost use Rattle.console.specs.Words.{words, words_left};
+ghost use Rattle.console.specs.Words.{words, words_left, first_word, rest_of};
 
 /// What separates the words of a line.
 const SPACE: u8 = b' ';
@@ -17,4 +17,15 @@ pub fn cut(text: &[u8]) -> (&[u8], Option<&[u8]>)
         }
     }
     (text, None)
+}
+
+/// The next word, which is empty if there is none, and what is behind it.
+pub(crate) fn next_word(text: Option<&[u8]>) -> (&[u8], Option<&[u8]>)
+    ensures word { result.0.now ≡ first_word (words_left text.entry) }
+    ensures rest { words_left result.1 ≡ rest_of (words_left text.entry) }
+{
+    match text {
+        Some(text) => cut(text),
+        None => (b"".as_slice(), None),
+    }
 }

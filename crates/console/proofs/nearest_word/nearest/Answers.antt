@@ -1,4 +1,4 @@
-use Rattle.std.proofs.Common.{◌≡◌, sym}
+use Rattle.std.proofs.Common.{sym}
 use Rattle.console.proofs.NearestWord.{shown-text}
 use Rattle.console.proofs.nearest_word.nearest.Goals as goal
 
