@@ -12,7 +12,7 @@ KEPT_NOTICES = 64
 LOST = 100
 LINE_OCTETS = 8300
 QUESTIONS = 6000
-HELP_LINES = 28
+HELP_LINES = 29
 ROUTE = f"route {FAR} to-{FAR} allowed"
 FLAGS = ["flag lost_any 0", "flag late_any 0"]
 

@@ -201,4 +201,5 @@ shown = record {
   datagrams = λ name value. refl;
   version = (codes "stp 0.1.0", refl, refl);
   captured = captured-lines;
+  alarms = λ points c alarm since. refl;
 }

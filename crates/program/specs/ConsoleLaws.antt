@@ -11,16 +11,17 @@ use Rattle.sccp_relay.specs.declared.subsystem.Subsystem.{Subsystem}
 use Rattle.exchange.specs.declared.view.LinkView.{LinkView}
 use Rattle.exchange.specs.declared.view.RouteView.{RouteView}
 use Rattle.exchange.specs.Calls.{Kept}
-use Rattle.served_link.specs.Counting.{NodeCounters}
 use Rattle.served_link.specs.declared.counter.Counter.{Counter}
 use Rattle.served_link.specs.Lines.{counter_line, datagram_line}
 use Rattle.console.specs.Texts.{link_text, route_text, title_text, subsystem_text, notice_text, flag_line, loss_line, rerouting_line}
 use Rattle.script.specs.Texts.{outcome_line}
+use Rattle.node_log.specs.AlarmTexts.{alarm_line}
+use Rattle.node_log.specs.declared.alarm.Alarm.{Alarm}
 use Rattle.served_node.specs.Captured.{Captured, captured_line}
 use Rattle.served_node.specs.Clients.{ClientState, told_of, untold}
 use Rattle.served_node.specs.Lines.{Heard as Line, HearsUsers, HearsNotices, HearsFrames, HearsHelp, HearsQuit, HearsStop}
 use Rattle.served_node.specs.Lines.{HearsCapture, HearsNoLine}
-use Rattle.served_node.specs.WholeLines.{DoesHeard, answered, unanswered}
+use Rattle.served_node.specs.WholeLines.{DoesHeard, Shown, answered, unanswered}
 use Rattle.served_node.specs.declared.console_session.client.Ending.{Ending}
 use Rattle.served_node.specs.declared.console_session.client.TheConstants.{VERSION}
 use Rattle.served_node.specs.declared.console_session.client.News.TheVariants as news
@@ -60,8 +61,8 @@ IsSaid IsText old new = (new ≡ unanswered old) ⊎ ((text : List ℕ) × IsTex
 
 abbrev pub Says : Line → (ClientState → ClientState) → (IsText : List ℕ → Type 0) → Type 0
 Says line begun IsText =
-    (is_first : Bool) (counters : NodeCounters) (captured captured_after : Captured) (ending : Ending) (s after : Kept)
-    (old new : ClientState) → DoesHeard line is_first counters captured captured_after ending s after old new
+    (is_first : Bool) (shown : Shown) (captured captured_after : Captured) (ending : Ending) (s after : Kept)
+    (old new : ClientState) → DoesHeard line is_first shown captured captured_after ending s after old new
     → IsSaid IsText (begun old) new
 
 -- A line says that another one is malformed: something wasn't done, and the console closes the connection if this is the
@@ -113,3 +114,5 @@ pub record ShownAnswersNone : Type 0 where
   pub datagrams : (name : List ℕ) (value : ℕ) → IsNone (datagram_line name value)
   pub version : (line : List ℕ) × (VERSION.now ≡ line ++ 10 ∷ []) × IsNone line
   pub captured : (name : List ℕ) (is_on : Bool) → IsNone (captured_line name is_on)
+  pub alarms : (points : PointFormat) (c : Configuration) (alarm : Alarm) (since : ℕ)
+      → IsNone (alarm_line points c alarm since)

@@ -1,3 +1,4 @@
+pub mod Alarmed
 pub mod Answers
 pub mod Clients
 pub mod Counters
@@ -10,3 +11,4 @@ pub mod Naming
 pub mod Observers
 pub mod Progress
 pub mod WholeLines
+pub mod Watching

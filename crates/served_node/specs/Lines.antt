@@ -18,6 +18,7 @@ pub data Heard : Type 0 where
   HearsCapture : (is_on : Bool) → (name : Option (List ℕ)) → Heard
   HearsCaptured : Heard
   HearsVersion : Heard
+  HearsAlarms : Heard
   HearsHelp : Heard
   HearsUsers : Heard
   HearsNotices : Heard
@@ -62,6 +63,7 @@ own_line text =
     else if bytes_eq text (codes "stop") then Some HearsStop
     else if bytes_eq text (codes "show version") then Some HearsVersion
     else if bytes_eq text (codes "show capture") then Some HearsCaptured
+    else if bytes_eq text (codes "show alarms") then Some HearsAlarms
     else capture_line text
 
 -- a client submits messages, gives orders and is shown texts; frames, associations and ticks come from the network and
@@ -99,6 +101,7 @@ heard_line line.Counters = HearsCounters
 heard_line (line.Capture is_on name) = HearsCapture is_on (option_map (λ name. name.now) name)
 heard_line line.Captured = HearsCaptured
 heard_line line.Version = HearsVersion
+heard_line line.Alarms = HearsAlarms
 heard_line line.Help = HearsHelp
 heard_line line.Users = HearsUsers
 heard_line line.Notices = HearsNotices

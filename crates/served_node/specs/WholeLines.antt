@@ -1,12 +1,13 @@
 -- What a whole line of a client does.
-use Rattle.std.specs.Prelude.{◌≡◌, ℕ, ◌⊎◌, Bool, true, false, List, ◌++◌, take, Some, Result, Ok, Err}
+use Rattle.std.specs.Prelude.{◌≡◌, ℕ, ◌⊎◌, Bool, true, false, List, ◌++◌, take, Option, Some, Result, Ok, Err}
 use Rattle.console.specs.Malformed.{malformed_answer}
 use Rattle.console.specs.Trimming.{trimmed}
 use Rattle.exchange.specs.Calls.{Kept}
 use Rattle.script.specs.Asking.{Asked}
 use Rattle.script.specs.Streams.{Output, counted}
 use Rattle.script.specs.declared.sink.WriteFailed.{WriteFailed}
-use Rattle.served_node.specs.Lines.{Heard, heard, HearsNothing, HearsScript, HearsCounters, HearsCapture, HearsCaptured, HearsVersion, HearsHelp, HearsUsers, HearsNotices, HearsFrames, HearsQuit, HearsStop, HearsNoLine}
+use Rattle.served_node.specs.Lines.{Heard, heard, HearsNothing, HearsScript, HearsCounters, HearsCapture, HearsCaptured, HearsVersion, HearsAlarms, HearsHelp, HearsUsers, HearsNotices, HearsFrames, HearsQuit, HearsStop, HearsNoLine}
+use Rattle.served_node.specs.Alarmed.{alarms_text}
 use Rattle.served_node.specs.Answers.{Waiting, IsAnswered}
 use Rattle.served_node.specs.Clients.{ClientState, begun, OnlyOutboxChanges, told_of, untold}
 use Rattle.served_node.specs.Counters.{counters_text}
@@ -80,48 +81,61 @@ IsRefused points line is_first Closes old new =
 IsRefused points line is_first Leaves old new = ⊥
 IsRefused points line is_first Stops old new = ⊥
 
+-- what a client may be shown beside the node, with points in a format: the counters, and since when each alarm is
+-- raised
+pub record Shown : Type 0 where
+  pub points : PointFormat
+  pub counters : NodeCounters
+  pub alarms : List (Option ℕ)
+
+abbrev pub shown : PointFormat → NodeCounters → List (Option ℕ) → Shown
+shown points counters alarms = record { points = points; counters = counters; alarms = alarms }
+
 -- What a line does to the node, to what is captured and to its client, and what becomes of the client. Only a line of
 -- a script changes the node, only an order about the capture what is captured, and only `stop` asks the node to stop.
 -- A line that does nothing isn't the client's first one: if none was before it, the next one is.
 abbrev pub DoesHeard :
-    Heard → (is_first : Bool) → NodeCounters → (captured captured_after : Captured) → Ending → (s after : Kept)
+    Heard → (is_first : Bool) → Shown → (captured captured_after : Captured) → Ending → (s after : Kept)
     → (old new : ClientState) → Type 0
-DoesHeard HearsNothing is_first counters captured captured_after ending s after old new =
+DoesHeard HearsNothing is_first shown captured captured_after ending s after old new =
     (ending ≡ Stays) × (after ≡ s) × (captured_after ≡ captured) × (new ≡ record old { is_first = is_first })
-DoesHeard (HearsScript asked) is_first counters captured captured_after ending s after old new =
+DoesHeard (HearsScript asked) is_first shown captured captured_after ending s after old new =
     IsDone asked ending s after old.outbox new.outbox × (captured_after ≡ captured) × OnlyOutboxChanges old new
-DoesHeard HearsCounters is_first counters captured captured_after ending s after old new =
-    (after ≡ s) × (captured_after ≡ captured) × IsShown (counters_text s counters) ending old new
-DoesHeard (HearsCapture is_on name) is_first counters captured captured_after ending s after old new =
+DoesHeard HearsCounters is_first shown captured captured_after ending s after old new =
+    (after ≡ s) × (captured_after ≡ captured) × IsShown (counters_text s shown.counters) ending old new
+DoesHeard (HearsCapture is_on name) is_first shown captured captured_after ending s after old new =
     (after ≡ s) × (captured_after ≡ after_order (order_of s.settings is_on name) captured)
     × IsTold (answer_to (order_of s.settings is_on name) captured) Stays ending old new
-DoesHeard HearsCaptured is_first counters captured captured_after ending s after old new =
+DoesHeard HearsCaptured is_first shown captured captured_after ending s after old new =
     (after ≡ s) × (captured_after ≡ captured) × IsShown (captured_text s captured) ending old new
-DoesHeard HearsVersion is_first counters captured captured_after ending s after old new =
+DoesHeard HearsVersion is_first shown captured captured_after ending s after old new =
     (after ≡ s) × (captured_after ≡ captured) × IsTold VERSION.now Stays ending old new
-DoesHeard HearsHelp is_first counters captured captured_after ending s after old new =
+DoesHeard HearsAlarms is_first shown captured captured_after ending s after old new =
+    (after ≡ s) × (captured_after ≡ captured)
+    × IsShown (alarms_text shown.points s.settings shown.alarms) ending old new
+DoesHeard HearsHelp is_first shown captured captured_after ending s after old new =
     (after ≡ s) × (captured_after ≡ captured) × IsTold HELP.now Stays ending old new
-DoesHeard HearsUsers is_first counters captured captured_after ending s after old new =
+DoesHeard HearsUsers is_first shown captured captured_after ending s after old new =
     (after ≡ s) × (captured_after ≡ captured) × IsTold WATCHING.now Stays ending (told_of old Message) new
-DoesHeard HearsNotices is_first counters captured captured_after ending s after old new =
+DoesHeard HearsNotices is_first shown captured captured_after ending s after old new =
     (after ≡ s) × (captured_after ≡ captured) × IsTold WATCHING.now Stays ending (told_of old Notice) new
-DoesHeard HearsFrames is_first counters captured captured_after ending s after old new =
+DoesHeard HearsFrames is_first shown captured captured_after ending s after old new =
     (after ≡ s) × (captured_after ≡ captured) × IsTold WATCHING.now Stays ending (told_of old Frame) new
-DoesHeard HearsQuit is_first counters captured captured_after ending s after old new =
+DoesHeard HearsQuit is_first shown captured captured_after ending s after old new =
     (after ≡ s) × (captured_after ≡ captured) × IsTold WATCHING.now Leaves ending (untold old) new
-DoesHeard HearsStop is_first counters captured captured_after ending s after old new =
+DoesHeard HearsStop is_first shown captured captured_after ending s after old new =
     (after ≡ s) × (captured_after ≡ captured) × IsTold STOPPING.now Stops ending old new
-DoesHeard (HearsNoLine points line) is_first counters captured captured_after ending s after old new =
+DoesHeard (HearsNoLine points line) is_first shown captured captured_after ending s after old new =
     (after ≡ s) × (captured_after ≡ captured) × IsRefused points line is_first ending old new
 
 -- what a line of a client without needless blanks does, which is its first or isn't, with points in this format
-abbrev pub DoesLineAt : PointFormat → (is_first : Bool) → List ℕ → NodeCounters → (captured captured_after : Captured)
+abbrev pub DoesLineAt : PointFormat → (is_first : Bool) → List ℕ → Shown → (captured captured_after : Captured)
     → Ending → (s after : Kept) → (old new : ClientState) → Type 0
-DoesLineAt points is_first line counters captured captured_after ending s after old new =
-    DoesHeard (heard points line) is_first counters captured captured_after ending s after old new
+DoesLineAt points is_first line shown captured captured_after ending s after old new =
+    DoesHeard (heard points line) is_first shown captured captured_after ending s after old new
 
 -- what a line of a client does. No line after it is the client's first, unless it did nothing
-abbrev pub DoesLine : PointFormat → List ℕ → NodeCounters → (captured captured_after : Captured) → Ending
+abbrev pub DoesLine : PointFormat → List ℕ → Shown → (captured captured_after : Captured) → Ending
     → (s after : Kept) → (old new : ClientState) → Type 0
-DoesLine points line counters captured captured_after ending s after old new =
-    DoesLineAt points old.is_first (trimmed line) counters captured captured_after ending s after (begun old) new
+DoesLine points line shown captured captured_after ending s after old new =
+    DoesLineAt points old.is_first (trimmed line) shown captured captured_after ending s after (begun old) new

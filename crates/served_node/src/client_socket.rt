@@ -3,8 +3,11 @@
 use crate::console_listener::CallerName;
 use crate::console_session::{ConsoleClient, ConsoleContext, Ending, News};
 use crate::console_stream::ConsoleStream;
+use crate::log::Log;
+use crate::order_line::{OrderLine, first_line, order_in};
 use crate::socket::Progress;
 use mio::event::Event;
+use script::Sink;
 use std::alloc::Global;
 use std::time::Duration;
 
@@ -130,8 +133,12 @@ impl ClientSocket {
         }
     }
 
-    /// Reads what came, and does some of its lines. True if one of them stops the node.
-    pub(crate) fn read(&mut self, context: &mut ConsoleContext<'_>) -> bool {
+    /// Reads what came, and does some of its lines. The log is told of orders. True if one of them stops the node.
+    pub(crate) fn read<W: Sink>(
+        &mut self,
+        context: &mut ConsoleContext<'_>,
+        log: &mut Log<'_, W>,
+    ) -> bool {
         for _ in 0..LINES {
             if self.is_closing || self.has_much() {
                 return false;
@@ -139,7 +146,7 @@ impl ClientSocket {
             if self.start >= self.end && !self.fill() {
                 return false;
             }
-            if self.do_first(context) {
+            if self.do_first(context, log) {
                 return true;
             }
         }
@@ -147,15 +154,24 @@ impl ClientSocket {
     }
 
     /// Does the first line of what was read. True if it stops the node.
-    fn do_first(&mut self, context: &mut ConsoleContext<'_>) -> bool {
+    fn do_first<W: Sink>(
+        &mut self,
+        context: &mut ConsoleContext<'_>,
+        log: &mut Log<'_, W>,
+    ) -> bool {
         let Some(octets) = self.piece.get(self.start..self.end) else {
             return false;
         };
+        let order = order_in(self.client.line(), octets);
+        let waiting = self.client.pending().len();
         let (count, ending) = self.client.read(octets, context);
         self.start = self.start.saturating_add(count);
         self.obey(ending);
         if ending == Ending::Leaves {
             self.leave();
+        }
+        if let Some(order) = order {
+            self.tell_order(&order, waiting, log);
         }
         ending == Ending::Stops
     }
@@ -166,6 +182,13 @@ impl ClientSocket {
         self.can_read = false;
         self.has_left = true;
         self.has_ended = true;
+    }
+
+    /// Tells the log of an order, and of its answer, which is the first line behind so many octets that wait.
+    fn tell_order<W: Sink>(&self, order: &OrderLine, waiting: usize, log: &mut Log<'_, W>) {
+        let (name, order) = (self.name, order.as_str());
+        let answer = first_line(self.client.pending(), waiting);
+        log.tell(&format_args!("order {name} {order}: {answer}"));
     }
 
     /// Reads the next octets. False if none came.

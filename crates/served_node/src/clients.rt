@@ -160,12 +160,16 @@ impl ConsoleClients {
         }
     }
 
-    /// Does the lines that clients wrote. True if one of them stops the node.
-    pub(crate) fn read(&mut self, context: &mut ConsoleContext<'_>) -> bool {
+    /// Does the lines that clients wrote, and tells the log of orders. True if one of them stops the node.
+    pub(crate) fn read<W: Sink>(
+        &mut self,
+        context: &mut ConsoleContext<'_>,
+        log: &mut Log<'_, W>,
+    ) -> bool {
         let mut stops = false;
         for place in self.places.iter_mut() {
             if let Some(socket) = place {
-                stops = socket.read(context) || stops;
+                stops = socket.read(context, log) || stops;
             }
         }
         self.asked = self.asked_now();

@@ -1,6 +1,7 @@
 //! A client of the console without its socket, octet by octet: the lines that it writes, and what it is answered and
 //! told.
 
+mod alarming;
 mod answering;
 mod capturing;
 mod client;

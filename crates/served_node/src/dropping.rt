@@ -1,10 +1,12 @@
 //! A log that holds nobody up: lines for which there is no room are dropped, and counted.
 
-use crate::line_kind::{kind_of, time_of};
+use crate::journal::is_journal;
+use crate::line_kind::{kind_of, time_of, without_time};
 use crate::line_limits::LineLimits;
 use crate::log_output::{LogOutput, SlowTerminal};
 use crate::socket::Progress;
 use arrayvec::ArrayString;
+use node_log::Severity;
 use script::{Sink, WriteFailed};
 use std::alloc::AllocError;
 use std::fmt::Write;
@@ -12,6 +14,9 @@ use std::time::Duration;
 
 /// Octets of lines that wait to be written, at most.
 const WAITING_OCTETS: usize = 65_536;
+
+/// Octets of the priority of a line.
+const PRIORITY_OCTETS: usize = 3;
 
 /// Writes in which the last lines go out, at most.
 const LAST_WRITES: usize = 32;
@@ -49,6 +54,8 @@ impl From<SlowTerminal> for LogFault {
 pub struct DroppingLog<'a, W> {
     output: LogOutput<'a, W>,
     waiting: Vec<u8>,
+    /// Whether lines begin with their priority.
+    has_priority: bool,
     limits: LineLimits,
     second: u64,
     missed: u64,
@@ -60,6 +67,7 @@ impl<W> Drop for DroppingLog<'_, W> {
         let DroppingLog {
             output: _,
             waiting: _,
+            has_priority: _,
             limits: _,
             second: _,
             missed: _,
@@ -68,13 +76,15 @@ impl<W> Drop for DroppingLog<'_, W> {
 }
 
 impl<'a, W: Sink> DroppingLog<'a, W> {
-    /// The log over standard output, to which this sink writes. Nothing waits yet, and nothing was dropped.
+    /// The log over standard output, to which this sink writes. Nothing waits yet, and nothing was dropped. If systemd
+    /// says that standard output leads to its journal, lines begin with their priority.
     pub fn open(rt: &HostRuntime, sink: &'a mut W) -> Result<DroppingLog<'a, W>, LogFault> {
         let waiting = Vec::with_capacity(rt.alloc(), WAITING_OCTETS)?;
         let output = LogOutput::of(rt, sink)?;
         Ok(DroppingLog {
             output,
             waiting,
+            has_priority: is_journal(rt),
             limits: LineLimits::new(),
             second: 0,
             missed: 0,
@@ -123,7 +133,12 @@ impl<'a, W: Sink> DroppingLog<'a, W> {
     /// A line waits from now on. False if there is no room for it.
     fn hold(&mut self, line: &[u8]) -> bool {
         let octets = self.waiting.len().saturating_add(line.len());
-        octets <= WAITING_OCTETS && self.waiting.extend_from_slice(line).is_ok()
+        if octets.saturating_add(PRIORITY_OCTETS) > WAITING_OCTETS {
+            return false;
+        }
+        let priority = Severity::of(without_time(line)).priority();
+        (!self.has_priority || self.waiting.extend_from_slice(&priority).is_ok())
+            && self.waiting.extend_from_slice(line).is_ok()
     }
 
     /// Tells how many lines were missed, with the time of a further line, if some were. False if there is no room.

@@ -26,18 +26,25 @@ pub(crate) fn time_of(line: &[u8]) -> &[u8] {
 }
 
 /// What is behind the time.
-fn without_time(line: &[u8]) -> &[u8] {
+pub(crate) fn without_time(line: &[u8]) -> &[u8] {
     let time = time_of(line).len();
     line.get(time.saturating_add(1)..).unwrap_or(&[])
 }
 
-/// The words that tell the kind: the first and the link, if there is one; of a notice also what it tells of, and why.
+/// The words that tell the kind: the first and the link, if there is one; of a notice also what it tells of, and why;
+/// of an alarm what it is about, but for the destination.
 fn kind_words(text: &[u8]) -> &[u8] {
     match words(text, 1) {
         b"notice" => words(text, 5),
-        b"caller" | b"missed" => words(text, 1),
+        b"caller" | b"missed" | b"destination" | b"order" => words(text, 1),
+        b"alarm" | b"clear" if !is_of_destination(words(text, 2)) => words(text, 3),
         _ => words(text, 2),
     }
+}
+
+/// Whether these two words are of an alarm of a destination.
+fn is_of_destination(front: &[u8]) -> bool {
+    front == b"alarm destination".as_slice() || front == b"clear destination".as_slice()
 }
 
 /// The first so many words of a text.

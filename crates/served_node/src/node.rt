@@ -81,10 +81,22 @@ impl Node {
         self.exchange.step(&Event::Tick);
         self.exchange.test_subsystems();
         self.look(FailureReason::Timer, log);
+        let has_capture_failed = self.observers.has_capture_failed;
+        self.observers
+            .watch
+            .look_by_tick(&self.exchange, has_capture_failed, log);
     }
 
-    /// Does the lines that clients of the console wrote. True if one of them stops the node.
-    pub fn read_clients(&mut self) -> bool {
+    /// Tells the log which links, and which of their sets, changed since the last time.
+    pub fn look_at_links<W: Sink>(&mut self, log: &mut Log<'_, W>)
+        ensures { self.new.exchange ≡ self.old.exchange }
+    {
+        self.observers.watch.look_at_links(&self.exchange, log);
+    }
+
+    /// Does the lines that clients of the console wrote, and tells the log of orders. True if one of them stops the
+    /// node.
+    pub fn read_clients<W: Sink>(&mut self, log: &mut Log<'_, W>) -> bool {
         let Node {
             exchange,
             observers: Observers {
@@ -92,16 +104,18 @@ impl Node {
                 clients,
                 points,
                 captured,
+                watch,
                 ..
             },
         } = self;
         let mut context = ConsoleContext {
             exchange,
             counters,
+            alarms: &watch.alarms,
             points: *points,
             captured,
         };
-        clients.read(&mut context)
+        clients.read(&mut context, log)
     }
 
     /// An association came up, and its link perhaps with it: the next `look` counts it as failed if it is down by then.

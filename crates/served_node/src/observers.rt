@@ -9,6 +9,7 @@ use crate::clients::ConsoleClients;
 use crate::console_session::News;
 use crate::held_file::HeldFile;
 use crate::log::Log;
+use crate::node_watch::NodeWatch;
 use crate::noticing::Seen;
 use arrayvec::ArrayString;
 use script::Sink;
@@ -39,6 +40,8 @@ pub struct Observers {
     pub counters: Counters,
     /// The clients of the console.
     pub clients: ConsoleClients,
+    /// What the log says of the node's links, sets and destinations, and its alarms.
+    pub watch: NodeWatch,
     /// How long after the start it is.
     pub now: Duration,
     pub(crate) points: PointFormat,
@@ -50,6 +53,8 @@ pub struct Observers {
     /// The number of the last file of a ring that the log was told of.
     told_file: u32,
     pub(crate) missed_frames: u64,
+    /// Whether a capture has failed.
+    pub(crate) has_capture_failed: bool,
 }
 
 impl Observers {
@@ -63,9 +68,11 @@ impl Observers {
     {
         let names = names_of(alloc, settings)?;
         let counters = Counters::new(alloc, settings.link_count())?;
+        let watch = NodeWatch::new(alloc, settings, points)?;
         Ok(Observers {
             counters,
             clients: ConsoleClients::new(alloc)?,
+            watch,
             now: Duration::ZERO,
             points,
             seen: Seen::new(),
@@ -74,6 +81,7 @@ impl Observers {
             captured: CapturedLinks::none(),
             told_file: 0,
             missed_frames: 0,
+            has_capture_failed: false,
         })
     }
 
@@ -167,6 +175,7 @@ impl Observers {
         self.told_file = tell_begun(capture.output().writer(), self.told_file, log);
         if has_failed {
             log.tell(&"capture failed");
+            self.has_capture_failed = true;
             self.capture_to(None);
         } else if has_room && self.missed_frames > 0 {
             let missed = self.missed_frames;

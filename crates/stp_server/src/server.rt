@@ -125,6 +125,15 @@ impl Server {
         self.longest_turn = self.longest_turn.max(turn);
     }
 
+    /// The clock is late by more ticks than a round can let pass, or no longer: an alarm is raised or cleared.
+    pub fn note_behind<W: Sink>(&mut self, is_behind: bool, now: Duration, log: &mut W) {
+        let settings = self.node.exchange.settings();
+        self.node
+            .observers
+            .watch
+            .note_behind(settings, is_behind, &mut Log { sink: log, now });
+    }
+
     /// Does what there is to do on each socket, once or a few times, and returns. It hands in what came, takes, opens
     /// and closes connections as the links want, and takes frames and writes them while the sockets take them. Then
     /// what was captured goes out, as far as its file takes it.
@@ -178,10 +187,11 @@ fn serve_sockets<N: Net, W: Sink, U: Watch>(
     links.read(node, log, user);
     links.tcp.accept(node, registry, log);
     node.observers.clients.accept(alloc, registry, log);
-    let stops = node.read_clients();
+    let stops = node.read_clients(log);
     node.look(FailureReason::Operator, log);
     links.settle(net, node, registry, log, user);
     let are_links_busy = links.write(node, log, user);
+    node.look_at_links(log);
     node.observers.clients.write(log);
     Round {
         is_busy: are_links_busy || node.observers.clients.is_busy(),

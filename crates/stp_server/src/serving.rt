@@ -144,6 +144,7 @@ fn run<W: Sink>(
         now = since(rt, started)?;
         server.turn(rt, now, log, &mut Unwatched);
         was_behind = tell_if_behind(&clock, was_behind, now, log);
+        server.note_behind(was_behind, now, log);
         if clock.is_due(millis(now)) {
             server.tick(now, log);
         }

@@ -9,8 +9,10 @@ ghost use Rattle.served_node.specs.Captured.{after_order, answer_to, order_of};
 ghost use Rattle.served_node.specs.Clients.{just_came, sees_of, told_of, untold, OnlyOutboxChanges};
 ghost use Rattle.served_node.specs.Clients.{line_feed, without_return, EndsNoLine, IsOneLine};
 ghost use Rattle.served_node.specs.WholeLines.{DoesLine, DoesLineAt, IsAnsweredBy, IsRefusedBy, ending_of, output_of};
+ghost use Rattle.served_node.specs.WholeLines.{shown};
 ghost use Rattle.served_node.specs.declared.console_session.outbox.TheConstants.{OUTBOX_OCTETS};
 
+use super::alarming::print_alarms;
 use super::answering::do_script_line;
 use super::capturing::{order_capture, print_captured};
 use super::command::{ConsoleLine, parse_console_line, without_return};
@@ -20,6 +22,7 @@ use super::outbox::Outbox;
 use crate::captured_links::CapturedLinks;
 use console::{MalformedAnswer, SpacedLine};
 use exchange::Exchange;
+use node_log::Alarms;
 use script::{Grown, Line, Malformed, OpenLine, Sink, WriteFailed};
 use served_link::Counters;
 use settings::PointFormat;
@@ -71,6 +74,8 @@ pub struct ConsoleContext<'a> {
     pub exchange: &'a mut Exchange,
     /// The counters of its links.
     pub counters: &'a Counters,
+    /// Which alarms are raised.
+    pub alarms: &'a Alarms,
     /// How point codes are read and shown.
     pub points: PointFormat,
     /// Which of its links are captured.
@@ -144,11 +149,13 @@ impl ConsoleClient {
         // How points are read, and the counters, stay whatever comes.
         ensures points { context.new.points ≡ context.old.points }
         ensures counters { context.new.counters.now ≡ context.old.counters.now }
+        ensures alarms { context.new.alarms.now ≡ context.old.alarms.now }
         // A line that comes to its end, and isn't too long, is done.
         ensures done { (front behind : List ℕ) → octets.now ≡ front ++ line_feed ∷ behind → EndsNoLine front
             → length self.old.line + length front ≤ LINE_OCTETS
             → (result.0 ≡ length front + 1)
-            × DoesLine context.old.points (without_return (self.old.line ++ front)) context.old.counters.now
+            × DoesLine context.old.points (without_return (self.old.line ++ front))
+            (shown context.old.points context.old.counters.now context.old.alarms.now)
             context.old.captured.now context.new.captured.now result.1 context.old.exchange.now context.new.exchange.now
             (record self.old { line = [] }) self.new }
     {
@@ -166,8 +173,10 @@ impl ConsoleClient {
     fn end_line(&mut self, context: &mut ConsoleContext<'_>) -> Ending
         ensures points { context.new.points ≡ context.old.points }
         ensures counters { context.new.counters.now ≡ context.old.counters.now }
+        ensures alarms { context.new.alarms.now ≡ context.old.alarms.now }
         ensures done { DoesLine context.old.points (without_return self.old.line)
-            context.old.counters.now context.old.captured.now context.new.captured.now result
+            (shown context.old.points context.old.counters.now context.old.alarms.now)
+            context.old.captured.now context.new.captured.now result
             context.old.exchange.now context.new.exchange.now
             (record self.old { line = [] }) self.new }
     {
@@ -190,7 +199,9 @@ impl ConsoleClient {
     ) -> Result<Ending, WriteFailed>
         ensures points { context.new.points ≡ context.old.points }
         ensures counters { context.new.counters.now ≡ context.old.counters.now }
-        ensures done { DoesLineAt context.old.points is_first line.now context.old.counters.now
+        ensures alarms { context.new.alarms.now ≡ context.old.alarms.now }
+        ensures done { DoesLineAt context.old.points is_first line.now
+            (shown context.old.points context.old.counters.now context.old.alarms.now)
             context.old.captured.now context.new.captured.now
             (ending_of result) context.old.exchange.now context.new.exchange.now self.old self.new }
     {
@@ -205,6 +216,14 @@ impl ConsoleClient {
                 print_captured(context.exchange, context.captured, &mut self.outbox)?;
             }
             Ok(ConsoleLine::Version) => self.answer(VERSION)?,
+            Ok(ConsoleLine::Alarms) => {
+                print_alarms(
+                    context.exchange,
+                    context.alarms,
+                    context.points,
+                    &mut self.outbox,
+                )?;
+            }
             Ok(ConsoleLine::Help) => self.answer(HELP)?,
             Ok(ConsoleLine::Users) => self.begin(News::Message)?,
             Ok(ConsoleLine::Notices) => self.begin(News::Notice)?,
@@ -235,6 +254,7 @@ impl ConsoleClient {
     ) -> Result<(), WriteFailed>
         ensures points { context.new.points ≡ context.old.points }
         ensures counters { context.new.counters.now ≡ context.old.counters.now }
+        ensures alarms { context.new.alarms.now ≡ context.old.alarms.now }
         ensures captured { context.new.captured.now ≡ context.old.captured.now }
         ensures same { OnlyOutboxChanges self.old self.new }
         ensures answer { IsAnswered (asked_line line.entry) context.old.exchange.now result context.new.exchange.now
@@ -252,6 +272,7 @@ impl ConsoleClient {
     ) -> Result<(), WriteFailed>
         ensures points { context.new.points ≡ context.old.points }
         ensures counters { context.new.counters.now ≡ context.old.counters.now }
+        ensures alarms { context.new.alarms.now ≡ context.old.alarms.now }
         ensures exchange { context.new.exchange.now ≡ context.old.exchange.now }
         ensures captured { context.new.captured.now
             ≡ after_order (order_of context.old.exchange.now.settings is_on (option_map (λ name. name.now) name.entry))
@@ -298,6 +319,13 @@ impl ConsoleClient {
             News::Frame => self.sees_frames = true,
         }
         self.answer(WATCHING)
+    }
+
+    /// What was read of the line that the client is writing.
+    pub fn line(&self) -> &[u8]
+        ensures { result.now ≡ self.now.line }
+    {
+        self.line.octets()
     }
 
     /// Whether the client asked for such news.

@@ -34,6 +34,8 @@ pub enum ConsoleLine<'a> {
     Captured,
     /// `show version`: the program's version.
     Version,
+    /// `show alarms`: the alarms that are raised.
+    Alarms,
     /// `help`, or `?`: what a client may write.
     Help,
     /// `users`: from now on the messages for this point.
@@ -85,6 +87,8 @@ fn own_line(line: &[u8]) -> Option<ConsoleLine<'_>>
         Some(ConsoleLine::Version)
     } else if line == b"show capture".as_slice() {
         Some(ConsoleLine::Captured)
+    } else if line == b"show alarms".as_slice() {
+        Some(ConsoleLine::Alarms)
     } else {
         capture_line(line)
     }

@@ -15,6 +15,7 @@ show reroutings           how often a flow changed its link set, but away from i
 show counters             what passed on each link since the start: counter NAME LINK VALUE
 show version              the version of the program
 show capture              each link: whether it is captured
+show alarms               the alarms that are raised, and since when, in seconds after the start
 submit HEX                a user part submits a message: its SIO, then its SIF
 activate LINK             the link may open; activate LINK emergency: with emergency proving
 deactivate LINK           the link goes out of service, and stays out

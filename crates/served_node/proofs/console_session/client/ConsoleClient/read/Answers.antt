@@ -2,6 +2,7 @@ use Rattle.std.proofs.Common.{◌≢◌, ◌≤◌, ◌∙◌, ℕ, length, ap, 
 use Rattle.std.proofs.lemmas.List.Elements.{All-more}
 use Rattle.script.specs.Steps.{LineSoFar}
 use Rattle.served_node.specs.Clients.{ClientState}
+use Rattle.served_node.specs.WholeLines.{shown}
 use Rattle.served_node.specs.contracts.console_session.client.ConsoleClient.{the_view}
 use Rattle.served_node.proofs.Taking.{up-to, grown, done-at, has-room, ends-somewhere, ends-too-late, never-ends}
 use Rattle.served_node.proofs.console_session.client.ConsoleClient.read.Goals as goal
@@ -21,6 +22,7 @@ loop-k-preserved c = record {
   exchange = c.loop-k.invariant.exchange;
   points = c.loop-k.invariant.points;
   counters = c.loop-k.invariant.counters;
+  alarms = c.loop-k.invariant.alarms;
   captured = c.loop-k.invariant.captured;
   room = λ more. c.in-Open.ensures.short;
 }
@@ -34,7 +36,7 @@ returns-in-TooLong-clause-done c = λ front behind parts ends room.
 pub returns-in-Whole-clause-done : goal.returns-in-Whole-clause-done
 returns-in-Whole-clause-done c = λ front behind parts ends room.
     let now = c.self.view_is ∙ c.loop-k.invariant.line in
-    done-at c.args.octets.now front behind c.loop-k.k parts c.loop-k.context.points c.args.context.now.points c.loop-k.invariant.points c.loop-k.context.counters.now c.args.context.now.counters.now c.loop-k.invariant.counters c.loop-k.context.captured.now c.args.context.now.captured.now c.end_line.new.context.captured.now c.loop-k.invariant.captured c.end_line.result c.args.context.now.exchange.now c.loop-k.context.exchange.now c.end_line.new.context.exchange.now c.args.self.now _
+    done-at c.args.octets.now front behind c.loop-k.k parts c.loop-k.context.points c.args.context.now.points c.loop-k.invariant.points (shown c.loop-k.context.points c.loop-k.context.counters.now c.loop-k.context.alarms.now) (shown c.args.context.now.points c.args.context.now.counters.now c.args.context.now.alarms.now) (λ i. shown (c.loop-k.invariant.points i) (c.loop-k.invariant.counters i) (c.loop-k.invariant.alarms i)) c.loop-k.context.captured.now c.args.context.now.captured.now c.end_line.new.context.captured.now c.loop-k.invariant.captured c.end_line.result c.args.context.now.exchange.now c.loop-k.context.exchange.now c.end_line.new.context.exchange.now c.args.self.now _
     c.end_line.new.self ends c.loop-k.invariant.none c.loop-k-test.true c.in-Whole.ensures.line.0
     ((λ i. record (the_view c.self.inside) { line = (c.in-Whole.ensures.line.1 i).octets }) ∙ now) c.loop-k.invariant.exchange c.end_line.ensures.done
 

@@ -11,6 +11,7 @@ invariant-loop-k l = record {
   exchange : l.context.exchange.now ≡ l.fn.context.exchange.now;
   points : l.context.points ≡ l.fn.context.points;
   counters : l.context.counters.now ≡ l.fn.context.counters.now;
+  alarms : l.context.alarms.now ≡ l.fn.context.alarms.now;
   captured : l.context.captured.now ≡ l.fn.context.captured.now;
   room : 0 < l.k → length l.self.line ≤ LINE_OCTETS;
 }

@@ -1,0 +1,69 @@
+//! What is seen of the links and the destinations of a node.
+
+ghost use Rattle.std.specs.Prelude.{◌≡◌};
+ghost use Rattle.served_node.specs.Watching.{access_by, destination_state_in, down_state, link_state_in, state_by};
+
+use exchange::{Exchange, LinkStanding, RouteStatus, Wants};
+use node_log::{Access, DestinationState, LinkState};
+use settings::LinkId;
+
+/// The state of a link; None if no link has this number.
+pub(crate) fn link_state(exchange: &Exchange, link: LinkId) -> Option<LinkState>
+    ensures { result ≡ link_state_in exchange.now link }
+{
+    let view = exchange.link(link)?;
+    let is_barred = exchange.is_barred(link);
+    let may_restart = exchange.may_restart(link);
+    let down = down_state(is_barred, may_restart, exchange.wants(link));
+    Some(state_by(view.standing, down))
+}
+
+/// The state of a link, by where it stands, and by the state that it has if it is down.
+fn state_by(standing: LinkStanding, down: LinkState) -> LinkState
+    ensures { result ≡ state_by standing down }
+{
+    match standing {
+        LinkStanding::Down => down,
+        LinkStanding::NotAligned
+        | LinkStanding::Aligned
+        | LinkStanding::Proving
+        | LinkStanding::AlignedReady => LinkState::Aligning,
+        LinkStanding::InService => LinkState::InService,
+    }
+}
+
+/// The state of a link that is down.
+fn down_state(is_barred: bool, may_restart: bool, wants: Wants) -> LinkState
+    ensures { result ≡ down_state is_barred may_restart wants }
+{
+    if is_barred {
+        return LinkState::Barred;
+    }
+    if !may_restart {
+        return LinkState::ChangingOver;
+    }
+    match wants {
+        Wants::Close => LinkState::Closing,
+        Wants::Open => LinkState::Failed,
+        Wants::Nothing => LinkState::Deactivated,
+    }
+}
+
+/// The state of a destination, by its number in the order of the settings; None if none has this number.
+pub(crate) fn destination_state(exchange: &Exchange, number: usize) -> Option<DestinationState>
+    ensures { result ≡ destination_state_in exchange.now number }
+{
+    let view = exchange.route(number)?;
+    Some(DestinationState::new(access_by(view.status), &view.sets))
+}
+
+/// Whether a destination is accessible, by the status of the routes that messages take.
+fn access_by(status: RouteStatus) -> Access
+    ensures { result ≡ access_by status }
+{
+    match status {
+        RouteStatus::Allowed => Access::Accessible,
+        RouteStatus::Restricted => Access::Restricted,
+        RouteStatus::Prohibited => Access::Inaccessible,
+    }
+}

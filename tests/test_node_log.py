@@ -1,0 +1,169 @@
+"""What the log says of links, sets, destinations, alarms and orders, and how its lines are written."""
+
+import os
+import re
+import signal
+import time
+
+from harness import HOST, NodeTest, free_port, links_between, wait_until
+from traffic import FAR, NEAR, Pair
+
+# In ticks of 50 ms: a changeover ends soon if no link is left, as nobody answers it.
+SOON = {"t1": 4, "t2": 6}
+
+# Messages of which the pool has room for ten.
+POOL, MANY, FEW = 10, 8, 4
+
+# More ticks than a round lets pass at once, in seconds.
+PAUSE_SECONDS = 6
+
+SECONDS = r"\d+\.\d{3}"
+
+
+class NodeLog(NodeTest):
+    def alarms(self, node) -> list[str]:
+        """The alarms that are raised, without the time."""
+        lines = node.ask("show alarms")
+        for line in lines:
+            self.assertRegex(line, rf"^alarm .* since {SECONDS}$")
+        return [line.split(" since ")[0].removeprefix("alarm ") for line in lines]
+
+    def await_alarms(self, node, *names: str) -> None:
+        wait_until(lambda: self.alarms(node) == [*names], f"the alarms {names}")
+
+    def test_a_start(self) -> None:
+        """Until its links are in service each of them, their set and what it leads to have an alarm, of which no line
+        tells."""
+        node = self.node(NEAR, links_between([free_port()], FAR, True))
+        node.start()
+        self.assertEqual(self.alarms(node), ["link e0", f"set to-{FAR}", f"destination {FAR}"])
+        node.stop()
+        self.assertEqual(node.logged("(alarm|clear|link|set|destination) "), 0)
+
+    def test_links_in_service(self) -> None:
+        pair = Pair(self)
+        for node, adjacent in ((pair.near, FAR), (pair.far, NEAR)):
+            for name in pair.names:
+                node.await_log(rf"link {name} aligning after {SECONDS} s failed$")
+                node.await_log(rf"link {name} in service after {SECONDS} s aligning$")
+                node.await_log(rf"clear link {name} after {SECONDS} s$")
+            node.await_log(rf"set to-{adjacent} available$")
+            node.await_log(rf"clear set to-{adjacent} after {SECONDS} s$")
+            node.await_log(rf"destination {adjacent} accessible by to-{adjacent}$")
+            node.await_log(rf"clear destination {adjacent} after {SECONDS} s$")
+            self.assertEqual(node.logged("alarm "), 0)
+            self.assertEqual(self.alarms(node), [])
+
+    def test_a_link_that_is_deactivated(self) -> None:
+        pair = Pair(self)
+        self.assertEqual(pair.near.ask("deactivate e1"), ["handled"])
+        pair.near.await_log("alarm link e1$")
+        pair.near.await_log(rf"link e1 deactivated after {SECONDS} s ")
+        self.await_alarms(pair.near, "link e1")
+        pair.far.await_log("alarm link e1$")
+        self.assertEqual(pair.near.ask("activate e1"), ["handled"])
+        pair.near.await_log(rf"clear link e1 after {SECONDS} s$", 2)
+        self.await_alarms(pair.near)
+        for node in (pair.near, pair.far):
+            self.assertEqual(node.logged("alarm (set|destination) "), 0)
+
+    def test_a_node_that_ends(self) -> None:
+        """Each link, the set and the destination have alarms, which are cleared as it returns; that of a flag stays."""
+        pair = Pair(self, **SOON)
+        pair.far.kill()
+        for name in pair.names:
+            pair.near.await_log(f"alarm link {name}$")
+            pair.near.await_log(rf"link {name} changing over after {SECONDS} s in service, \d+ unconfirmed$")
+            pair.near.await_log(rf"link {name} failed after {SECONDS} s changing over$")
+        for line in (f"set to-{FAR} unavailable$", f"alarm set to-{FAR}$", f"destination {FAR} inaccessible$",
+                     f"alarm destination {FAR}$", "alarm flag lost_any$"):
+            pair.near.await_log(line)
+        links = [f"link {name}" for name in pair.names]
+        self.await_alarms(pair.near, "flag lost_any", *links, f"set to-{FAR}", f"destination {FAR}")
+        pair.far.start()
+        pair.await_service()
+        self.await_alarms(pair.near, "flag lost_any")
+        for name in (*links, f"set to-{FAR}", f"destination {FAR}"):
+            self.assertEqual((pair.near.logged(f"alarm {name}$"), pair.near.logged(f"clear {name} ")), (1, 2), name)
+        self.assertEqual((pair.near.logged("alarm flag lost_any$"), pair.near.logged("clear flag ")), (1, 0))
+
+    def test_a_pool_that_is_nearly_full(self) -> None:
+        pair = Pair(self, pool=POOL)
+        pair.far.signal(signal.SIGSTOP)
+        pair.forth.submit(FEW)
+        time.sleep(0.5)
+        self.assertEqual(pair.near.logged("alarm pool$"), 0)
+        pair.forth.submit(MANY - FEW)
+        pair.near.await_log("alarm pool$")
+        self.await_alarms(pair.near, "pool")
+        pair.far.signal(signal.SIGCONT)
+        pair.near.await_log(rf"clear pool after {SECONDS} s$")
+        pair.forth.settle()
+
+    def test_a_node_that_is_behind(self) -> None:
+        pair = Pair(self)
+        pair.near.signal(signal.SIGSTOP)
+        time.sleep(PAUSE_SECONDS)
+        pair.near.signal(signal.SIGCONT)
+        pair.near.await_log("alarm behind$")
+        pair.near.await_log(rf"clear behind after {SECONDS} s$")
+
+    def test_a_capture_that_fails(self) -> None:
+        pair = Pair(self, capture="/dev/full")
+        pair.near.await_log("alarm capture$")
+        self.await_alarms(pair.near, "capture")
+
+    def test_orders(self) -> None:
+        """Each order is told of with who gave it, and its answer; messages and what is only shown aren't."""
+        node = Pair(self).near
+        caller = node.call()
+        name = f"{HOST}:{caller.socket.getsockname()[1]}"
+        for order, answer in (
+            ("deactivate e1", "handled"),
+            ("activate e1", "handled"),
+            ("deactivate e9", "refused 22 NoSuchName"),
+            ("title add 0 1 4 4917 2 ssn 6", "handled"),
+            ("capture start", "ignored"),
+        ):
+            caller.write(order[:4])
+            time.sleep(0.05)
+            caller.write(order[4:] + "\r\n")
+            self.assertEqual(caller.read_line(), answer)
+            node.await_log(f"order {name} {order}: {answer}$")
+        caller.ask("show links")
+        caller.ask("submit 8501800010010010")
+        self.assertEqual(node.logged("order "), 5)
+        node.stop()
+        self.assertEqual(node.logged(rf"order {HOST}:\d+ stop: stopping$"), 1)
+
+    def test_a_flood_of_orders(self) -> None:
+        """At most 20 of them in a second have a line; the others are counted."""
+        node = Pair(self).near
+        node.operator.write("capture stop\n" * 200)
+        node.operator.read_lines(200)
+        node.ask("show flags")
+        time.sleep(1.5)
+        node.ask("capture stop")
+        node.await_log(r"missed \d+ lines$")
+        missed = sum(int(line.split()[2]) for line in node.log() if re.match(rf"{SECONDS} missed \d+ lines$", line))
+        self.assertEqual(node.logged("order ") + missed, 201)
+        self.assertLessEqual(node.logged("order "), 3 * 20 + 1)
+
+    def test_the_journal(self) -> None:
+        """Where systemd says that standard output is its journal, each line begins with its priority."""
+        pair = Pair(self)
+        node = pair.near
+        node.stop()
+        log = node.folder / "log"
+        there = log.stat()
+        environment = {**os.environ, "JOURNAL_STREAM": f"{there.st_dev}:{there.st_ino}"}
+        node.start(env=environment)
+        lines = node.log()
+        self.assertTrue(lines)
+        for line in lines:
+            self.assertRegex(line, rf"^<[4-7]>{SECONDS} ")
+        self.assertTrue(any(re.match(rf"<5>{SECONDS} start 3 links", line) for line in lines))
+        self.assertTrue(any(re.match(rf"<6>{SECONDS} console ", line) for line in lines))
+        node.kill()
+        node.start(env={**environment, "JOURNAL_STREAM": f"{there.st_dev}:{there.st_ino + 1}"})
+        self.assertEqual(node.logged("start 3 links"), 1)
