@@ -15,8 +15,8 @@ use Rattle.served_link.specs.declared.counter.Counter.{Counter}
 use Rattle.served_link.specs.Lines.{counter_line, datagram_line}
 use Rattle.console.specs.Texts.{link_text, route_text, title_text, subsystem_text, notice_text, flag_line, loss_line, rerouting_line}
 use Rattle.script.specs.Texts.{outcome_line}
-use Rattle.node_log.specs.AlarmTexts.{alarm_line}
-use Rattle.node_log.specs.declared.alarm.Alarm.{Alarm}
+use Rattle.served_link.specs.AlarmTexts.{alarm_line}
+use Rattle.served_link.specs.declared.alarm.Alarm.{Alarm}
 use Rattle.served_node.specs.Captured.{Captured, captured_line}
 use Rattle.served_node.specs.Clients.{ClientState, told_of, untold}
 use Rattle.served_node.specs.Lines.{Heard as Line, HearsUsers, HearsNotices, HearsFrames, HearsHelp, HearsQuit, HearsStop}

@@ -9,4 +9,3 @@ pub mod Peers
 pub mod Refusals
 pub mod Screening
 pub mod Setbacks
-pub mod Times

@@ -9,14 +9,14 @@ ghost use Rattle.sctp_gate.specs.Making.{Makes};
 ghost use Rattle.sctp_links.specs.Calls.{called};
 ghost use Rattle.sctp_links.specs.Counting.{counted_by, counted_did};
 ghost use Rattle.sctp_links.specs.Links.{new_link};
-ghost use Rattle.sctp_links.specs.Times.{millis_of};
+ghost use Rattle.served_link.specs.Times.{millis_of};
 ghost use Rattle.sctp_gate.specs.Gates.{due};
 
 use crate::allowance::Allowance;
 use crate::hosts::address_of;
 use crate::observer::{Datagrams, GateObserver, Origin};
 use crate::refusals::Refusals;
-use crate::times::millis;
+use served_link::times::millis;
 use exchange::Exchange;
 use script::Sink;
 use sctp_endpoint::Address;

@@ -5,14 +5,14 @@ ghost use Rattle.exchange.specs.KeptQueues.{kept};
 ghost use Rattle.served_link.specs.Counting.{WasSetBack, counted_at};
 ghost use Rattle.sctp_links.specs.Counting.{counted_hearing, counted_setback, refused_at};
 ghost use Rattle.sctp_links.specs.Screening.{after_screening, did_at, heard_link, is_left_out, is_port_of, screened};
-ghost use Rattle.sctp_links.specs.Times.{millis_of};
+ghost use Rattle.served_link.specs.Times.{millis_of};
 
 use crate::calling::{GateCall, SctpLink};
 use crate::hosts::address_of;
 use crate::observer::Datagrams;
 use crate::screening::{Screened, has_others, is_init, is_told, may_be_refused};
 use crate::setbacks::setback_for;
-use crate::times::millis;
+use served_link::times::millis;
 use script::Sink;
 use sctp_endpoint::Address;
 use served_link::{Setback, Watch};

@@ -17,7 +17,6 @@ pub mod refusals;
 pub mod screening;
 pub mod setbacks;
 pub mod sockets;
-pub mod times;
 
 pub use keys::Keys;
 pub use links::SctpLinks;

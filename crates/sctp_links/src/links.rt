@@ -9,7 +9,7 @@ ghost use Rattle.sctp_links.specs.Hosts.{address_of};
 ghost use Rattle.sctp_links.specs.Links.{Link, no_links, with_link};
 ghost use Rattle.sctp_links.specs.Peers.{link_of};
 ghost use Rattle.sctp_links.specs.Screening.{did_at, heard_link, is_left_out, screened};
-ghost use Rattle.sctp_links.specs.Times.{millis_of};
+ghost use Rattle.served_link.specs.Times.{millis_of};
 
 use crate::calling::{GateCall, SctpLink};
 use crate::endpoint_settings::{peer_of, settings_of};
@@ -17,7 +17,7 @@ use crate::hosts::address_of;
 use crate::keys::Keys;
 use crate::observer::Datagrams;
 use crate::peers::{Peer, link_of};
-use crate::times::millis;
+use served_link::times::millis;
 use script::Sink;
 use sctp_gate::Gate;
 use served_link::Watch;

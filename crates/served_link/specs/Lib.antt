@@ -8,3 +8,13 @@ pub mod Ticking
 pub mod Counting
 pub mod Laws
 pub mod Lines
+pub mod Alarms
+pub mod Alternating
+pub mod AlarmTexts
+pub mod DestinationStates
+pub mod LogLines
+pub mod PoolLevel
+pub mod ServiceStates
+pub mod Severities
+pub mod ShownStates
+pub mod Times

@@ -1,32 +1,56 @@
 //! A served link without its socket. Octets that come are cut into frames, which are handed in; frames are taken while
 //! there is room, and written in as many pieces as it takes. Also when ticks are due, when a connection is tried again,
-//! and the counters of the link.
+//! and the counters of the link. And what the log of a served node tells of links, sets and destinations: their states,
+//! as an operator sees them, which alarms are raised, and the lines of what changed.
 #![tactic(auto)]
 
+pub mod alarm;
+pub mod alarm_laws;
+pub mod alarm_text;
+pub mod alarms;
 pub mod association;
 pub mod counter;
 pub mod counters;
 pub mod datagrams;
+pub mod destination_states;
 mod filling;
 mod frame;
 pub mod laws;
 pub mod line;
+pub mod log_lines;
 pub mod outgoing;
+pub mod pool_level;
 mod reading;
 pub mod retrying;
 pub mod row;
+pub mod service_states;
 pub mod setback;
+pub mod severity;
+pub mod shown_states;
 pub mod ticking;
+pub mod times;
 pub mod watch;
 
+pub use alarm::Alarm;
+pub use alarm_text::{ALARM_OCTETS, alarm_line_at, alarm_name, seconds_text};
+pub use alarms::{AlarmChange, Alarms};
 pub use association::{Association, Broken};
 pub use counter::Counter;
 pub use counters::Counters;
 pub use datagrams::{DATAGRAMS_OCTETS, DatagramCounters};
+pub use destination_states::{Access, DestinationState, DestinationStates};
 pub use line::{LINE_OCTETS, write_counter};
+pub use log_lines::{
+    CHANGE_OCTETS, ChangeLine, alarm_change_line, destination_change_line, link_change_line,
+    set_change_line,
+};
 pub use outgoing::OUTPUT_OCTETS;
+pub use pool_level::is_pool_high;
 pub use retrying::{LONGEST_WAIT, Retry};
 pub use row::LinkCounters;
+pub use service_states::{ServiceState, ServiceStates, StateSince};
 pub use setback::Setback;
+pub use severity::Severity;
+pub use shown_states::{destination_state, service_state};
 pub use ticking::{MOST_TICKS, TickClock};
 pub use watch::{Unwatched, Watch};

@@ -7,7 +7,6 @@ use Rattle.exchange.specs.Calls.{Kept}
 use Rattle.served_node.specs.Clients.{ClientState, EndsNoLine, IsOneLine, without_return}
 use Rattle.served_node.specs.WholeLines.{DoesLine, Shown}
 use Rattle.served_node.specs.Captured.{Captured}
-use Rattle.settings.specs.declared.point.PointFormat.{PointFormat}
 use Rattle.served_node.specs.declared.console_session.client.Ending.{Ending}
 use Rattle.served_node.specs.declared.console_session.client.TheConstants.{LINE_OCTETS}
 
@@ -71,19 +70,18 @@ module _ (octets front behind : List ℕ) (k : ℕ) (parts : octets ≡ front ++
       ]
 
   -- the line that ended is done
-  pub done-at : (p points : PointFormat) → p ≡ points → (counters was : Shown) → counters ≡ was → (captured began captured_after : Captured) → captured ≡ began → (ending : Ending) (s t after : Kept) (old now new : ClientState) → EndsNoLine front → EndsNoLine (take k octets) → k < length octets → slice_index_or octets k 0 ≡ 10
-      → now ≡ record old { line = old.line ++ take k octets } → t ≡ s → DoesLine p (without_return now.line) counters captured captured_after ending t after (record now { line = [] }) new
-      → (k + 1 ≡ length front + 1) × DoesLine points (without_return (old.line ++ front)) was began captured_after ending s after (record old { line = [] }) new
-  done-at p points read counters was kept captured began captured_after same_captured ending s t after old now new front_ends none within ends same same_state does =
+  pub done-at : (shown was : Shown) → shown ≡ was → (captured began captured_after : Captured) → captured ≡ began → (ending : Ending) (s t after : Kept) (old now new : ClientState) → EndsNoLine front → EndsNoLine (take k octets) → k < length octets → slice_index_or octets k 0 ≡ 10
+      → now ≡ record old { line = old.line ++ take k octets } → t ≡ s → DoesLine (without_return now.line) shown captured captured_after ending t after (record now { line = [] }) new
+      → (k + 1 ≡ length front + 1) × DoesLine (without_return (old.line ++ front)) was began captured_after ending s after (record old { line = [] }) new
+  done-at shown was kept captured began captured_after same_captured ending s t after old now new front_ends none within ends same same_state does =
       let at : k ≡ length front = omega (arith, within-front (omega arith) none, front-within octets front (10 ∷ behind) k parts front_ends ends) in
       let text : take k octets ≡ front = ap (take k) parts ∙ take_at front (10 ∷ behind) k (sym at) in
       let is : now ≡ record old { line = old.line ++ front } = same ∙ (λ i. record old { line = old.line ++ text i }) in (
         ap (λ (n : ℕ). n + 1) at,
-        subst (λ (c : ClientState). DoesLine points (without_return c.line) was began captured_after ending s after (record c { line = [] }) new) is
-            (subst (λ (u : Kept). DoesLine points (without_return now.line) was began captured_after ending u after (record now { line = [] }) new) same_state
-            (subst (λ (b : Captured). DoesLine points (without_return now.line) was b captured_after ending t after (record now { line = [] }) new) same_captured
-            (subst (λ (r : Shown). DoesLine points (without_return now.line) r captured captured_after ending t after (record now { line = [] }) new) kept
-            (subst (λ (q : PointFormat). DoesLine q (without_return now.line) counters captured captured_after ending t after (record now { line = [] }) new) read does)))),
+        subst (λ (c : ClientState). DoesLine (without_return c.line) was began captured_after ending s after (record c { line = [] }) new) is
+            (subst (λ (u : Kept). DoesLine (without_return now.line) was began captured_after ending u after (record now { line = [] }) new) same_state
+            (subst (λ (b : Captured). DoesLine (without_return now.line) was b captured_after ending t after (record now { line = [] }) new) same_captured
+            (subst (λ (r : Shown). DoesLine (without_return now.line) r captured captured_after ending t after (record now { line = [] }) new) kept does))),
       )
 
   -- a line that has room ends before it is too long

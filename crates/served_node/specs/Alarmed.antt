@@ -2,7 +2,7 @@
 use Rattle.std.specs.Prelude.{ℕ, List, length, Option}
 use Rattle.settings.specs.Configuration.{Configuration}
 use Rattle.settings.specs.declared.point.PointFormat.{PointFormat}
-use Rattle.node_log.specs.AlarmTexts.{line_at}
+use Rattle.served_link.specs.AlarmTexts.{line_at}
 use Rattle.served_node.specs.Counters.{first_texts}
 
 -- a line for each alarm that is raised, in the order of the table

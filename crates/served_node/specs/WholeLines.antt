@@ -81,8 +81,8 @@ IsRefused points line is_first Closes old new =
 IsRefused points line is_first Leaves old new = ⊥
 IsRefused points line is_first Stops old new = ⊥
 
--- what a client may be shown beside the node, with points in a format: the counters, and since when each alarm is
--- raised
+-- how points are read and shown, and what a client may be shown beside the node: the counters, and since when each
+-- alarm is raised
 pub record Shown : Type 0 where
   pub points : PointFormat
   pub counters : NodeCounters
@@ -128,14 +128,14 @@ DoesHeard HearsStop is_first shown captured captured_after ending s after old ne
 DoesHeard (HearsNoLine points line) is_first shown captured captured_after ending s after old new =
     (after ≡ s) × (captured_after ≡ captured) × IsRefused points line is_first ending old new
 
--- what a line of a client without needless blanks does, which is its first or isn't, with points in this format
-abbrev pub DoesLineAt : PointFormat → (is_first : Bool) → List ℕ → Shown → (captured captured_after : Captured)
-    → Ending → (s after : Kept) → (old new : ClientState) → Type 0
-DoesLineAt points is_first line shown captured captured_after ending s after old new =
-    DoesHeard (heard points line) is_first shown captured captured_after ending s after old new
+-- what a line of a client without needless blanks does, which is its first or isn't
+abbrev pub DoesLineAt : (is_first : Bool) → List ℕ → Shown → (captured captured_after : Captured) → Ending
+    → (s after : Kept) → (old new : ClientState) → Type 0
+DoesLineAt is_first line shown captured captured_after ending s after old new =
+    DoesHeard (heard shown.points line) is_first shown captured captured_after ending s after old new
 
 -- what a line of a client does. No line after it is the client's first, unless it did nothing
-abbrev pub DoesLine : PointFormat → List ℕ → Shown → (captured captured_after : Captured) → Ending
-    → (s after : Kept) → (old new : ClientState) → Type 0
-DoesLine points line shown captured captured_after ending s after old new =
-    DoesLineAt points old.is_first (trimmed line) shown captured captured_after ending s after (begun old) new
+abbrev pub DoesLine : List ℕ → Shown → (captured captured_after : Captured) → Ending → (s after : Kept)
+    → (old new : ClientState) → Type 0
+DoesLine line shown captured captured_after ending s after old new =
+    DoesLineAt old.is_first (trimmed line) shown captured captured_after ending s after (begun old) new

@@ -32,7 +32,6 @@ pub mod ring_files;
 pub mod socket;
 pub mod socket_file;
 mod telling;
-mod watching;
 
 pub use capture_place::{CaptureFault, CapturePlace};
 pub use captured_links::{CaptureOrder, CapturedLinks};

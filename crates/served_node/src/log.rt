@@ -1,10 +1,12 @@
 //! The log of a server.
 
 ghost use Rattle.std.specs.Prelude.{◌≡◌, ◌≤◌, length};
-ghost use Rattle.served_node.specs.Logging.{TellsALine, line_of, shown_octet};
+ghost use Rattle.served_node.specs.Logging.{TellsALine, Writes, line_of, shown_octet, timed};
 
 use arrayvec::{ArrayString, ArrayVec};
 use script::Sink;
+use served_link::times::millis;
+use served_link::{ChangeLine, seconds_text};
 use std::fmt;
 use std::fmt::Write;
 use std::net::SocketAddr;
@@ -40,7 +42,22 @@ impl<W: Sink> Log<'_, W> {
         self.tell(&format_args!("{word} {link} {address}"));
     }
 
-    /// Writes a line, cut to 255 octets, in one write. Its control characters are question marks. If the write fails, the line is lost, and the node goes on.
+    /// Writes the line of a change, in one write. If the write fails, the line is lost, and the node goes on.
+    pub fn tell_change(&mut self, change: &ChangeLine)
+        ensures line { Writes (line_of (timed self.old.now change.now.bytes))
+            (W.output self.old.sink.now) (W.output self.new.sink.now) }
+        ensures time { self.new.now ≡ self.old.now }
+    {
+        let mut told = ArrayString::<TEXT_OCTETS>::new();
+        told.push_str(seconds_text(millis(self.now)).as_str());
+        told.push_str(" ");
+        told.push_str(change.as_str());
+        let line = line_of(told.as_str().as_bytes());
+        let _told = self.sink.write(line.as_slice());
+    }
+
+    /// Writes a line, cut to 255 octets, in one write. Its control characters are question marks. If the write fails,
+    /// the line is lost, and the node goes on.
     pub fn tell<T: fmt::Display>(&mut self, text: &T)
         ensures line { TellsALine (W.output self.old.sink.now) (W.output self.new.sink.now) }
         ensures time { self.new.now ≡ self.old.now }

@@ -73,8 +73,8 @@ impl Node {
         outcome
     }
 
-    /// Lets a tick pass, submits the tests of subsystems that are due by it, and tells what is new. A failure whose
-    /// notice was dropped for later ones is counted as one by a timer.
+    /// Lets a tick pass, submits the tests of subsystems that are due by it, and tells what is new, and what changed
+    /// since the last tick. A failure whose notice was dropped for later ones is counted as one by a timer.
     pub fn tick<W: Sink>(&mut self, log: &mut Log<'_, W>)
         ensures { self.new.exchange ≡ after_tests kept (after kept Ticked self.old.exchange) }
     {
@@ -84,14 +84,7 @@ impl Node {
         let has_capture_failed = self.observers.has_capture_failed;
         self.observers
             .watch
-            .look_by_tick(&self.exchange, has_capture_failed, log);
-    }
-
-    /// Tells the log which links, and which of their sets, changed since the last time.
-    pub fn look_at_links<W: Sink>(&mut self, log: &mut Log<'_, W>)
-        ensures { self.new.exchange ≡ self.old.exchange }
-    {
-        self.observers.watch.look_at_links(&self.exchange, log);
+            .look(&self.exchange, has_capture_failed, log);
     }
 
     /// Does the lines that clients of the console wrote, and tells the log of orders. True if one of them stops the

@@ -25,8 +25,9 @@ pub(crate) fn order_in(begun: &[u8], octets: &[u8]) -> Option<OrderLine> {
     push_all(&mut line, begun);
     let end = octets.iter().position(|octet| *octet == b'\n')?;
     push_all(&mut line, octets.get(..end)?);
-    if is_order(first_word(line.as_slice())) {
-        Some(shown(line.as_slice()))
+    let order = from_first_word(line.as_slice());
+    if is_order(first_word(order)) {
+        Some(shown(order))
     } else {
         None
     }
@@ -49,6 +50,16 @@ fn is_order(word: &[u8]) -> bool {
         }
     }
     false
+}
+
+/// A line without the blanks before its first word.
+fn from_first_word(line: &[u8]) -> &[u8] {
+    for (k, octet) in line.iter().enumerate() {
+        if *octet != b' ' {
+            return line.get(k..).unwrap_or(line);
+        }
+    }
+    &[]
 }
 
 /// A line up to its first blank, or the end.

@@ -191,7 +191,6 @@ fn serve_sockets<N: Net, W: Sink, U: Watch>(
     node.look(FailureReason::Operator, log);
     links.settle(net, node, registry, log, user);
     let are_links_busy = links.write(node, log, user);
-    node.look_at_links(log);
     node.observers.clients.write(log);
     Round {
         is_busy: are_links_busy || node.observers.clients.is_busy(),

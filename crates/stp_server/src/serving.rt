@@ -5,7 +5,7 @@ ghost use Rattle.std.specs.Prelude.{◌≤◌};
 use crate::failure::ServeFailure;
 use crate::server::{Places, Server};
 use script::Sink;
-use sctp_links::times::millis;
+use served_link::times::millis;
 use served_link::{MOST_TICKS, TickClock, Unwatched};
 use served_node::{CaptureFault, CapturePlace, DroppingLog, FileCapture, Log};
 use settings::Settings;

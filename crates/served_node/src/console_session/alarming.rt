@@ -2,13 +2,13 @@
 
 ghost use Rattle.std.specs.Prelude.{◌≡◌, OnOk, OnErr};
 ghost use Rattle.std.specs.Io.KnownBytes.{Appends};
-ghost use Rattle.node_log.specs.AlarmTexts.{line_at};
+ghost use Rattle.served_link.specs.AlarmTexts.{line_at};
 ghost use Rattle.script.specs.Streams.{AppendsFirst, failures_after};
 ghost use Rattle.served_node.specs.Alarmed.{alarms_text};
 
 use exchange::Exchange;
-use node_log::{Alarms, alarm_line_at};
 use script::{Sink, WriteFailed};
+use served_link::{Alarms, alarm_line_at};
 use settings::{PointFormat, Settings};
 
 /// Prints a line for each alarm that is raised: those of the node, then those of links, of sets and of destinations, in

@@ -8,8 +8,8 @@ ghost use Rattle.std.specs.Option.{option_map};
 ghost use Rattle.served_node.specs.Captured.{after_order, answer_to, order_of};
 ghost use Rattle.served_node.specs.Clients.{just_came, sees_of, told_of, untold, OnlyOutboxChanges};
 ghost use Rattle.served_node.specs.Clients.{line_feed, without_return, EndsNoLine, IsOneLine};
-ghost use Rattle.served_node.specs.WholeLines.{DoesLine, DoesLineAt, IsAnsweredBy, IsRefusedBy, ending_of, output_of};
-ghost use Rattle.served_node.specs.WholeLines.{shown};
+ghost use Rattle.served_node.specs.WholeLines.{DoesLine, DoesLineAt, IsAnsweredBy, IsRefusedBy};
+ghost use Rattle.served_node.specs.WholeLines.{ending_of, output_of, shown};
 ghost use Rattle.served_node.specs.declared.console_session.outbox.TheConstants.{OUTBOX_OCTETS};
 
 use super::alarming::print_alarms;
@@ -22,9 +22,8 @@ use super::outbox::Outbox;
 use crate::captured_links::CapturedLinks;
 use console::{MalformedAnswer, SpacedLine};
 use exchange::Exchange;
-use node_log::Alarms;
 use script::{Grown, Line, Malformed, OpenLine, Sink, WriteFailed};
-use served_link::Counters;
+use served_link::{Alarms, Counters};
 use settings::PointFormat;
 use std::alloc::Global;
 use std::marker::Model;
@@ -154,7 +153,7 @@ impl ConsoleClient {
         ensures done { (front behind : List ℕ) → octets.now ≡ front ++ line_feed ∷ behind → EndsNoLine front
             → length self.old.line + length front ≤ LINE_OCTETS
             → (result.0 ≡ length front + 1)
-            × DoesLine context.old.points (without_return (self.old.line ++ front))
+            × DoesLine (without_return (self.old.line ++ front))
             (shown context.old.points context.old.counters.now context.old.alarms.now)
             context.old.captured.now context.new.captured.now result.1 context.old.exchange.now context.new.exchange.now
             (record self.old { line = [] }) self.new }
@@ -174,7 +173,7 @@ impl ConsoleClient {
         ensures points { context.new.points ≡ context.old.points }
         ensures counters { context.new.counters.now ≡ context.old.counters.now }
         ensures alarms { context.new.alarms.now ≡ context.old.alarms.now }
-        ensures done { DoesLine context.old.points (without_return self.old.line)
+        ensures done { DoesLine (without_return self.old.line)
             (shown context.old.points context.old.counters.now context.old.alarms.now)
             context.old.captured.now context.new.captured.now result
             context.old.exchange.now context.new.exchange.now
@@ -200,7 +199,7 @@ impl ConsoleClient {
         ensures points { context.new.points ≡ context.old.points }
         ensures counters { context.new.counters.now ≡ context.old.counters.now }
         ensures alarms { context.new.alarms.now ≡ context.old.alarms.now }
-        ensures done { DoesLineAt context.old.points is_first line.now
+        ensures done { DoesLineAt is_first line.now
             (shown context.old.points context.old.counters.now context.old.alarms.now)
             context.old.captured.now context.new.captured.now
             (ending_of result) context.old.exchange.now context.new.exchange.now self.old self.new }

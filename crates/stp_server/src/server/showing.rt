@@ -4,7 +4,7 @@ use crate::served_page::ServedPage;
 use mio::Registry;
 use mio::event::Event;
 use script::Sink;
-use sctp_links::times::{micros, millis};
+use served_link::times::{micros, millis};
 use served_node::{Log, Node, OpenFault};
 use status_page::{NoticeLog, StatusPage, Times};
 use std::alloc::Global;

@@ -1,5 +1,5 @@
 use Rattle.sctp_links.proofs.Heard.{link-heard, exchange-heard, counters-heard}
-use Rattle.sctp_links.specs.Times.{millis_of}
+use Rattle.served_link.specs.Times.{millis_of}
 use Rattle.sctp_links.proofs.calling.SctpLink.hear.Goals as goal
 
 pub returns-in-Heard-clause-link : goal.returns-in-Heard-clause-link

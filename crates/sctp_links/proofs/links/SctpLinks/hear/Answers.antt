@@ -1,7 +1,7 @@
 use Rattle.std.proofs.Common.{◌≡◌, ◌∙◌, length, sym, true≢false}
 use Rattle.std.proofs.lemmas.Bool.{lt-ltb}
 use Rattle.std.proofs.lemmas.Option.{same_Some, slice_get_within}
-use Rattle.sctp_links.specs.Times.{millis_of}
+use Rattle.served_link.specs.Times.{millis_of}
 use Rattle.sctp_links.proofs.AmongLinks.{links-heard, exchange-among, left-among}
 use Rattle.sctp_links.proofs.links.SctpLinks.hear.Goals.{in-Some-get_mut, in_default-get_mut}
 use Rattle.sctp_links.proofs.links.SctpLinks.hear.Goals as goal

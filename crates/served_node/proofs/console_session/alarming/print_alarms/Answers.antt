@@ -1,7 +1,7 @@
 -- The line of one more place.
 use Rattle.std.proofs.Common.{◌≡◌, ◌<◌, List, ℕ, length, ◌∙◌, ap, subst, arith}
 use Rattle.std.specs.Io.KnownBytes.{Appends}
-use Rattle.node_log.specs.AlarmTexts.{line_at}
+use Rattle.served_link.specs.AlarmTexts.{line_at}
 use Rattle.script.specs.Streams.{AppendsFirst}
 use Rattle.served_node.proofs.Counted.{texts-next, texts-broken}
 use Rattle.script.proofs.Shown.{on-error}

@@ -1,7 +1,7 @@
 -- The lines of the places so far were written.
 use Rattle.std.proofs.Common.{◌≡◌}
 use Rattle.std.specs.Io.KnownBytes.{Appends}
-use Rattle.node_log.specs.AlarmTexts.{line_at}
+use Rattle.served_link.specs.AlarmTexts.{line_at}
 use Rattle.served_node.specs.Counters.{first_texts}
 use Rattle.served_node.proofs.console_session.alarming.print_alarms.Given as goal
 

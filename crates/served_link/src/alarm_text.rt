@@ -1,8 +1,8 @@
 //! The names of alarms, and the lines of those that are raised.
 
 ghost use Rattle.std.specs.Prelude.{◌≡◌, ◌+◌, ◌<◌, ◌≤◌, ◌++◌, decimal, length};
-ghost use Rattle.node_log.specs.AlarmTexts.{alarm_line, alarm_name, destination_name_in, line_at};
-ghost use Rattle.node_log.specs.AlarmTexts.{link_name_in, seconds_text, set_name_in};
+ghost use Rattle.served_link.specs.AlarmTexts.{alarm_line, alarm_name, destination_name_in, line_at};
+ghost use Rattle.served_link.specs.AlarmTexts.{link_name_in, seconds_text, set_name_in};
 
 use crate::alarm::Alarm;
 use crate::alarms::Alarms;
@@ -90,7 +90,7 @@ pub fn alarm_name(
 }
 
 /// The name of a link; nothing if no link has this number.
-pub fn link_name(settings: &Settings, link: LinkId) -> &str
+pub(crate) fn link_name(settings: &Settings, link: LinkId) -> &str
     ensures name { result.now ≡ link_name_in settings.now link }
     ensures fits { length result.now ≤ Limits.NAME_OCTETS }
 {
@@ -101,7 +101,7 @@ pub fn link_name(settings: &Settings, link: LinkId) -> &str
 }
 
 /// The name of a set; nothing if no set has this number.
-pub fn set_name(settings: &Settings, set: SetId) -> &str
+pub(crate) fn set_name(settings: &Settings, set: SetId) -> &str
     ensures name { result.now ≡ set_name_in settings.now set }
     ensures fits { length result.now ≤ Limits.NAME_OCTETS }
 {
@@ -112,7 +112,7 @@ pub fn set_name(settings: &Settings, set: SetId) -> &str
 }
 
 /// The point of a destination; nothing if no destination has this number.
-pub fn destination_name(
+pub(crate) fn destination_name(
     settings: &Settings,
     points: PointFormat,
     destination: u16,

@@ -1,7 +1,7 @@
 //! Times in whole milliseconds and microseconds.
 
 ghost use Rattle.std.specs.Prelude.{◌≡◌};
-ghost use Rattle.sctp_links.specs.Times.{micros_of, millis_of};
+ghost use Rattle.served_link.specs.Times.{micros_of, millis_of};
 
 use std::time::Duration;
 

@@ -1,7 +1,7 @@
 //! Which alarms are raised.
 
 ghost use Rattle.std.specs.Prelude.{◌≡◌, length, IfOk, None, slice_get, slice_index_or};
-ghost use Rattle.node_log.specs.Alarms.{after_look, none_raised, noted, place_of, since_of, turn_at, turn_of};
+ghost use Rattle.served_link.specs.Alarms.{after_look, none_raised, noted, place_of, since_of, change_at, change_of};
 
 use crate::alarm::{Alarm, NEAR_ALARMS};
 use std::alloc::{AllocError, Global};
@@ -9,7 +9,7 @@ use std::marker::Model;
 
 /// What becomes of an alarm.
 #[derive(Clone, Copy, PartialEq, Eq)]
-pub enum Turn {
+pub enum AlarmChange {
     /// It is raised.
     Raised,
     /// It is cleared. It was raised so many milliseconds after the start.
@@ -71,24 +71,24 @@ impl Alarms {
 
     /// What an alarm is about was looked at, so many milliseconds after the start: is it to be raised? Returns what
     /// becomes of it, if anything does. One that has no place is never raised.
-    pub fn note(&mut self, alarm: Alarm, is_on: bool, now_ms: u64) -> Option<Turn>
-        ensures turn { result ≡ turn_at is_on (slice_get self.old (place_of alarm)) }
+    pub fn note(&mut self, alarm: Alarm, is_on: bool, now_ms: u64) -> Option<AlarmChange>
+        ensures change { result ≡ change_at is_on (slice_get self.old (place_of alarm)) }
         ensures noted { self.new ≡ noted alarm is_on now_ms self.old }
     {
         let row = self.since_ms.get_mut(alarm.place())?;
-        let turn = turn_of(is_on, *row);
+        let change = change_of(is_on, *row);
         *row = after_look(is_on, now_ms, *row);
-        turn
+        change
     }
 }
 
 /// What becomes of an alarm that is raised since then, or isn't.
-fn turn_of(is_on: bool, since: Option<u64>) -> Option<Turn>
-    ensures { result ≡ turn_of is_on since }
+fn change_of(is_on: bool, since: Option<u64>) -> Option<AlarmChange>
+    ensures { result ≡ change_of is_on since }
 {
     match since {
-        None if is_on => Some(Turn::Raised),
-        Some(since) if !is_on => Some(Turn::Cleared(since)),
+        None if is_on => Some(AlarmChange::Raised),
+        Some(since) if !is_on => Some(AlarmChange::Cleared(since)),
         _ => None,
     }
 }

@@ -1,8 +1,8 @@
 -- How severe a line of the log is, by its first word, without its time.
 use Rattle.std.specs.Prelude.{ℕ, ◌+◌, Bool, ◌||◌, List, [], ◌∷◌, codes, nat_eq, if◌then◌else◌}
 use Rattle.std.specs.List.{starts_with}
-use Rattle.node_log.specs.declared.severity.Severity.{Severity}
-use Rattle.node_log.specs.declared.severity.Severity.TheVariants.{Warning, Notice, Info, Debug}
+use Rattle.served_link.specs.declared.severity.Severity.{Severity}
+use Rattle.served_link.specs.declared.severity.Severity.TheVariants.{Warning, Notice, Info, Debug}
 
 -- the severities as syslog numbers them (RFC 5424 §6.2.1)
 abbrev pub severity_number : Severity → ℕ

@@ -1,7 +1,7 @@
 //! When the pool of user messages is nearly full.
 
 ghost use Rattle.std.specs.Prelude.{◌≡◌, ◌<◌, ◌^◌};
-ghost use Rattle.node_log.specs.PoolLevel.{is_high};
+ghost use Rattle.served_link.specs.PoolLevel.{is_high};
 
 /// Whether the pool is nearly full: from four fifths on, and then until less than half of it is.
 pub fn is_pool_high(was_high: bool, messages: u32, pool: u32) -> bool

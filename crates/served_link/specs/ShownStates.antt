@@ -1,4 +1,4 @@
--- What is seen of the links, the sets and the destinations of a node.
+-- The states of links and destinations, by what an exchange shows of them.
 use Rattle.std.specs.Prelude.{ℕ, Bool, true, false, ◌&&◌, ◌==◌, List, slice_get, Option, None, Some}
 use Rattle.std.specs.List.{list_any}
 use Rattle.std.specs.Option.{option_map}
@@ -11,17 +11,17 @@ use Rattle.exchange.specs.declared.view.RouteView.{RouteView}
 use Rattle.exchange_rules.specs.Exchange.{wants_of}
 use Rattle.exchange_rules.specs.declared.wants.Wants.{Wants}
 use Rattle.exchange_rules.specs.declared.wants.Wants.TheVariants as wants
-use Rattle.node_log.specs.DestinationStates.{by_sets}
-use Rattle.node_log.specs.declared.destination_states.Access.{Access}
-use Rattle.node_log.specs.declared.destination_states.Access.TheVariants as access
-use Rattle.node_log.specs.declared.destination_states.DestinationState.{DestinationState}
-use Rattle.node_log.specs.declared.link_states.LinkState.{LinkState}
-use Rattle.node_log.specs.declared.link_states.LinkState.TheVariants as state
+use Rattle.served_link.specs.DestinationStates.{by_sets}
+use Rattle.served_link.specs.declared.destination_states.Access.{Access}
+use Rattle.served_link.specs.declared.destination_states.Access.TheVariants as access
+use Rattle.served_link.specs.declared.destination_states.DestinationState.{DestinationState}
+use Rattle.served_link.specs.declared.service_states.ServiceState.{ServiceState}
+use Rattle.served_link.specs.declared.service_states.ServiceState.TheVariants as state
 use Rattle.routes.specs.declared.route.RouteStatus.{RouteStatus}
 use Rattle.routes.specs.declared.route.RouteStatus.TheVariants as status
 
 -- the state of a link that is down, by whether it is barred, whether its changeover lets it restart, and what it wants
-abbrev pub down_state : (is_barred may_restart : Bool) → Wants → LinkState
+abbrev pub down_state : (is_barred may_restart : Bool) → Wants → ServiceState
 down_state true may_restart wanted = state.Barred
 down_state false false wanted = state.ChangingOver
 down_state false true wants.Close = state.Closing
@@ -29,7 +29,7 @@ down_state false true wants.Open = state.Failed
 down_state false true wants.Nothing = state.Deactivated
 
 -- the state of a link, by where it stands, and by the state that it has if it is down
-abbrev pub state_by : LinkStanding → (down : LinkState) → LinkState
+abbrev pub state_by : LinkStanding → (down : ServiceState) → ServiceState
 state_by standing.Down down = down
 state_by standing.NotAligned down = state.Aligning
 state_by standing.Aligned down = state.Aligning
@@ -38,8 +38,8 @@ state_by standing.AlignedReady down = state.Aligning
 state_by standing.InService down = state.InService
 
 -- the state of a link, if there is one
-abbrev pub link_state_in : Kept → (link : ℕ) → Option LinkState
-link_state_in s link =
+abbrev pub service_state_in : Kept → (link : ℕ) → Option ServiceState
+service_state_in s link =
     option_map
     (λ view. state_by view.standing (down_state (is_barred_at s link) (may_restart_at s link) (wants_of s link)))
     (link_view kept s link)

@@ -4,9 +4,9 @@ use Rattle.std.specs.Option.{option_map}
 use Rattle.settings.specs.Configuration.{Configuration}
 use Rattle.settings.specs.Points.{point_text}
 use Rattle.settings.specs.declared.point.PointFormat.{PointFormat}
-use Rattle.node_log.specs.Alarms.{alarm_at}
-use Rattle.node_log.specs.declared.alarm.Alarm.{Alarm}
-use Rattle.node_log.specs.declared.alarm.Alarm.TheVariants as alarm
+use Rattle.served_link.specs.Alarms.{alarm_at}
+use Rattle.served_link.specs.declared.alarm.Alarm.{Alarm}
+use Rattle.served_link.specs.declared.alarm.Alarm.TheVariants as alarm
 
 -- the name of a link or a set, and the point of a destination; nothing if none has this number
 abbrev pub link_name_in : Configuration → ℕ → List ℕ

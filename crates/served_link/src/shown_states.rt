@@ -1,15 +1,16 @@
 //! What is seen of the links and the destinations of a node.
 
 ghost use Rattle.std.specs.Prelude.{◌≡◌};
-ghost use Rattle.served_node.specs.Watching.{access_by, destination_state_in, down_state, link_state_in, state_by};
+ghost use Rattle.served_link.specs.ShownStates.{access_by, destination_state_in, down_state, service_state_in, state_by};
 
+use crate::destination_states::{Access, DestinationState};
+use crate::service_states::ServiceState;
 use exchange::{Exchange, LinkStanding, RouteStatus, Wants};
-use node_log::{Access, DestinationState, LinkState};
-use settings::LinkId;
+use signalling_types::LinkId;
 
 /// The state of a link; None if no link has this number.
-pub(crate) fn link_state(exchange: &Exchange, link: LinkId) -> Option<LinkState>
-    ensures { result ≡ link_state_in exchange.now link }
+pub fn service_state(exchange: &Exchange, link: LinkId) -> Option<ServiceState>
+    ensures { result ≡ service_state_in exchange.now link }
 {
     let view = exchange.link(link)?;
     let is_barred = exchange.is_barred(link);
@@ -19,7 +20,7 @@ pub(crate) fn link_state(exchange: &Exchange, link: LinkId) -> Option<LinkState>
 }
 
 /// The state of a link, by where it stands, and by the state that it has if it is down.
-fn state_by(standing: LinkStanding, down: LinkState) -> LinkState
+fn state_by(standing: LinkStanding, down: ServiceState) -> ServiceState
     ensures { result ≡ state_by standing down }
 {
     match standing {
@@ -27,30 +28,30 @@ fn state_by(standing: LinkStanding, down: LinkState) -> LinkState
         LinkStanding::NotAligned
         | LinkStanding::Aligned
         | LinkStanding::Proving
-        | LinkStanding::AlignedReady => LinkState::Aligning,
-        LinkStanding::InService => LinkState::InService,
+        | LinkStanding::AlignedReady => ServiceState::Aligning,
+        LinkStanding::InService => ServiceState::InService,
     }
 }
 
 /// The state of a link that is down.
-fn down_state(is_barred: bool, may_restart: bool, wants: Wants) -> LinkState
+fn down_state(is_barred: bool, may_restart: bool, wants: Wants) -> ServiceState
     ensures { result ≡ down_state is_barred may_restart wants }
 {
     if is_barred {
-        return LinkState::Barred;
+        return ServiceState::Barred;
     }
     if !may_restart {
-        return LinkState::ChangingOver;
+        return ServiceState::ChangingOver;
     }
     match wants {
-        Wants::Close => LinkState::Closing,
-        Wants::Open => LinkState::Failed,
-        Wants::Nothing => LinkState::Deactivated,
+        Wants::Close => ServiceState::Closing,
+        Wants::Open => ServiceState::Failed,
+        Wants::Nothing => ServiceState::Deactivated,
     }
 }
 
 /// The state of a destination, by its number in the order of the settings; None if none has this number.
-pub(crate) fn destination_state(exchange: &Exchange, number: usize) -> Option<DestinationState>
+pub fn destination_state(exchange: &Exchange, number: usize) -> Option<DestinationState>
     ensures { result ≡ destination_state_in exchange.now number }
 {
     let view = exchange.route(number)?;

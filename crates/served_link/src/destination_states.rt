@@ -1,9 +1,9 @@
 //! The states of destinations as an operator sees them (Q.704 §3.4, §3.6).
 
-ghost use Rattle.std.specs.Prelude.{◌≡◌, IfOk, slice_get, slice_set};
+ghost use Rattle.std.specs.Prelude.{◌≡◌, ◌≤◌, IfOk, length, slice_get, slice_set};
 ghost use Rattle.std.specs.Option.{option_copied};
-ghost use Rattle.node_log.specs.DestinationStates.{access_number, access_words, by_sets, closed, first_destinations};
-ghost use Rattle.node_log.specs.DestinationStates.{former_state, same_destination, set_number, set_of};
+ghost use Rattle.served_link.specs.DestinationStates.{access_number, access_words, by_sets, closed, first_destinations};
+ghost use Rattle.served_link.specs.DestinationStates.{former_state, same_destination, set_number, set_of};
 
 use signalling_types::SetId;
 use std::alloc::{AllocError, Global};
@@ -11,6 +11,9 @@ use std::marker::Model;
 
 /// Numbers of sets.
 const SETS: u16 = 256;
+
+/// Octets of the words of an access, at most.
+const ACCESS_OCTETS: usize = 12;
 
 /// Whether messages to a destination have a way.
 #[derive(Clone, Copy)]
@@ -26,7 +29,8 @@ pub enum Access {
 impl Access {
     /// The same in words.
     pub fn words(self) -> &'static str
-        ensures { result.now ≡ access_words self }
+        ensures words { result.now ≡ access_words self }
+        ensures fits { length result.now ≤ ACCESS_OCTETS }
     {
         match self {
             Access::Accessible => "accessible",
@@ -138,7 +142,7 @@ pub struct DestinationStates {
 
 impl Model for DestinationStates {
     ghost use Rattle.std.specs.Prelude.{List};
-    ghost use Rattle.node_log.specs.declared.destination_states.DestinationState.{DestinationState};
+    ghost use Rattle.served_link.specs.declared.destination_states.DestinationState.{DestinationState};
 
     ghost Value = { List DestinationState };
 

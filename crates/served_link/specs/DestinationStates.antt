@@ -1,9 +1,9 @@
 -- The states of destinations as an operator sees them, and what a look changes.
 use Rattle.std.specs.Prelude.{ℕ, ◌+◌, ◌-◌, Bool, ◌&&◌, ◌||◌, List, codes, replicate, if◌then◌else◌, Option, None, Some, nat_eq, nat_lt, slice_get}
-use Rattle.node_log.specs.declared.destination_states.Access.{Access}
-use Rattle.node_log.specs.declared.destination_states.Access.TheVariants.{Accessible, Restricted, Inaccessible}
-use Rattle.node_log.specs.declared.destination_states.DestinationState.{DestinationState}
-use Rattle.node_log.specs.declared.destination_states.TheConstants.{SETS}
+use Rattle.served_link.specs.declared.destination_states.Access.{Access}
+use Rattle.served_link.specs.declared.destination_states.Access.TheVariants.{Accessible, Restricted, Inaccessible}
+use Rattle.served_link.specs.declared.destination_states.DestinationState.{DestinationState}
+use Rattle.served_link.specs.declared.destination_states.TheConstants.{SETS}
 
 -- the words of a state
 abbrev pub access_words : Access → List ℕ

@@ -2,10 +2,10 @@
 use Rattle.std.proofs.Common.{◌≡◌, ℕ, ◌<◌, Some, refl, arith}
 use Rattle.std.proofs.lemmas.Bool.Decides.{nat_tests}
 use Rattle.std.proofs.lemmas.Grind.{common_steps}
-use Rattle.node_log.specs.Alarms.{IsAlarm, alarm_at, place_of}
-use Rattle.node_log.specs.declared.alarm.Alarm.{Alarm}
-use Rattle.node_log.specs.declared.alarm.Alarm.TheVariants as alarm
-use Rattle.node_log.proofs.laws.alarms_have_their_places.Goals as goal
+use Rattle.served_link.specs.Alarms.{IsAlarm, alarm_at, place_of}
+use Rattle.served_link.specs.declared.alarm.Alarm.{Alarm}
+use Rattle.served_link.specs.declared.alarm.Alarm.TheVariants as alarm
+use Rattle.served_link.proofs.alarm_laws.alarms_have_their_places.Goals as goal
 
 own-place : (a : Alarm) → IsAlarm a → alarm_at (place_of a) ≡ Some a
 own-place alarm.LostAny h = refl

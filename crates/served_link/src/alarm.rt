@@ -1,7 +1,7 @@
 //! What an alarm is about.
 
 ghost use Rattle.std.specs.Prelude.{◌≡◌, ◌+◌, ◌<◌};
-ghost use Rattle.node_log.specs.Alarms.{alarm_at, behind_node, place_of};
+ghost use Rattle.served_link.specs.Alarms.{alarm_at, behind_node, place_of};
 
 use signalling_types::{LinkId, SetId};
 
@@ -9,10 +9,10 @@ use signalling_types::{LinkId, SetId};
 pub const NODE_ALARMS: usize = 5;
 
 /// Numbers of links, and of sets.
-pub const KIND: usize = 256;
+pub const LINK_NUMBERS: usize = 256;
 
 /// Alarms that are about no destination.
-pub const NEAR_ALARMS: usize = NODE_ALARMS + 2 * KIND;
+pub const NEAR_ALARMS: usize = NODE_ALARMS + 2 * LINK_NUMBERS;
 
 /// Numbers of destinations.
 pub const DESTINATION_NUMBERS: usize = 65_536;
@@ -51,7 +51,7 @@ impl Alarm {
             Alarm::Capture => 3,
             Alarm::Behind => 4,
             Alarm::Link(link) => NODE_ALARMS + link.index(),
-            Alarm::Set(set) => NODE_ALARMS + KIND + set.index(),
+            Alarm::Set(set) => NODE_ALARMS + LINK_NUMBERS + set.index(),
             Alarm::Destination(destination) => NEAR_ALARMS + destination as usize,
         }
     }
@@ -74,12 +74,12 @@ impl Alarm {
     fn behind_node(place: usize) -> Option<Alarm>
         ensures { result ≡ behind_node place }
     {
-        if place < KIND {
+        if place < LINK_NUMBERS {
             Some(Alarm::Link(LinkId::new(place as u8)))
-        } else if place < 2 * KIND {
-            Some(Alarm::Set(SetId::new((place - KIND) as u8)))
-        } else if place < 2 * KIND + DESTINATION_NUMBERS {
-            Some(Alarm::Destination((place - 2 * KIND) as u16))
+        } else if place < 2 * LINK_NUMBERS {
+            Some(Alarm::Set(SetId::new((place - LINK_NUMBERS) as u8)))
+        } else if place < 2 * LINK_NUMBERS + DESTINATION_NUMBERS {
+            Some(Alarm::Destination((place - 2 * LINK_NUMBERS) as u16))
         } else {
             None
         }

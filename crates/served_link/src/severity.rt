@@ -1,8 +1,8 @@
 //! How severe a line of the log is.
 
 ghost use Rattle.std.specs.Prelude.{◌≡◌};
-ghost use Rattle.node_log.specs.Severities.{begins, priority_of, severity_number, severity_of};
-ghost use Rattle.node_log.specs.Severities.{tells_a_change, tells_news, warns};
+ghost use Rattle.served_link.specs.Severities.{begins, priority_of, severity_number, severity_of};
+ghost use Rattle.served_link.specs.Severities.{tells_a_change, tells_news, warns};
 
 /// How severe a line of the log is (RFC 5424 §6.2.1).
 #[derive(Clone, Copy, Debug, PartialEq, Eq)]
