@@ -11,6 +11,9 @@ from traffic import FAR, NEAR, Pair
 # In ticks of 50 ms: a changeover ends soon if no link is left, as nobody answers it.
 SOON = {"t1": 4, "t2": 6}
 
+# Proving that lasts longer than from one look to the next.
+PROVING = 10
+
 # Messages of which the pool has room for ten.
 POOL, MANY, FEW = 10, 8, 4
 
@@ -41,7 +44,7 @@ class NodeLog(NodeTest):
         self.assertEqual(node.logged("(alarm|clear|link|set|destination) "), 0)
 
     def test_links_in_service(self) -> None:
-        pair = Pair(self)
+        pair = Pair(self, l4=PROVING)
         for node, adjacent in ((pair.near, FAR), (pair.far, NEAR)):
             for name in pair.names:
                 node.await_log(rf"link {name} aligning after {SECONDS} s failed$")
@@ -130,9 +133,11 @@ class NodeLog(NodeTest):
             caller.write(order[4:] + "\r\n")
             self.assertEqual(caller.read_line(), answer)
             node.await_log(f"order {name} {order}: {answer}$")
+        self.assertEqual(caller.ask("  deactivate  e2 "), ["handled"])
+        node.await_log(f"order {name} deactivate  e2 : handled$")
         caller.ask("show links")
         caller.ask("submit 8501800010010010")
-        self.assertEqual(node.logged("order "), 5)
+        self.assertEqual(node.logged("order "), 6)
         node.stop()
         self.assertEqual(node.logged(rf"order {HOST}:\d+ stop: stopping$"), 1)
 
@@ -144,9 +149,12 @@ class NodeLog(NodeTest):
         node.ask("show flags")
         time.sleep(1.5)
         node.ask("capture stop")
-        node.await_log(r"missed \d+ lines$")
-        missed = sum(int(line.split()[2]) for line in node.log() if re.match(rf"{SECONDS} missed \d+ lines$", line))
-        self.assertEqual(node.logged("order ") + missed, 201)
+
+        def told() -> int:
+            missed = [int(line.split()[2]) for line in node.log() if re.match(rf"{SECONDS} missed \d+ lines$", line)]
+            return node.logged("order ") + sum(missed)
+
+        wait_until(lambda: told() == 201, "201 orders, with those that were missed")
         self.assertLessEqual(node.logged("order "), 3 * 20 + 1)
 
     def test_the_journal(self) -> None:
@@ -158,12 +166,10 @@ class NodeLog(NodeTest):
         there = log.stat()
         environment = {**os.environ, "JOURNAL_STREAM": f"{there.st_dev}:{there.st_ino}"}
         node.start(env=environment)
-        lines = node.log()
-        self.assertTrue(lines)
-        for line in lines:
+        for line in (rf"<5>{SECONDS} start 3 links", rf"<6>{SECONDS} console "):
+            wait_until(lambda: any(re.match(line, it) for it in node.log()), line)
+        for line in node.log():
             self.assertRegex(line, rf"^<[4-7]>{SECONDS} ")
-        self.assertTrue(any(re.match(rf"<5>{SECONDS} start 3 links", line) for line in lines))
-        self.assertTrue(any(re.match(rf"<6>{SECONDS} console ", line) for line in lines))
         node.kill()
         node.start(env={**environment, "JOURNAL_STREAM": f"{there.st_dev}:{there.st_ino + 1}"})
-        self.assertEqual(node.logged("start 3 links"), 1)
+        node.await_log("start 3 links")
