@@ -1,5 +1,5 @@
 -- The states of destinations as an operator sees them, and what a look changes.
-use Rattle.std.specs.Prelude.{ℕ, ◌+◌, ◌-◌, Bool, ◌&&◌, ◌||◌, List, codes, replicate, if◌then◌else◌, Option, None, Some, nat_eq, nat_lt, slice_get}
+use Rattle.std.specs.Prelude.{ℕ, ◌+◌, ◌-◌, Bool, true, false, ◌&&◌, ◌||◌, List, codes, replicate, if◌then◌else◌, Option, None, Some, nat_eq, nat_lt, slice_get}
 use Rattle.served_link.specs.declared.destination_states.Access.{Access}
 use Rattle.served_link.specs.declared.destination_states.Access.TheVariants.{Accessible, Restricted, Inaccessible}
 use Rattle.served_link.specs.declared.destination_states.DestinationState.{DestinationState}
@@ -10,6 +10,12 @@ abbrev pub access_words : Access → List ℕ
 access_words Accessible = codes "accessible"
 access_words Restricted = codes "restricted"
 access_words Inaccessible = codes "inaccessible"
+
+-- whether messages have no way
+abbrev pub is_closed : Access → Bool
+is_closed Accessible = false
+is_closed Restricted = false
+is_closed Inaccessible = true
 
 abbrev pub access_number : Access → ℕ
 access_number Accessible = 0

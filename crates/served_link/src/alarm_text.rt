@@ -50,7 +50,7 @@ fn raised_line(
 {
     let mut line = ArrayString::new();
     line.push_str("alarm ");
-    line.push_str(alarm_name(settings, points, alarm).as_str());
+    line.push_str(alarm_name(settings, points, &alarm).as_str());
     line.push_str(" since ");
     line.push_str(seconds_text(since_ms).as_str());
     line.push_str("\n");
@@ -62,12 +62,12 @@ fn raised_line(
 pub fn alarm_name(
     settings: &Settings,
     points: PointFormat,
-    alarm: Alarm,
+    alarm: &Alarm,
 ) -> ArrayString<NAME_OCTETS>
-    ensures { result.bytes ≡ alarm_name points settings.now alarm }
+    ensures { result.bytes ≡ alarm_name points settings.now alarm.now }
 {
     let mut name = ArrayString::new();
-    match alarm {
+    match *alarm {
         Alarm::LostAny => name.push_str("flag lost_any"),
         Alarm::LateAny => name.push_str("flag late_any"),
         Alarm::Pool => name.push_str("pool"),

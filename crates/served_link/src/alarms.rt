@@ -71,9 +71,9 @@ impl Alarms {
 
     /// What an alarm is about was looked at, so many milliseconds after the start: is it to be raised? Returns what
     /// becomes of it, if anything does. One that has no place is never raised.
-    pub fn note(&mut self, alarm: Alarm, is_on: bool, now_ms: u64) -> Option<AlarmChange>
-        ensures change { result ≡ change_at is_on (slice_get self.old (place_of alarm)) }
-        ensures noted { self.new ≡ noted alarm is_on now_ms self.old }
+    pub fn note(&mut self, alarm: &Alarm, is_on: bool, now_ms: u64) -> Option<AlarmChange>
+        ensures change { result ≡ change_at is_on (slice_get self.old (place_of alarm.now)) }
+        ensures noted { self.new ≡ noted alarm.now is_on now_ms self.old }
     {
         let row = self.since_ms.get_mut(alarm.place())?;
         let change = change_of(is_on, *row);

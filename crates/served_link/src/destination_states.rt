@@ -2,7 +2,7 @@
 
 ghost use Rattle.std.specs.Prelude.{◌≡◌, ◌≤◌, IfOk, length, slice_get, slice_set};
 ghost use Rattle.std.specs.Option.{option_copied};
-ghost use Rattle.served_link.specs.DestinationStates.{access_number, access_words, by_sets, closed, first_destinations};
+ghost use Rattle.served_link.specs.DestinationStates.{access_number, access_words, by_sets, closed, first_destinations, is_closed};
 ghost use Rattle.served_link.specs.DestinationStates.{former_state, same_destination, set_number, set_of};
 
 use signalling_types::SetId;
@@ -37,6 +37,13 @@ impl Access {
             Access::Restricted => "restricted",
             Access::Inaccessible => "inaccessible",
         }
+    }
+
+    /// Whether messages have no way.
+    pub fn is_closed(self) -> bool
+        ensures { result ≡ is_closed self }
+    {
+        matches!(self, Access::Inaccessible)
     }
 
     /// The number of the status.

@@ -126,15 +126,15 @@ fn push_second(settings: &Settings, second: Option<SetId>, text: &mut ArrayStrin
 pub fn alarm_change_line(
     settings: &Settings,
     points: PointFormat,
-    alarm: Alarm,
-    change: AlarmChange,
+    alarm: &Alarm,
+    change: &AlarmChange,
     now_ms: u64,
 ) -> ChangeLine
-    ensures { result.bytes ≡ alarm_change_text points settings.now alarm change now_ms }
+    ensures { result.bytes ≡ alarm_change_text points settings.now alarm.now change.now now_ms }
 {
     let mut line = ChangeLine::new();
     let name = alarm_name(settings, points, alarm);
-    match change {
+    match *change {
         AlarmChange::Raised => {
             line.push_str("alarm ");
             line.push_str(name.as_str());

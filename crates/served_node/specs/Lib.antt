@@ -7,8 +7,8 @@ pub mod Lines
 pub mod LineLimits
 pub mod Listening
 pub mod Logging
+pub mod NodeChanges
 pub mod Naming
 pub mod Observers
 pub mod Progress
 pub mod WholeLines
-pub mod Watching

@@ -1,11 +1,17 @@
 //! What the log says of a node: the changes of its links, its sets and its destinations, and its alarms.
 
+ghost use Rattle.std.specs.Prelude.{◌≡◌, [], is_some, not};
+ghost use Rattle.served_link.specs.DestinationStates.{is_closed};
+ghost use Rattle.served_link.specs.Times.{millis_of};
+ghost use Rattle.served_node.specs.NodeChanges.{TellsEach, after_alarm, after_destination, after_link, alarm_change};
+ghost use Rattle.served_node.specs.NodeChanges.{alarm_texts, destination_texts, link_texts, set_texts};
+
 use crate::log::Log;
 use exchange::Exchange;
 use script::Sink;
 use served_link::times::millis;
 use served_link::{
-    Access, Alarm, Alarms, DestinationState, DestinationStates, ServiceState, ServiceStates,
+    Alarm, Alarms, DestinationState, DestinationStates, ServiceState, ServiceStates,
     alarm_change_line, destination_change_line, destination_state, is_pool_high, link_change_line,
     service_state, set_change_line,
 };
@@ -40,12 +46,18 @@ impl Drop for NodeWatch {
     }
 }
 
-// Which alarms are raised, and what their lines say, is said where a change is noted (`served_link`); that each place is
-// looked at is tested.
 impl Model for NodeWatch {
-    ghost Value = { Unit {0} };
+    ghost use Rattle.served_node.specs.NodeChanges.{Watched};
 
-    ghost view = { λ _. tt };
+    ghost Value = { Watched };
+
+    ghost view = { λ w. record {
+      alarms = w.alarms;
+      links = w.links;
+      destinations = w.destinations;
+      next = w.next;
+      points = w.points;
+    } };
 }
 
 impl NodeWatch {
@@ -77,50 +89,70 @@ impl NodeWatch {
     ) {
         self.look_at_links(exchange, log);
         let settings = exchange.settings();
-        self.note_alarm(settings, Alarm::LostAny, exchange.lost_any(), log);
-        self.note_alarm(settings, Alarm::LateAny, exchange.late_any(), log);
-        self.note_alarm(settings, Alarm::Capture, has_capture_failed, log);
+        self.note_alarm(settings, &Alarm::LostAny, exchange.lost_any(), log);
+        self.note_alarm(settings, &Alarm::LateAny, exchange.late_any(), log);
+        self.note_alarm(settings, &Alarm::Capture, has_capture_failed, log);
         let was_high = self.alarms.since(Alarm::Pool).is_some();
         let is_high = is_pool_high(was_high, messages_in(exchange), settings.pool() as u32);
-        self.note_alarm(settings, Alarm::Pool, is_high, log);
+        self.note_alarm(settings, &Alarm::Pool, is_high, log);
         self.look_at_destinations(exchange, log);
     }
 
-    /// Looks at each link.
+    /// Looks at each link, and at the set of each that changed.
     fn look_at_links<W: Sink>(&mut self, exchange: &Exchange, log: &mut Log<'_, W>) {
-        for k in 0..exchange.settings().link_count() {
+        let settings = exchange.settings();
+        for (k, row) in settings.links().iter().enumerate() {
             let link = LinkId::new(k as u8);
-            if let Some(found) = service_state(exchange, link) {
-                self.note_link(exchange, link, found, log);
+            if let Some(found) = service_state(exchange, link)
+                && self.note_link(settings, link, found, waiting_on(exchange, link), log)
+            {
+                let is_available = self.is_set_available(settings, row.set());
+                self.note_set(settings, row.set(), is_available, log);
             }
         }
     }
 
-    /// A link was found in this state. If that is another one than before, its set is looked at too.
+    /// A link was found in this state, with so many messages that aren't confirmed. Returns whether it was in another
+    /// state before, which the log is told of.
     fn note_link<W: Sink>(
         &mut self,
-        exchange: &Exchange,
+        settings: &Settings,
         link: LinkId,
         found: ServiceState,
+        waiting: usize,
         log: &mut Log<'_, W>,
-    ) {
+    ) -> bool
+        ensures state { self.new ≡ after_link link found (millis_of log.old.now) self.old }
+        ensures told { TellsEach log.old.now
+            (link_texts settings.now link found waiting (millis_of log.old.now) self.old)
+            (W.output log.old.sink.now) (W.output log.new.sink.now) }
+        ensures time { log.new.now ≡ log.old.now }
+    {
         let now_ms = millis(log.now);
         let Some(former) = self.links.note(link, found, now_ms) else {
-            return;
+            return false;
         };
-        let settings = exchange.settings();
-        let waiting = waiting_on(exchange, link);
         log.tell_change(&link_change_line(settings, link, former, found, waiting, now_ms));
-        self.note_alarm(settings, Alarm::Link(link), !found.is_available(), log);
-        if let Some(row) = settings.links().get(link.index()) {
-            self.look_at_set(settings, row.set(), log);
-        }
+        self.note_alarm(settings, &Alarm::Link(link), !found.is_available(), log);
+        true
     }
 
-    /// Looks at a set.
-    fn look_at_set<W: Sink>(&mut self, settings: &Settings, set: SetId, log: &mut Log<'_, W>) {
-        let is_available = self.is_set_available(settings, set);
-        if self.note_alarm(settings, Alarm::Set(set), !is_available, log) {
+    /// A link of this set is in service, or none is. The log is told if that was otherwise before.
+    fn note_set<W: Sink>(
+        &mut self,
+        settings: &Settings,
+        set: SetId,
+        is_available: bool,
+        log: &mut Log<'_, W>,
+    )
+        ensures state { self.new
+            ≡ after_alarm (Alarm.Set set) (not is_available) (millis_of log.old.now) self.old }
+        ensures told { TellsEach log.old.now
+            (set_texts settings.now set is_available (millis_of log.old.now) self.old)
+            (W.output log.old.sink.now) (W.output log.new.sink.now) }
+        ensures time { log.new.now ≡ log.old.now }
+    {
+        if self.note_alarm(settings, &Alarm::Set(set), !is_available, log) {
             log.tell_change(&set_change_line(settings, set, is_available));
         }
     }
@@ -152,20 +184,30 @@ impl NodeWatch {
         }
     }
 
-    /// The destination of this number was found in this state.
+    /// The destination of this number was found in this state. The log is told if it was in another one before.
     fn note_destination<W: Sink>(
         &mut self,
         settings: &Settings,
         number: u16,
         found: DestinationState,
         log: &mut Log<'_, W>,
-    ) {
-        if self.destinations.note(number as usize, found).is_none() {
+    )
+        ensures state { self.new ≡ after_destination number found (millis_of log.old.now) self.old }
+        ensures told { TellsEach log.old.now
+            (destination_texts settings.now number found (millis_of log.old.now) self.old)
+            (W.output log.old.sink.now) (W.output log.new.sink.now) }
+        ensures time { log.new.now ≡ log.old.now }
+    {
+        let Some(_former) = self.destinations.note(number as usize, found) else {
             return;
-        }
+        };
         log.tell_change(&destination_change_line(settings, self.points, number, found));
-        let is_closed = matches!(found.access(), Access::Inaccessible);
-        self.note_alarm(settings, Alarm::Destination(number), is_closed, log);
+        self.note_alarm(
+            settings,
+            &Alarm::Destination(number),
+            has_no_way(found),
+            log,
+        );
     }
 
     /// More ticks are due than a round can let pass, or no longer.
@@ -174,25 +216,44 @@ impl NodeWatch {
         settings: &Settings,
         is_behind: bool,
         log: &mut Log<'_, W>,
-    ) {
-        self.note_alarm(settings, Alarm::Behind, is_behind, log);
+    )
+        ensures state { self.new ≡ after_alarm Alarm.Behind is_behind (millis_of log.old.now) self.old }
+        ensures told { TellsEach log.old.now
+            (alarm_texts self.old.points settings.now Alarm.Behind (alarm_change Alarm.Behind is_behind self.old)
+            (millis_of log.old.now) []) (W.output log.old.sink.now) (W.output log.new.sink.now) }
+    {
+        self.note_alarm(settings, &Alarm::Behind, is_behind, log);
     }
 
     /// What an alarm is about was looked at. The log is told if it is raised or cleared. Returns whether it is.
     fn note_alarm<W: Sink>(
         &mut self,
         settings: &Settings,
-        alarm: Alarm,
+        alarm: &Alarm,
         is_on: bool,
         log: &mut Log<'_, W>,
-    ) -> bool {
+    ) -> bool
+        ensures state { self.new ≡ after_alarm alarm.now is_on (millis_of log.old.now) self.old }
+        ensures told { TellsEach log.old.now
+            (alarm_texts self.old.points settings.now alarm.now (alarm_change alarm.now is_on self.old) (millis_of log.old.now) [])
+            (W.output log.old.sink.now) (W.output log.new.sink.now) }
+        ensures changed { result ≡ is_some (alarm_change alarm.now is_on self.old) }
+        ensures time { log.new.now ≡ log.old.now }
+    {
         let now_ms = millis(log.now);
         let Some(change) = self.alarms.note(alarm, is_on, now_ms) else {
             return false;
         };
-        log.tell_change(&alarm_change_line(settings, self.points, alarm, change, now_ms));
+        log.tell_change(&alarm_change_line(settings, self.points, alarm, &change, now_ms));
         true
     }
+}
+
+/// Whether messages to a destination in this state have no way.
+fn has_no_way(state: DestinationState) -> bool
+    ensures { result ≡ is_closed state.access }
+{
+    state.access().is_closed()
 }
 
 /// The alarms as a node starts.
@@ -200,13 +261,13 @@ fn first_alarms(alloc: Global, settings: &Settings) -> Result<Alarms, AllocError
     let destinations = settings.destinations().len() as u16;
     let mut alarms = Alarms::new(alloc, destinations)?;
     for k in 0..settings.link_count() {
-        alarms.note(Alarm::Link(LinkId::new(k as u8)), true, 0);
+        alarms.note(&Alarm::Link(LinkId::new(k as u8)), true, 0);
     }
     for k in 0..settings.sets().len() {
-        alarms.note(Alarm::Set(SetId::new(k as u8)), true, 0);
+        alarms.note(&Alarm::Set(SetId::new(k as u8)), true, 0);
     }
     for destination in 0..destinations {
-        alarms.note(Alarm::Destination(destination), true, 0);
+        alarms.note(&Alarm::Destination(destination), true, 0);
     }
     Ok(alarms)
 }
