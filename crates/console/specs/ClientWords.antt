@@ -31,6 +31,7 @@ client_word word.Losses = codes "losses"
 client_word word.Reroutings = codes "reroutings"
 client_word word.Counters = codes "counters"
 client_word word.Version = codes "version"
+client_word word.Alarms = codes "alarms"
 
 -- what a line of this command must be
 abbrev pub form : ClientWord → List ℕ

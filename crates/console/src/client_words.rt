@@ -50,6 +50,8 @@ pub enum ClientWord {
     Counters,
     /// `version`
     Version,
+    /// `alarms`
+    Alarms,
 }
 
 /// The words that a line begins with.
@@ -81,6 +83,7 @@ pub(crate) const TEXTS: &[ClientWord] = &[
     ClientWord::Counters,
     ClientWord::Capture,
     ClientWord::Version,
+    ClientWord::Alarms,
 ];
 
 impl ClientWord {
@@ -112,6 +115,7 @@ impl ClientWord {
             ClientWord::Reroutings => "reroutings",
             ClientWord::Counters => "counters",
             ClientWord::Version => "version",
+            ClientWord::Alarms => "alarms",
         }
     }
 

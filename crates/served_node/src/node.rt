@@ -104,7 +104,7 @@ impl Node {
         let mut context = ConsoleContext {
             exchange,
             counters,
-            alarms: &watch.alarms,
+            alarms: watch.alarms(),
             points: *points,
             captured,
         };

@@ -24,8 +24,7 @@ const DESTINATIONS_A_TICK: usize = 512;
 
 /// What was last seen of a node, and which alarms are raised.
 pub struct NodeWatch {
-    /// Which alarms are raised.
-    pub alarms: Alarms,
+    alarms: Alarms,
     links: ServiceStates,
     destinations: DestinationStates,
     /// The number of the destination at which the next look begins.
@@ -77,6 +76,13 @@ impl NodeWatch {
             next: 0,
             points,
         })
+    }
+
+    /// Which alarms are raised.
+    pub fn alarms(&self) -> &Alarms
+        ensures { result.now ≡ self.now.alarms }
+    {
+        &self.alarms
     }
 
     /// Looks at each link, and at the set of each that changed; at the flags, the pool, and whether the capture failed;
