@@ -165,12 +165,15 @@ impl ClientSocket {
         let order = order_in(self.client.line(), octets);
         let waiting = self.client.pending().len();
         let (count, ending) = self.client.read(octets, context);
+        let is_whole = octets.get(..count).unwrap_or(&[]).ends_with(b"\n");
         self.start = self.start.saturating_add(count);
         self.obey(ending);
         if ending == Ending::Leaves {
             self.leave();
         }
-        if let Some(order) = order {
+        if let Some(order) = order
+            && is_whole
+        {
             self.tell_order(&order, waiting, log);
         }
         ending == Ending::Stops

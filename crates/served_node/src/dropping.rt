@@ -7,7 +7,8 @@ use crate::log_output::{LogOutput, SlowTerminal};
 use crate::socket::Progress;
 use arrayvec::ArrayString;
 use script::{Sink, WriteFailed};
-use served_link::Severity;
+use served_link::times::millis;
+use served_link::{Severity, seconds_text};
 use std::alloc::AllocError;
 use std::fmt::Write;
 use std::time::Duration;
@@ -49,8 +50,8 @@ impl From<SlowTerminal> for LogFault {
 }
 
 /// A log over standard output. Its lines wait until the next flush, which makes one write of them. A line is dropped if
-/// too many wait, since the reader is slow, if the second has had enough lines of its kind, or if its write fails. The
-/// next line that is taken follows one that says how many were missed.
+/// too many wait, since the reader is slow, if the second has had enough lines of its kind, or if its write fails. How
+/// many were missed is told as the next second begins, or before the next line that is taken.
 pub struct DroppingLog<'a, W> {
     output: LogOutput<'a, W>,
     waiting: Vec<u8>,
@@ -92,11 +93,12 @@ impl<'a, W: Sink> DroppingLog<'a, W> {
     }
 
     /// Makes one write of the lines that wait, as far as they are taken at once. It is `now` since the start, and each
-    /// second may have as many lines as the one before.
+    /// second may have as many lines as the one before. As one begins, the lines that were missed are told.
     pub fn flush(&mut self, now: Duration) {
         if now.as_secs() != self.second {
             self.second = now.as_secs();
             self.limits.begin_second();
+            self.tell_missed(seconds_text(millis(now)).as_str());
         }
         self.write_waiting();
     }
@@ -141,13 +143,12 @@ impl<'a, W: Sink> DroppingLog<'a, W> {
             && self.waiting.extend_from_slice(line).is_ok()
     }
 
-    /// Tells how many lines were missed, with the time of a further line, if some were. False if there is no room.
-    fn tell_missed(&mut self, further: &[u8]) -> bool {
+    /// Tells how many lines were missed by this time, if some were. False if there is no room.
+    fn tell_missed(&mut self, time: &str) -> bool {
         if self.missed == 0 {
             return true;
         }
         let missed = self.missed;
-        let time = str::from_utf8(time_of(further)).unwrap_or("");
         let mut line = ArrayString::<LINE_OCTETS>::new();
         let _fits = writeln!(line, "{time} missed {missed} lines");
         let is_held = self.hold(line.as_bytes());
@@ -166,7 +167,7 @@ impl<W: Sink> Sink for DroppingLog<'_, W> {
 
     fn write(&mut self, octets: &[u8]) -> Result<(), WriteFailed> {
         let is_told = self.limits.admits(kind_of(octets))
-            && self.tell_missed(octets)
+            && self.tell_missed(str::from_utf8(time_of(octets)).unwrap_or(""))
             && self.hold(octets);
         if !is_told {
             self.missed = self.missed.saturating_add(1);

@@ -32,11 +32,13 @@ pub(crate) fn without_time(line: &[u8]) -> &[u8] {
 }
 
 /// The words that tell the kind: the first and the link, if there is one; of a notice also what it tells of, and why;
-/// of an alarm what it is about, but for the destination.
+/// of an alarm what it is about, but for the destination; of an order who gave it, and its first word.
 fn kind_words(text: &[u8]) -> &[u8] {
     match words(text, 1) {
         b"notice" => words(text, 5),
-        b"caller" | b"missed" | b"destination" | b"order" => words(text, 1),
+        b"caller" | b"missed" | b"destination" => words(text, 1),
+        b"order" if words(text, 2) == b"order local".as_slice() => words(text, 4),
+        b"order" => words(text, 3),
         b"alarm" | b"clear" if !is_of_destination(words(text, 2)) => words(text, 3),
         _ => words(text, 2),
     }

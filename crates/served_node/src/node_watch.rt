@@ -85,8 +85,8 @@ impl NodeWatch {
         &self.alarms
     }
 
-    /// Looks at each link, and at the set of each that changed; at the flags, the pool, and whether the capture failed;
-    /// and at the next destinations. The log is told of changes, and of alarms that are raised or cleared.
+    /// Looks at each link, and if one changed at each set; at the flags, the pool, and whether the capture failed; and at
+    /// the next destinations. The log is told of changes, and of alarms that are raised or cleared.
     pub(crate) fn look<W: Sink>(
         &mut self,
         exchange: &Exchange,
@@ -104,17 +104,28 @@ impl NodeWatch {
         self.look_at_destinations(exchange, log);
     }
 
-    /// Looks at each link, and at the set of each that changed.
+    /// Looks at each link, and then, if one changed, at each set.
     fn look_at_links<W: Sink>(&mut self, exchange: &Exchange, log: &mut Log<'_, W>) {
         let settings = exchange.settings();
-        for (k, row) in settings.links().iter().enumerate() {
+        let mut has_changed = false;
+        for k in 0..settings.link_count() {
             let link = LinkId::new(k as u8);
-            if let Some(found) = service_state(exchange, link)
-                && self.note_link(settings, link, found, waiting_on(exchange, link), log)
-            {
-                let is_available = self.is_set_available(settings, row.set());
-                self.note_set(settings, row.set(), is_available, log);
+            if let Some(found) = service_state(exchange, link) {
+                let waiting = waiting_on(exchange, link);
+                has_changed |= self.note_link(settings, link, found, waiting, log);
             }
+        }
+        if has_changed {
+            self.look_at_sets(settings, log);
+        }
+    }
+
+    /// Looks at each set.
+    fn look_at_sets<W: Sink>(&mut self, settings: &Settings, log: &mut Log<'_, W>) {
+        for k in 0..settings.sets().len() {
+            let set = SetId::new(k as u8);
+            let is_available = self.is_set_available(settings, set);
+            self.note_set(settings, set, is_available, log);
         }
     }
 

@@ -3,7 +3,7 @@
 use arrayvec::{ArrayString, ArrayVec};
 
 /// Octets of an order that the log shows, at most.
-const ORDER_OCTETS: usize = 120;
+const ORDER_OCTETS: usize = 160;
 
 /// An order, as the log shows it.
 pub(crate) type OrderLine = ArrayString<ORDER_OCTETS>;
@@ -25,17 +25,19 @@ pub(crate) fn order_in(begun: &[u8], octets: &[u8]) -> Option<OrderLine> {
     push_all(&mut line, begun);
     let end = octets.iter().position(|octet| *octet == b'\n')?;
     push_all(&mut line, octets.get(..end)?);
-    let order = from_first_word(line.as_slice());
-    if is_order(first_word(order)) {
-        Some(shown(order))
+    if is_order(first_word(line.as_slice())) {
+        Some(shown(line.as_slice()))
     } else {
         None
     }
 }
 
-/// Appends octets, as far as there is room.
+/// Appends octets, but for blanks in front of all others, as far as there is room.
 fn push_all(line: &mut ArrayVec<u8, ORDER_OCTETS>, octets: &[u8]) {
     for octet in octets {
+        if line.is_empty() && *octet == b' ' {
+            continue;
+        }
         if line.try_push(*octet).is_err() {
             return;
         }
@@ -50,16 +52,6 @@ fn is_order(word: &[u8]) -> bool {
         }
     }
     false
-}
-
-/// A line without the blanks before its first word.
-fn from_first_word(line: &[u8]) -> &[u8] {
-    for (k, octet) in line.iter().enumerate() {
-        if *octet != b' ' {
-            return line.get(k..).unwrap_or(line);
-        }
-    }
-    &[]
 }
 
 /// A line up to its first blank, or the end.
