@@ -15,6 +15,11 @@ pub mod Reading
 pub mod Sentences
 pub mod Values
 pub mod KnownKeys
+pub mod Mended
+pub mod Following
+pub mod AllFaults
+pub mod TextPlaces
+pub mod PlacedSentences
 pub mod Warnings
 pub mod ServeKeys
 pub mod ServeFaults
@@ -30,3 +35,4 @@ pub mod Served
 pub mod ServedInside
 pub mod CaptureKeys
 pub mod ServeReading
+pub mod Doubts

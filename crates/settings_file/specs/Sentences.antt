@@ -54,6 +54,12 @@ key_of fault.Version = Some Version
 key_of (fault.Draft NoMemory) = None
 key_of (fault.Draft (At kind key)) = Some key
 
+-- texts, one behind another: one for each of these, in their order
+abbrev pub AreEach : {A : Type 0} → (A → List ℕ → Type 0) → List A → (texts : List ℕ) → Type 0
+AreEach Is [] texts = texts ≡ []
+AreEach Is (a ∷ rest) texts =
+    (first : List ℕ) × (more : List ℕ) × Is a first × AreEach Is rest more × (texts ≡ first ++ more)
+
 -- a sentence names the file
 pub record Names (file sentence : List ℕ) : Type 0 where
   pub rest : List ℕ

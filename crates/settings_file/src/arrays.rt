@@ -85,7 +85,7 @@ fn destination(
 
 /// The subsystem number of a translation row, which a route by subsystem number needs.
 #[tactic(auto, unfolding(crate::specs::Entries::ssn_at))]
-fn ssn(table: &Table, i: usize, route: &str) -> Result<Option<i64>, SettingsFault>
+pub(crate) fn ssn(table: &Table, i: usize, route: &str) -> Result<Option<i64>, SettingsFault>
     ensures { result ≡ ssn_at i route.now (table_view table.now) }
 {
     let key = Key::TitleSsn(i);

@@ -1,7 +1,7 @@
 //! The keys of a settings file: where each is, and what its value must be.
 
 ghost use Rattle.std.specs.Prelude.{◌≡◌, None, Some, []};
-ghost use Rattle.settings.specs.Keys.{key_index};
+ghost use Rattle.settings.specs.Keys.{key_front, key_index};
 ghost use Rattle.settings_file.specs.Places.{key_place, row_place, behind_table, name_at, key_name};
 
 use settings::{Key, TimerKey};
@@ -106,6 +106,20 @@ pub(crate) fn key_name(key: Key) -> &'static str
     ensures { result.now ≡ key_name key }
 {
     key_row(key).written()
+}
+
+/// How a key is written; of a key in an entry of an array, how the array is.
+pub(crate) fn key_front(key: Key) -> &'static str
+    ensures { result.now ≡ key_front key }
+{
+    key_row(key).front
+}
+
+/// The index of the entry of an array that a key is in.
+pub(crate) fn key_entry(key: Key) -> Option<usize>
+    ensures { result ≡ key_index key }
+{
+    key_row(key).entry
 }
 
 pub(crate) fn key_row(key: Key) -> KeyRow

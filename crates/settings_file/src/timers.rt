@@ -50,7 +50,7 @@ pub(crate) struct UsualTimes {
 }
 
 /// The times that the standards have, at 64 kbit/s (Q.703 §12.3, Q.704 §16.8, Q.707 §5.5).
-const USUAL: UsualTimes = UsualTimes {
+pub(crate) const USUAL: UsualTimes = UsualTimes {
     l1: 45_000,
     l2: 20_000,
     l3: 1_600,
@@ -107,7 +107,7 @@ fn usual_ticks(clock: Option<u16>, timer: TimerKey, usual_ms: u32) -> Result<i64
 
 /// The ticks that a timer runs.
 #[tactic(auto, unfolding(crate::specs::Timers::ticks_at))]
-fn ticks(
+pub(crate) fn ticks(
     clock: Option<u16>,
     table: Option<&Table>,
     timer: TimerKey,
@@ -124,7 +124,7 @@ fn ticks(
 
 /// The ticks that a timer runs that there may not be. If the file's version doesn't have its key it is ignored.
 #[tactic(auto, unfolding(crate::specs::Timers::optional_ticks_at))]
-fn optional_ticks(
+pub(crate) fn optional_ticks(
     has_key: bool,
     clock: Option<u16>,
     table: Option<&Table>,
@@ -144,7 +144,7 @@ fn optional_ticks(
 }
 
 /// Whether a timer has a key in the table of timers.
-fn has_timer(table: Option<&Table>, timer: TimerKey) -> bool
+pub(crate) fn has_timer(table: Option<&Table>, timer: TimerKey) -> bool
     ensures { result ≡ has_timer timer (option_map (λ table. table_view table.now) table.entry) }
 {
     timer_found(table, timer).is_some()
@@ -203,7 +203,10 @@ fn timers_in(
 
 /// The table of timers, which a file that has durations may leave out.
 #[tactic(auto, unfolding(crate::specs::Timers::table_at))]
-fn timer_table(clock: Option<u16>, document: &Table) -> Result<Option<&Table>, SettingsFault>
+pub(crate) fn timer_table(
+    clock: Option<u16>,
+    document: &Table,
+) -> Result<Option<&Table>, SettingsFault>
     ensures { Answers (λ table. option_map (λ table. table_view table.now) table)
         (table_at clock (table_view document.now)) result }
 {

@@ -1,0 +1,6 @@
+use Rattle.settings_file.proofs.Basics.{string_bytes}
+use Rattle.settings_file.proofs.Noting.{empty-made}
+use Rattle.settings_file.proofs.faults.owned.added_or_empty.Goals as goal
+
+pub returns : goal.returns
+returns c = empty-made (λ text. string_bytes text) _ c.optional_text.result _ c.or_empty.result c.new-empty.ensures.bytes c.optional_text.ensures c.or_empty.ensures.value c.or_empty.ensures.memory

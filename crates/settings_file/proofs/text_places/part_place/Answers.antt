@@ -1,0 +1,9 @@
+use Rattle.settings_file.proofs.Placing.{part-of, part-stands}
+use Rattle.settings_file.proofs.text_places.part_place.Goals as goal
+
+pub returns : goal.returns
+returns c =
+    part-stands c.args.text.now c.args.path.now c.in_ok-word.word.now c.place_of.result
+    (part-of c.args.path.now c.in_ok-behind.behind.now c.in_ok-word.word.now c.args.part.from c.args.part.len
+    c.in_ok-behind.ensures.cases.2 c.in_ok-word.ensures.cases.1 c.if-is_empty.ensures)
+    c.place_of.ensures
