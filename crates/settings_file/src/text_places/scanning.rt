@@ -45,7 +45,7 @@ enum Mode {
     Value,
     /// In the quotes that a text begins with.
     Opening,
-    /// In a text on one line.
+    /// In a text on one line, which is a value or a part of a key.
     Text,
     /// In a text that may have several lines.
     LongText,
@@ -77,6 +77,8 @@ pub(crate) struct Scanner {
     quotes: usize,
     /// Whether the octet before was a backslash.
     escaped: bool,
+    /// Where the scan goes on behind a text on one line, and behind a comment in braces or brackets.
+    next: Mode,
 }
 
 impl Scanner {
@@ -100,6 +102,7 @@ impl Scanner {
             quote: b'"',
             quotes: 0,
             escaped: false,
+            next: Mode::Begin,
         }
     }
 
@@ -122,7 +125,11 @@ impl Scanner {
     fn begin(&mut self, octet: u8, at: usize) -> Option<Word> {
         match octet {
             b' ' | b'\t' | b'\r' | b'\n' => {}
-            b'#' => self.mode = Mode::Comment,
+            b'#' => self.pass_by(Mode::Begin),
+            b'"' | b'\'' => {
+                self.start = at;
+                self.quote(octet, Mode::Key);
+            }
             b'[' if self.inline == 0 => {
                 self.mode = Mode::Header;
                 self.header = WordKind::Table;
@@ -147,8 +154,12 @@ impl Scanner {
                 self.start = at.saturating_add(1);
                 None
             }
+            b'"' | b'\'' => {
+                self.quote(octet, Mode::Header);
+                None
+            }
             b']' => {
-                self.mode = Mode::Comment;
+                self.pass_by(Mode::Begin);
                 Some(self.word(self.header, at))
             }
             b'\n' => {
@@ -171,12 +182,30 @@ impl Scanner {
                 }
                 Some(word)
             }
+            b'"' | b'\'' => {
+                self.quote(octet, Mode::Key);
+                None
+            }
             b'\n' => {
                 self.mode = Mode::Begin;
                 None
             }
             _ => None,
         }
+    }
+
+    /// A text on one line begins with this quote. Behind it the scan goes on there.
+    fn quote(&mut self, quote: u8, next: Mode) {
+        self.mode = Mode::Text;
+        self.quote = quote;
+        self.escaped = false;
+        self.next = next;
+    }
+
+    /// What is ignored begins, up to the end of the line. Behind it the scan goes on there, if braces or brackets are open.
+    fn pass_by(&mut self, next: Mode) {
+        self.mode = Mode::Comment;
+        self.next = next;
     }
 
     /// The word from where it began.
@@ -207,7 +236,7 @@ impl Scanner {
             b']' | b'}' => self.depth = self.depth.saturating_sub(1),
             b',' if self.inline > 0 && self.inline == self.depth => self.mode = Mode::Begin,
             b',' if self.depth == 1 => self.entry = self.entry.saturating_add(1),
-            b'#' => self.mode = Mode::Comment,
+            b'#' => self.pass_by(Mode::Value),
             b'\n' if self.depth == 0 => self.end_value(),
             _ => {}
         }
@@ -267,7 +296,7 @@ impl Scanner {
             self.mode = Mode::Value;
             return self.value(octet, at);
         }
-        self.mode = Mode::Text;
+        self.quote(self.quote, Mode::Value);
         self.text(octet)
     }
 
@@ -277,7 +306,7 @@ impl Scanner {
         } else if octet == b'\\' && self.quote == b'"' {
             self.escaped = true;
         } else if octet == self.quote {
-            self.mode = Mode::Value;
+            self.mode = self.next;
         }
         None
     }
@@ -305,7 +334,7 @@ impl Scanner {
             if self.depth == 0 {
                 self.end_value();
             } else {
-                self.mode = Mode::Value;
+                self.mode = self.next;
             }
         }
         None

@@ -33,6 +33,8 @@ pub(crate) struct Seeker<'a> {
     outer: Option<&'static str>,
     /// Whether no header came yet.
     is_first: bool,
+    /// Whether the scan is in braces.
+    in_braces: bool,
     /// How many headers of entries of the array came.
     entries: usize,
     /// Where the last name of the path stands.
@@ -68,6 +70,7 @@ impl<'a> Seeker<'a> {
             left,
             outer: None,
             is_first: true,
+            in_braces: false,
             entries: 0,
             found: None,
             around: None,
@@ -87,7 +90,7 @@ impl<'a> Seeker<'a> {
             WordKind::Entry => self.look_at_entry(name, at),
             WordKind::InlineTable => self.enter_table(name),
             WordKind::InlineEntry => self.enter_entry(name, word),
-            WordKind::Closed => self.left = self.outer,
+            WordKind::Closed => self.leave(),
         }
     }
 
@@ -111,7 +114,7 @@ impl<'a> Seeker<'a> {
     }
 
     fn look_at_key(&mut self, name: &[u8], at: usize) {
-        if self.is_array(name) {
+        if self.is_array(name) && !self.in_braces {
             self.around = Some(Around::Named(self.front(name, at)));
         }
         let Some(left) = self.left else {
@@ -175,6 +178,7 @@ impl<'a> Seeker<'a> {
     /// The braces of the table of this key open.
     fn enter_table(&mut self, name: &[u8]) {
         self.outer = self.left;
+        self.in_braces = true;
         self.left = match (self.row.entry, self.left) {
             (None, Some(left)) => behind(left, name),
             _ => None,
@@ -184,11 +188,18 @@ impl<'a> Seeker<'a> {
     /// The braces of an entry of the array of this key open.
     fn enter_entry(&mut self, name: &[u8], word: Word) {
         self.outer = self.left;
+        self.in_braces = true;
         self.left = None;
         if self.is_array(name) && self.row.entry == Some(word.entry) {
             self.left = Some(self.row.name);
             self.around = Some(Around::Braces(word.at));
         }
+    }
+
+    /// The braces close.
+    fn leave(&mut self) {
+        self.left = self.outer;
+        self.in_braces = false;
     }
 
     /// The path ends with this name, or with its last part.
