@@ -1,6 +1,6 @@
 -- What the texts of a console are to its client.
 use Rattle.std.proofs.Common.{◌≡◌, ℕ, zero, suc, List, [], ◌∷◌, ◌++◌, Bool, true, false, Option, None, Some, refl, ap, arith, length, inl, inr}
-use Rattle.std.specs.Prelude.{codes, decimal, nat_eq, nat_le, ◌||◌, take, if◌then◌else◌}
+use Rattle.std.specs.Prelude.{codes, decimal, nat_eq, nat_le, ◌||◌, take}
 use Rattle.std.specs.Fmt.{digits}
 use Rattle.std.proofs.lemmas.Bool.Decides.{nat_tests}
 use Rattle.std.proofs.lemmas.Bool.{leb-true}
@@ -26,7 +26,7 @@ use Rattle.served_node.specs.declared.console_session.client.Ending.{Ending}
 use Rattle.served_node.specs.declared.console_session.client.Ending.TheVariants.{Stays, Closes, Leaves, Stops}
 use Rattle.served_node.specs.declared.captured_links.CaptureOrder.{CaptureOrder}
 use Rattle.served_node.specs.declared.console_session.help.TheConstants.{HELP}
-use Rattle.program.specs.ConsoleLaws.{Answers, IsMalformedAnswer, IsSaid, IsHelp, IsOrderAnswer, LinesAnswer, IsNone, ShownAnswersNone, outcomes_answer}
+use Rattle.program.specs.ConsoleLaws.{Answers, IsMalformedAnswer, IsSaid, IsHelp, IsOrderAnswer, LinesAnswer, IsNone, AnswersNone, ShownAnswersNone, outcomes_answer}
 
 -- a line without anything unknown is judged by computing
 pub judged : (refuses closes_first closes : Bool) (line : List ℕ) → nat_le (length line) 64 ≡ true → is_answer line ≡ true → is_refusal line ≡ refuses
@@ -117,9 +117,9 @@ malformed : (why : List ℕ) → IsMalformedAnswer (codes "malformed: " ++ (why 
 malformed why = record { line = codes "malformed: " ++ why; whole = refl; answers = refl; says = refl; first = refl; later = refl }
 
 malformed-said : (points : PointFormat) (line : List ℕ) (is_first : Bool) (ending : Ending) (old new : ClientState) → IsRefused points line is_first ending old new → IsSaid IsMalformedAnswer old new
-malformed-said points line is_first Stays old new (late, lacks_memory, is) = inr (_, malformed _, is)
+malformed-said points line is_first Stays old new (late, (lacks_memory, is)) = inr (_, malformed _, is)
 malformed-said points line is_first Closes old new (inl full) = inl full
-malformed-said points line is_first Closes old new (inr (first, lacks_memory, is)) = inr (_, malformed _, is)
+malformed-said points line is_first Closes old new (inr (first, (lacks_memory, is))) = inr (_, malformed _, is)
 malformed-said points line is_first Leaves old new refused = absurd refused
 malformed-said points line is_first Stops old new refused = absurd refused
 
@@ -187,6 +187,9 @@ reroutings : (s : Kept) (k : ℕ) (line : List ℕ) → rerouting_line s k ≡ S
 reroutings s zero line e = there _ line refl e
 reroutings s (suc k) line e = cc e
 
+version : AnswersNone (codes "stp 0.1.0\n")
+version = record { line = codes "stp 0.1.0"; whole = refl; none = refl }
+
 pub shown : ShownAnswersNone
 shown = record {
   links = λ name v is_barred. refl;
@@ -199,7 +202,7 @@ shown = record {
   reroutings = reroutings;
   counters = λ counter name value. refl;
   datagrams = λ name value. refl;
-  version = (codes "stp 0.1.0", refl, refl);
+  version = λ is_first counters captured captured_after ending s after old new does. told-said AnswersNone _ Stays ending old new version does.2;
   captured = captured-lines;
   alarms = λ points c alarm since. refl;
 }

@@ -19,11 +19,10 @@ use Rattle.served_link.specs.AlarmTexts.{alarm_line}
 use Rattle.served_link.specs.declared.alarm.Alarm.{Alarm}
 use Rattle.served_node.specs.Captured.{Captured, captured_line}
 use Rattle.served_node.specs.Clients.{ClientState, told_of, untold}
-use Rattle.served_node.specs.Lines.{Heard as Line, HearsUsers, HearsNotices, HearsFrames, HearsHelp, HearsQuit, HearsStop}
+use Rattle.served_node.specs.Lines.{Heard as Line, HearsUsers, HearsNotices, HearsFrames, HearsHelp, HearsQuit, HearsStop, HearsVersion}
 use Rattle.served_node.specs.Lines.{HearsCapture, HearsNoLine}
 use Rattle.served_node.specs.WholeLines.{DoesHeard, Shown, answered, unanswered}
 use Rattle.served_node.specs.declared.console_session.client.Ending.{Ending}
-use Rattle.served_node.specs.declared.console_session.client.TheConstants.{VERSION}
 use Rattle.served_node.specs.declared.console_session.client.News.TheVariants as news
 use Rattle.program.specs.ConsoleAnswers.{blanks, is_answer, is_last, is_refusal, read, nothing}
 
@@ -100,6 +99,12 @@ pub record LinesAnswer : Type 0 where
 abbrev pub IsNone : List ℕ → Type 0
 IsNone line = is_answer (take 64 line) ≡ false
 
+-- a text is a line that answers none
+pub record AnswersNone (text : List ℕ) : Type 0 where
+  pub line : List ℕ
+  pub whole : text ≡ line ++ 10 ∷ []
+  pub none : IsNone line
+
 -- what is shown, and notices, answer none
 pub record ShownAnswersNone : Type 0 where
   pub links : (name : List ℕ) (v : LinkView) (is_barred : Bool) → IsNone (link_text name v is_barred)
@@ -112,7 +117,7 @@ pub record ShownAnswersNone : Type 0 where
   pub reroutings : (s : Kept) (k : ℕ) (line : List ℕ) → rerouting_line s k ≡ Some line → IsNone line
   pub counters : (counter : Counter) (name : List ℕ) (value : ℕ) → IsNone (counter_line counter name value)
   pub datagrams : (name : List ℕ) (value : ℕ) → IsNone (datagram_line name value)
-  pub version : (line : List ℕ) × (VERSION.now ≡ line ++ 10 ∷ []) × IsNone line
+  pub version : Says HearsVersion (λ old. old) AnswersNone
   pub captured : (name : List ℕ) (is_on : Bool) → IsNone (captured_line name is_on)
   pub alarms : (points : PointFormat) (c : Configuration) (alarm : Alarm) (since : ℕ)
       → IsNone (alarm_line points c alarm since)
