@@ -14,8 +14,9 @@ use Rattle.settings.specs.declared.key.TimerKey.TheVariants.{Slt1, Slt2, L4e, Ss
 use Rattle.settings.specs.declared.timer_ticks.TimerTicks.{TimerTicks}
 use Rattle.settings_file.specs.KnownKeys.{has_fourth}
 use Rattle.settings_file.specs.Sentences.{IsAbout, AreEach}
-use Rattle.settings_file.specs.ServeReading.{is_of_server}
-use Rattle.settings_file.specs.Ticks.{clock_of, ticks_lasting}
+use Rattle.settings_file.specs.Keyed.{serve_at, tick_ms_at}
+use Rattle.settings_file.specs.Shapes.{and_then}
+use Rattle.settings_file.specs.Ticks.{tick_if_told, ticks_lasting}
 
 -- a timer, and how long it lasts in the standard: the shortest and the longest time, in milliseconds
 abbrev pub TimeRange : Type 0
@@ -110,9 +111,9 @@ abbrev pub doubtful_title : Configuration → ℕ → TitleEntry → List Key
 doubtful_title c i t =
     key_if (leads_nowhere c t.point) (TitlePoint i) ++ key_if (backup_leads_nowhere c t.backup) (TitleBackup i)
 
--- the timers of a file that says how long a tick is
+-- the timers of a file whose server says how long a tick is
 abbrev pub timers_of : Members → TimerTicks → List Key
-timers_of t ticks = if is_of_server t then doubtful_timers_if (clock_of true t) ticks else []
+timers_of t ticks = doubtful_timers_if (tick_if_told (and_then (serve_at t) tick_ms_at)) ticks
 
 -- the keys of a document of version 4 whose values are hardly meant, where it says these settings: timers, then links,
 -- then translation rows

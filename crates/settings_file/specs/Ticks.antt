@@ -12,7 +12,12 @@ abbrev pub tick_told : Result ℕ ServeFault → ℕ
 tick_told (Ok tick_ms) = tick_ms
 tick_told (Err fault) = 200
 
--- the same of a file, which may have no server
+-- the same, if it can be read
+abbrev pub tick_if_told : Result ℕ ServeFault → Option ℕ
+tick_if_told (Ok tick_ms) = Some tick_ms
+tick_if_told (Err fault) = None
+
+-- how long a tick is in a file, which may have no server
 unfoldable pub tick_of : Members → ℕ
 tick_of t = tick_told (and_then (serve_at t) tick_ms_at)
 

@@ -14,8 +14,7 @@ use crate::key_rows::key_row;
 use crate::known_keys::has_fourth;
 use crate::phrases::value_is;
 use crate::places::{about, value_at};
-use crate::serve::has_server;
-use crate::ticks::clock_of;
+use crate::ticks::tick_if_told;
 use settings::{Key, LinkRow, Settings};
 use std::alloc::{AllocError, Global};
 use toml::Table;
@@ -24,8 +23,8 @@ use toml::Table;
 pub(crate) const MOST_DOUBTS: usize = 20;
 
 /// A warning for each of the first 20 values that are hardly meant, in the document of a settings file of version 4 of this
-/// name, which says these settings: timers that last less or longer than a standard has it, if the file has `serve`, which
-/// says how long a tick is; shares above the pool; and points of titles that are neither destinations nor the node's own.
+/// name, which says these settings: timers that last less or longer than a standard has it, if the file's server says
+/// how long a tick is; shares above the pool; and points of titles that are neither destinations nor the node's own.
 /// Each ends with a line feed: `node.toml: timers.l1 is 45000, and Q.703 has 40 to 50 s`.
 ///
 /// `AllocError` if memory ran out.
@@ -75,7 +74,7 @@ fn doubt_all(document: &Table, settings: &Settings, doubts: &mut Vec<Key>) -> Re
     Ok(())
 }
 
-/// The same of timers, if a file says how long a tick is.
+/// The same of timers, if the server of a file says how long a tick is.
 fn doubt_server_timers(
     document: &Table,
     settings: &Settings,
@@ -84,11 +83,7 @@ fn doubt_server_timers(
     ensures { OnOk result (doubts.new.items
         ≡ doubts.old.items ++ timers_of (table_view document.now) settings.now.timers) }
 {
-    if has_server(document) {
-        doubt_timers(clock_of(true, document), settings.timers(), doubts)
-    } else {
-        Ok(())
-    }
+    doubt_timers(tick_if_told(document), settings.timers(), doubts)
 }
 
 /// The same of shares.

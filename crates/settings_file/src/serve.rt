@@ -20,7 +20,7 @@ mod times;
 
 pub use capture::CaptureLimits;
 pub use console_place::ConsolePlace;
-pub(crate) use document::{has_server, serve_in};
+pub(crate) use document::serve_in;
 pub use document::{check_server, read, read_console, read_server};
 pub use fault::ServeFault;
 pub use key::ServeKey;

@@ -5,7 +5,7 @@ ghost use Rattle.toml.specs.View.{table_view};
 ghost use Rattle.settings_file.specs.Shapes.{and_then};
 ghost use Rattle.settings_file.specs.Keyed.{serve_at, tick_ms_at};
 ghost use Rattle.settings_file.specs.Durations.{duration_in};
-ghost use Rattle.settings_file.specs.Ticks.{tick_of, clock_of, ticks_lasting, ticks_said};
+ghost use Rattle.settings_file.specs.Ticks.{tick_of, tick_if_told, clock_of, ticks_lasting, ticks_said};
 
 use crate::durations::duration_in;
 use crate::serve::{ServeFault, serve_in, tick_ms};
@@ -20,6 +20,17 @@ fn told_tick(document: &Table) -> Result<u16, ServeFault>
     ensures above { IfOk result (λ tick_ms. 1 ≤ tick_ms) }
 {
     tick_ms(serve_in(document)?)
+}
+
+/// How long a tick is by the server of a file, in milliseconds; None if it doesn't say so.
+pub(crate) fn tick_if_told(document: &Table) -> Option<u16>
+    ensures value { result ≡ tick_if_told (and_then (serve_at (table_view document.now)) tick_ms_at) }
+    ensures above { IfSome result (λ tick_ms. 1 ≤ tick_ms) }
+{
+    match told_tick(document) {
+        Ok(tick_ms) => Some(tick_ms),
+        Err(_) => None,
+    }
 }
 
 /// How long a tick is in a file, in milliseconds.

@@ -8,7 +8,7 @@ ghost use Rattle.settings_file.specs.Reading.{IsReadAs};
 ghost use Rattle.settings_file.specs.Addresses.{Spelling};
 ghost use Rattle.settings_file.specs.Faults.{Answers};
 ghost use Rattle.settings_file.specs.ServeFaults.{AnswersOrNoMemory};
-ghost use Rattle.settings_file.specs.ServeReading.{document, is_of_server, checked, console_told, reading, IsFirstFault};
+ghost use Rattle.settings_file.specs.ServeReading.{document, checked, console_told, reading, IsFirstFault};
 ghost use Rattle.settings_file.specs.Consoles.{place_of};
 ghost use Rattle.settings_file.specs.Keyed.{serve_at};
 
@@ -28,13 +28,6 @@ use crate::shapes::{table_in, value};
 use settings::Settings;
 use std::alloc::{AllocError, Global};
 use toml::Table;
-
-/// Whether a file has settings of a server.
-pub(crate) fn has_server(document: &Table) -> bool
-    ensures { result ≡ is_of_server (table_view document.now) }
-{
-    found_at(document, ServeKey::Serve).is_some()
-}
 
 /// The table `serve` of a file.
 #[tactic(auto, unfolding(crate::specs::Keyed::serve_at))]
