@@ -89,7 +89,8 @@ class Places(NodeTest):
         self.prepare(node)
         before = self.state(node)
         ended = run("serve", "node.toml", folder=node.folder)
-        self.assertEqual((ended.returncode, ended.stderr), (4, f"{more.get('capture', CAPTURE)}: {why}\n".replace("\a", "?")))
+        told = f"{more.get('capture', CAPTURE)}: {why}\n".replace("\a", "?")
+        self.assertEqual((ended.returncode, ended.stderr.splitlines(keepends=True)[-1:]), (4, [told]))
         self.assertEqual([line.split()[1] for line in ended.stdout.splitlines()], ["start", "listen", "console"])
         self.assertEqual(self.state(node), before)
         return node

@@ -1,17 +1,21 @@
 -- What the program does with a file of settings, by what its document says.
-use Rattle.std.proofs.Common.{◌≡◌, ◌⊎◌, ℕ, List, Ok, Err, refl, subst, inl, inr}
-use Rattle.std.proofs.lemmas.Option.{none-some}
+use Rattle.std.proofs.Common.{◌≡◌, ◌⊎◌, ℕ, List, Some, Ok, Err, refl, sym, ◌∙◌, subst, inl, inr}
+use Rattle.std.proofs.lemmas.Option.{none-some, same_Some}
 use Rattle.std.specs.Str.{IsUtf8}
 use Rattle.settings.specs.Configuration.{Configuration}
+use Rattle.toml.specs.Data.{Members}
+use Rattle.toml.specs.Parse.{parse_document}
 use Rattle.settings_file.specs.Faults.{no_memory}
-use Rattle.settings_file.specs.Parsed.{AreNoDocument}
+use Rattle.settings_file.specs.AllFaults.{AreAllFaults}
+use Rattle.settings_file.specs.Parsed.{AreDocument, AreNoDocument}
+use Rattle.settings_file.specs.PlacedSentences.{AreSentences, ExplainsAll}
 use Rattle.settings_file.specs.Reading.{IsFirstFault}
-use Rattle.settings_file.specs.Sentences.{Explains, Names}
+use Rattle.settings_file.specs.Sentences.{Names}
 use Rattle.settings_file.specs.declared.fault.SettingsFault.{SettingsFault}
 use Rattle.settings_file.specs.declared.fault.SettingsFault.TheVariants.{Text}
 use Rattle.settings_file.proofs.Readings.{none-parsed}
 use Rattle.script.specs.Streams.{Input, Output}
-use Rattle.program.specs.Explaining.{IsToldOf, IsFaultExplained}
+use Rattle.program.specs.Explaining.{IsToldOf, AreFaultsExplained}
 use Rattle.program.specs.Folders.{FileRead, IsFault}
 use Rattle.program.specs.Program.{Streams, streams, HasNoMemory, RunsScript, RunsFile, ChecksServer, ChecksFile, HasSettings, EndsAtFile, ServesFile}
 use Rattle.program.specs.declared.folder.FileFault.TheVariants.{Unread, NoMemory}
@@ -27,14 +31,25 @@ pub no-document : (octets : List ℕ) → AreNoDocument octets → IsFault octet
 no-document octets (inl not) = inr (inl (not, refl))
 no-document octets (inr none) = inr (inr (none.0, inl (none-parsed octets Text (refl, none.1))))
 
-pub names-explain : (file octets text : List ℕ) → Names file text → Explains file octets Text text
-names-explain file octets text names = record { names = names; key = λ k at utf8 toml. absurd (none-some k at) }
+not-parsed : (octets : List ℕ) (t : Members) → AreNoDocument octets → IsUtf8 octets → parse_document octets ≡ Some t → ⊥
+not-parsed octets t (inl not) utf8 parsed = not utf8
+not-parsed octets t (inr none) utf8 parsed = none-some t (sym none.1 ∙ parsed)
 
-pub told-explains : (file octets : List ℕ) (why : SettingsFault) (errors errors_new : Output)
-    → IsToldOf (IsFaultExplained file why) errors errors_new → IsToldOf (Explains file octets why) errors errors_new
-told-explains file octets why errors errors_new (inl (text, is, told)) =
-    inl (text, record { names = is.names; key = λ k at utf8 toml. is.key k at }, told)
-told-explains file octets why errors errors_new (inr kept) = inr kept
+pub names-explain : (file octets text : List ℕ) → AreNoDocument octets → Names file text → ExplainsAll file octets Text text
+names-explain file octets text none names = record { document = λ t utf8 parsed. absurd (not-parsed octets t none utf8 parsed); none = λ h. names }
+
+pub told-explains : (file octets : List ℕ) (document : Members) (why : SettingsFault) (errors errors_new : Output) → AreDocument octets document
+    → IsToldOf (AreFaultsExplained file octets document why) errors errors_new → IsToldOf (ExplainsAll file octets why) errors errors_new
+told-explains file octets document why errors errors_new are (inl (text, is, told)) =
+    inl (
+      text,
+      record {
+        document = λ t utf8 parsed. subst (λ (d : Members). (faults : List SettingsFault) × AreAllFaults d why faults × AreSentences file octets faults text) (same_Some (sym are.parsed ∙ parsed)) (is.faults, is.all, is.explained);
+        none = λ h. absurd (h document are.text are.parsed);
+      },
+      told,
+    )
+told-explains file octets document why errors errors_new are (inr kept) = inr kept
 
 -- ---- a document was found, and nothing was written or told before
 
@@ -66,32 +81,30 @@ pub ran-file : (file : List ℕ) (read : FileRead) (settings : Configuration) (i
     → HasSettings file read settings errors warned → output_mid ≡ output
     → RunsScript settings (streams input output_mid warned) new ended ⊎ HasNoMemory (streams input output_mid warned) new ended
     → RunsFile file read (streams input output errors) new ended
-ran-file file (Ok octets) settings input output output_mid errors warned new ended has same (inl ran) =
-    (warned, has.1, inl (settings, has.0, subst (λ (o : Output). RunsScript settings (streams input o warned) new ended) same ran))
-ran-file file (Ok octets) settings input output output_mid errors warned new ended has same (inr lacks) =
-    let told = subst (λ (o : Output). HasNoMemory (streams input o warned) new ended) same lacks in
-    (warned, has.1, inr (no_memory, inl refl, told.0, told.1, inr told.2))
-ran-file file (Err fault) settings input output output_mid errors warned new ended has same ran = absurd has
+ran-file file read settings input output output_mid errors warned new ended has same ran =
+    inl (
+      settings,
+      warned,
+      has,
+      subst (λ (o : Output). RunsScript settings (streams input o warned) new ended ⊎ HasNoMemory (streams input o warned) new ended) same ran,
+    )
 
 pub checked-document : (file octets : List ℕ) (settings : Configuration) (output output_mid output_new errors warned errors_new : Output) (ended : Status)
     → HasSettings file (Ok octets) settings errors warned → output_mid ≡ output → ChecksServer file octets output_mid output_new warned errors_new ended
     → ChecksFile file (Ok octets) output output_new errors errors_new ended
 checked-document file octets settings output output_mid output_new errors warned errors_new ended has same checks =
-    (warned, has.1, inl (settings, has.0, subst (λ (o : Output). ChecksServer file octets o output_new warned errors_new ended) same checks))
+    inl (settings, warned, has, subst (λ (o : Output). ChecksServer file octets o output_new warned errors_new ended) same checks)
 
 -- ---- a file that has none
 
 pub ends-run : (file : List ℕ) (read : FileRead) (input : Input) (output output_new errors errors_new : Output) (ended : Status)
     → EndsAtFile file read output output_new errors errors_new ended → RunsFile file read (streams input output errors) (streams input output_new errors_new) ended
-ends-run file (Ok octets) input output output_new errors errors_new ended h = (h.3, h.4, inr (h.0, h.1, h.2, refl, h.5))
-ends-run file (Err (Unread why)) input output output_new errors errors_new ended h = (h.0, h.1, refl, h.2)
-ends-run file (Err NoMemory) input output output_new errors errors_new ended h = (h.0, refl, h.1)
+ends-run file read input output output_new errors errors_new ended h = inr (h, refl)
 
 pub ends-check : (file : List ℕ) (read : FileRead) (output output_new errors errors_new : Output) (ended : Status)
     → EndsAtFile file read output output_new errors errors_new ended → ChecksFile file read output output_new errors errors_new ended
-ends-check file (Ok octets) output output_new errors errors_new ended h = (h.3, h.4, inr (h.0, h.1, h.2, h.5))
-ends-check file (Err (Unread why)) output output_new errors errors_new ended h = h
-ends-check file (Err NoMemory) output output_new errors errors_new ended h = h
+ends-check file (Ok octets) output output_new errors errors_new ended h = inr h
+ends-check file (Err fault) output output_new errors errors_new ended h = h
 
 pub ends-serve : (file : List ℕ) (read : FileRead) (output output_new errors errors_new : Output) (ended : Status)
     → EndsAtFile file read output output_new errors errors_new ended → ServesFile file read output output_new errors errors_new ended

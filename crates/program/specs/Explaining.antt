@@ -1,15 +1,20 @@
 -- What standard error is told.
-use Rattle.std.specs.Prelude.{◌≡◌, ◌⊎◌, ℕ, List, ◌++◌, codes, decimal, Some, Result, Ok, Err, String, string_bytes}
+use Rattle.std.specs.Prelude.{◌≡◌, ◌⊎◌, ℕ, List, ◌++◌, take, codes, decimal, Some, Result, Ok, Err, String, string_bytes}
 use Rattle.std.specs.Global.{Global}
 use Rattle.std.specs.Io.KnownBytes.{Appends}
-use Rattle.settings.specs.declared.key.Key.{Key}
-use Rattle.settings_file.specs.Sentences.{Names, IsAbout, key_of}
+use Rattle.toml.specs.Data.{Members}
+use Rattle.settings.specs.Configuration.{Configuration}
+use Rattle.settings_file.specs.AllFaults.{AreAllFaults}
+use Rattle.settings_file.specs.Doubts.{AreDoubts}
+unfoldable use Rattle.settings_file.specs.Doubts.{doubtful}
+use Rattle.settings_file.specs.declared.doubts.TheConstants.{MOST_DOUBTS}
+use Rattle.settings_file.specs.PlacedSentences.{AreSentences}
 use Rattle.settings_file.specs.Warnings.{AreWarnings}
 use Rattle.settings_file.specs.declared.fault.SettingsFault.{SettingsFault}
 use Rattle.program.specs.Sentences.{IsAboutLine}
 use Rattle.script.specs.Streams.{Output, AppendsFirst, counted}
 use Rattle.program.specs.declared.folder.Unread.{Unread}
-use Rattle.program.specs.declared.folder.Unread.TheVariants.{Missing, Forbidden, Directory, Failed}
+use Rattle.program.specs.declared.folder.Unread.TheVariants.{Missing, Forbidden, Directory, TooLarge, Failed}
 use Rattle.script.specs.declared.fault.ScriptFault.{ScriptFault}
 use Rattle.script.specs.declared.fault.ScriptFault.TheVariants as fault
 
@@ -54,6 +59,7 @@ abbrev pub unread_text : Unread → List ℕ
 unread_text Missing = codes "there is no such file"
 unread_text Forbidden = codes "reading it isn't permitted"
 unread_text Directory = codes "it is a directory"
+unread_text TooLarge = codes "it is larger than 16 MB, which no settings file is"
 unread_text Failed = codes "a read of it failed"
 
 -- the sentence about a file that can't be read
@@ -64,10 +70,16 @@ unread_sentence file why = file ++ (codes ": " ++ (unread_text why ++ codes "\n"
 abbrev pub IsWarned : (file : List ℕ) → Output → Output → Type 0
 IsWarned file errors errors_new = IsToldOf (AreWarnings file) errors errors_new
 
--- a sentence about a fault of settings names the file, and the key that the fault is at
-pub record IsFaultExplained (file : List ℕ) (why : SettingsFault) (sentence : List ℕ) : Type 0 where
-  pub names : Names file sentence
-  pub key : (k : Key) → key_of why ≡ Some k → IsAbout file k sentence
+-- each value of a file that is hardly meant has a warning, where its document says these settings; 20 at most
+abbrev pub IsWarnedOfValues : (file : List ℕ) → (document : Members) → Configuration → Output → Output → Type 0
+IsWarnedOfValues file document settings errors errors_new =
+    IsToldOf (AreDoubts file (take MOST_DOUBTS (doubtful document settings))) errors errors_new
+
+-- a sentence about each fault of the settings in a file of these octets, of which this is the first
+pub record AreFaultsExplained (file octets : List ℕ) (document : Members) (first : SettingsFault) (text : List ℕ) : Type 0 where
+  pub faults : List SettingsFault
+  pub all : AreAllFaults document first faults
+  pub explained : AreSentences file octets faults text
 
 -- ---- scripts
 

@@ -8,8 +8,9 @@ use Rattle.settings.specs.Facing.{IsFacing}
 use Rattle.settings.specs.Naming.{link_names}
 use Rattle.exchange_rules.specs.First.{Abstract, first_state}
 use Rattle.exchange_rules.specs.Queues.{whole}
-use Rattle.settings_file.specs.Sentences.{Explains}
-use Rattle.program.specs.Explaining.{IsToldOf, unread_sentence, IsWarned, IsEndExplained, strangers_sentence, IsLabEndExplained}
+use Rattle.settings_file.specs.Parsed.{AreDocument}
+use Rattle.settings_file.specs.PlacedSentences.{ExplainsAll}
+use Rattle.program.specs.Explaining.{IsToldOf, unread_sentence, IsWarned, IsWarnedOfValues, IsEndExplained, strangers_sentence, IsLabEndExplained}
 use Rattle.script.specs.Faults.{Counts}
 use Rattle.lab.specs.Network.{network_fault}
 use Rattle.lab.specs.declared.network.NetworkFault.{NetworkFault}
@@ -102,18 +103,6 @@ RunsNode IsGiven IsWrong IsSentence old new ended =
     ⊎ ((why : SettingsFault) × IsWrong why × EndsWith status.Start (told why) old.output new.output ended
     × (new.input ≡ old.input) × IsToldOf (IsSentence why) old.errors new.errors)
 
--- the same with the settings of a file, after its warnings; if the file can't be read, nothing is printed, and standard
--- error says why
-abbrev pub RunsFile : (file : List ℕ) → FileRead → Streams → Streams → Status → Type 0
-RunsFile file (Ok octets) old new ended =
-    (warned : Output) × IsWarned file old.errors warned
-    × RunsNode (AreSettings octets) (IsFault octets) (Explains file octets)
-    (record old { errors = warned }) new ended
-RunsFile file (Err (file_fault.Unread why)) old new ended =
-    (ended ≡ status.Stream) × (new.output ≡ old.output) × (new.input ≡ old.input)
-    × IsToldOf (λ text. text ≡ unread_sentence file why) old.errors new.errors
-RunsFile file (Err file_fault.NoMemory) old new ended = HasNoMemory old new ended
-
 -- for a file whose settings of a server have no fault, or that has none, `ok` is printed; otherwise their fault, which
 -- standard error explains
 abbrev pub ChecksServer : (file octets : List ℕ) → (output output_new errors errors_new : Output) → Status → Type 0
@@ -122,24 +111,12 @@ ChecksServer file octets output output_new errors errors_new ended =
     ⊎ ((why : ServeFault) × IsServerFault octets why × EndsWith status.Start (told_server why) output output_new ended
     × IsToldOf (server_sentences.Explains file why) errors errors_new)
 
--- if a file has settings of a node, those of its server are checked; otherwise the fault is printed, which standard
--- error explains; warnings come before
-abbrev pub ChecksFile : (file : List ℕ) → FileRead → (output output_new errors errors_new : Output) → Status → Type 0
-ChecksFile file (Ok octets) output output_new errors errors_new ended =
-    (warned : Output) × IsWarned file errors warned
-    × (((settings : Configuration) × AreSettings octets settings
-    × ChecksServer file octets output output_new warned errors_new ended)
-    ⊎ ((why : SettingsFault) × IsFault octets why × EndsWith status.Start (told why) output output_new ended
-    × IsToldOf (Explains file octets why) warned errors_new))
-ChecksFile file (Err (file_fault.Unread why)) output output_new errors errors_new ended =
-    (ended ≡ status.Stream) × (output_new ≡ output)
-    × IsToldOf (λ text. text ≡ unread_sentence file why) errors errors_new
-ChecksFile file (Err file_fault.NoMemory) output output_new errors errors_new ended =
-    EndsWith status.Start (told no_memory) output output_new ended × (errors_new ≡ errors)
-
--- a file has these settings, and its warnings are written to standard error
+-- a file has these settings, and its warnings are written to standard error: of keys, and then of values
 abbrev pub HasSettings : (file : List ℕ) → FileRead → Configuration → (errors errors_new : Output) → Type 0
-HasSettings file (Ok octets) settings errors errors_new = AreSettings octets settings × IsWarned file errors errors_new
+HasSettings file (Ok octets) settings errors errors_new =
+    AreSettings octets settings
+    × (document : Members) × AreDocument octets document
+    × (warned : Output) × IsWarned file errors warned × IsWarnedOfValues file document settings warned errors_new
 HasSettings file (Err fault) settings errors errors_new = ⊥
 
 -- how the program ends for a file that has no settings: its fault is printed and explained, after warnings; if the file
@@ -147,12 +124,31 @@ HasSettings file (Err fault) settings errors errors_new = ⊥
 abbrev pub EndsAtFile : (file : List ℕ) → FileRead → (output output_new errors errors_new : Output) → Status → Type 0
 EndsAtFile file (Ok octets) output output_new errors errors_new ended =
     (why : SettingsFault) × IsFault octets why × EndsWith status.Start (told why) output output_new ended
-    × (warned : Output) × IsWarned file errors warned × IsToldOf (Explains file octets why) warned errors_new
+    × (warned : Output) × IsWarned file errors warned × IsToldOf (ExplainsAll file octets why) warned errors_new
 EndsAtFile file (Err (file_fault.Unread why)) output output_new errors errors_new ended =
     (ended ≡ status.Stream) × (output_new ≡ output)
     × IsToldOf (λ text. text ≡ unread_sentence file why) errors errors_new
 EndsAtFile file (Err file_fault.NoMemory) output output_new errors errors_new ended =
     EndsWith status.Start (told no_memory) output output_new ended × (errors_new ≡ errors)
+
+-- the script ran from the first state of a node with the settings of a file, or memory ran out before it, after the
+-- file's warnings; if the file has no settings, nothing of the script is read
+abbrev pub RunsFile : (file : List ℕ) → FileRead → Streams → Streams → Status → Type 0
+RunsFile file read old new ended =
+    ((settings : Configuration) × (warned : Output) × HasSettings file read settings old.errors warned
+    × (RunsScript settings (record old { errors = warned }) new ended
+    ⊎ HasNoMemory (record old { errors = warned }) new ended))
+    ⊎ (EndsAtFile file read old.output new.output old.errors new.errors ended × (new.input ≡ old.input))
+
+-- if a file has settings of a node, those of its server are checked, after warnings; otherwise the program ends as it
+-- does then
+abbrev pub ChecksFile : (file : List ℕ) → FileRead → (output output_new errors errors_new : Output) → Status → Type 0
+ChecksFile file (Ok octets) output output_new errors errors_new ended =
+    ((settings : Configuration) × (warned : Output) × HasSettings file (Ok octets) settings errors warned
+    × ChecksServer file octets output output_new warned errors_new ended)
+    ⊎ EndsAtFile file (Ok octets) output output_new errors errors_new ended
+ChecksFile file (Err fault) output output_new errors errors_new ended =
+    EndsAtFile file (Err fault) output output_new errors errors_new ended
 
 -- a file that is served has settings, and nothing is said of what a server does; or it has none, and the program ends
 -- as it does then

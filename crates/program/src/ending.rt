@@ -2,13 +2,17 @@
 
 ghost use Rattle.std.specs.Prelude.{◌≡◌, ◌≢◌, ◌⊎◌, IfOk, string_bytes, codes};
 ghost use Rattle.std.specs.IoError.{error_kind};
+ghost use Rattle.toml.specs.View.{table_view};
 ghost use Rattle.settings_file.specs.Faults.{no_memory};
 ghost use Rattle.settings_file.specs.ServeSentences as server;
-ghost use Rattle.program.specs.Explaining.{IsTold, IsToldOf, IsFaultExplained, usage_text};
+ghost use Rattle.program.specs.Explaining.{IsTold, IsToldOf, AreFaultsExplained, usage_text};
 ghost use Rattle.program.specs.Program.{told, told_server, version_line, EndsWith};
 
-use crate::explaining::{USAGE, explain_fault, explain_no_document, explain_server, explain_words};
+use crate::explaining::{
+    USAGE, explain_faults, explain_no_document, explain_server, explain_words,
+};
 use crate::program::Status;
+use crate::settings_files::ParsedFile;
 use script::Sink;
 use settings_file::SettingsFault;
 use settings_file::serve::ServeFault;
@@ -88,23 +92,24 @@ pub(crate) fn tell_no_document<W: Sink, E: Sink>(
     end_with(Status::Start, b"fault 1\n", writer)
 }
 
-/// Prints what is wrong with the settings in the document of a file, and explains it; or prints that memory ran out.
+/// Prints the first fault of the settings in a file, and explains all of them; or prints that memory ran out.
 pub(crate) fn tell_file_fault<W: Sink, E: Sink>(
     alloc: Global,
     file: &str,
-    document: &Table,
+    parsed: &ParsedFile,
     fault: SettingsFault,
     writer: &mut W,
     errors: &mut E,
 ) -> Status
     ensures { (EndsWith Status.Start (told fault) (W.output writer.old) (W.output writer.new) result
-        × IsToldOf (IsFaultExplained file.now fault) (E.output errors.old) (E.output errors.new))
+        × IsToldOf (AreFaultsExplained file.now parsed.now.octets.items (table_view parsed.now.document) fault)
+        (E.output errors.old) (E.output errors.new))
         ⊎ (EndsWith Status.Start (told no_memory) (W.output writer.old) (W.output writer.new) result
         × (E.output errors.new ≡ E.output errors.old)) }
 {
     match told(alloc, fault) {
         Ok(line) => {
-            explain_fault(alloc, file, document, fault, errors);
+            explain_faults(alloc, file, parsed, fault, errors);
             end_with(Status::Start, line.as_bytes(), writer)
         }
         Err(_) => tell_no_memory(writer),

@@ -1,18 +1,21 @@
 //! What goes to standard error: why the program doesn't do what was meant.
 
-ghost use Rattle.std.specs.Prelude.{◌≡◌};
+ghost use Rattle.std.specs.Prelude.{◌≡◌, IfOk, string_bytes};
+ghost use Rattle.toml.specs.View.{table_view};
 ghost use Rattle.settings_file.specs.ServeSentences as server;
 ghost use Rattle.program.specs.Explaining.{IsTold, IsToldMade, IsToldOf, usage_text, unread_text, unread_sentence};
-ghost use Rattle.program.specs.Explaining.{IsWarned, IsFaultExplained};
+ghost use Rattle.program.specs.Explaining.{IsWarned, IsWarnedOfValues, AreFaultsExplained};
 ghost use Rattle.program.specs.Explaining.{IsEndExplained, IsScriptExplained, IsLabEndExplained};
 ghost use Rattle.program.specs.Explaining.{strangers_sentence, lab_line_sentence};
 
 use crate::console_client::CallFault;
 use crate::folder::Unread;
 use crate::sentences::sentence;
+use crate::settings_files::ParsedFile;
 use script::{LineFault, ScriptFault, Sink};
-use settings_file::SettingsFault;
+use settings::Settings;
 use settings_file::serve::{ConsolePlace, ServeFault};
+use settings_file::{SettingsFault, all_faults, all_sentences, value_warnings, warnings};
 use std::alloc::{AllocError, Global};
 use toml::Table;
 
@@ -74,6 +77,7 @@ fn unread_text(why: Unread) -> &'static str
         Unread::Missing => "there is no such file",
         Unread::Forbidden => "reading it isn't permitted",
         Unread::Directory => "it is a directory",
+        Unread::TooLarge => "it is larger than 16 MB, which no settings file is",
         Unread::Failed => "a read of it failed",
     }
 }
@@ -82,7 +86,21 @@ fn unread_text(why: Unread) -> &'static str
 pub(crate) fn warn<E: Sink>(alloc: Global, file: &str, document: &Table, errors: &mut E)
     ensures { IsWarned file.now (E.output errors.old) (E.output errors.new) }
 {
-    tell_made(settings_file::warnings(alloc, file, document), errors);
+    tell_made(warnings(alloc, file, document), errors);
+}
+
+/// Warns of values that are hardly meant, in the document of a settings file that says these settings.
+pub(crate) fn warn_of_values<E: Sink>(
+    alloc: Global,
+    file: &str,
+    document: &Table,
+    settings: &Settings,
+    errors: &mut E,
+)
+    ensures { IsWarnedOfValues file.now (table_view document.now) settings.now
+        (E.output errors.old) (E.output errors.new) }
+{
+    tell_made(value_warnings(alloc, file, document, settings), errors);
 }
 
 /// Writes the sentence that says why a settings file isn't a document.
@@ -92,20 +110,32 @@ pub(crate) fn explain_no_document<E: Sink>(sentence: &str, errors: &mut E)
     tell(sentence.as_bytes(), errors);
 }
 
-/// Explains what is wrong with the settings in the document of a file.
-pub(crate) fn explain_fault<E: Sink>(
+/// Explains all faults of the settings in a file, of which this is the first.
+pub(crate) fn explain_faults<E: Sink>(
     alloc: Global,
     file: &str,
-    document: &Table,
-    fault: SettingsFault,
+    parsed: &ParsedFile,
+    first: SettingsFault,
     errors: &mut E,
 )
-    ensures { IsToldOf (IsFaultExplained file.now fault) (E.output errors.old) (E.output errors.new) }
+    ensures { IsToldOf (AreFaultsExplained file.now parsed.now.octets.items (table_view parsed.now.document) first)
+        (E.output errors.old) (E.output errors.new) }
 {
-    tell_made(
-        settings_file::sentence(alloc, file, document, fault),
-        errors,
-    );
+    tell_made(sentences_of(alloc, file, parsed, first), errors);
+}
+
+/// A sentence for each fault of the settings in a file.
+fn sentences_of(
+    alloc: Global,
+    file: &str,
+    parsed: &ParsedFile,
+    first: SettingsFault,
+) -> Result<String, AllocError>
+    ensures { IfOk result (λ text. AreFaultsExplained file.now parsed.now.octets.items
+        (table_view parsed.now.document) first (string_bytes text)) }
+{
+    let faults = all_faults(alloc, &parsed.document, first)?;
+    all_sentences(alloc, file, &parsed.octets, &parsed.document, &faults)
 }
 
 /// Explains what is wrong with the settings of a server in the document of a file.

@@ -1,15 +1,21 @@
 //! Where settings files are read from.
 
-ghost use Rattle.std.specs.Prelude.{◌≡◌, ◌⊎◌, ℕ, List, Result, Ok, Err, if◌then◌else◌, bytes_eq};
+ghost use Rattle.std.specs.Prelude.{◌≡◌, ◌≤◌, ◌⊎◌, ℕ, List, length, Result, Ok, Err, IfOk, IfSome, if◌then◌else◌, bytes_eq};
 ghost use Rattle.program.specs.declared.folder.FileFault.{FileFault};
 ghost use Rattle.program.specs.declared.folder.FileFault.TheVariants as file_fault;
 ghost use Rattle.program.specs.declared.folder.Unread.TheVariants.{Missing};
 ghost use Rattle.program.specs.Folders.{octets_read};
 
 use std::alloc::Global;
-use std::fs;
-use std::io::ErrorKind;
+use std::io::{ErrorKind, Read};
 use std::rt::Files;
+use std::{fs, io};
+
+/// Octets of a settings file, at most: 16 MB.
+pub const MOST_OCTETS: usize = 16_000_000;
+
+/// Octets that are read at once, at most.
+const PIECE_OCTETS: usize = 65_536;
 
 /// Why a file can't be read.
 #[derive(Clone, Copy, Debug, PartialEq, Eq)]
@@ -20,6 +26,8 @@ pub enum Unread {
     Forbidden,
     /// It is a directory.
     Directory,
+    /// It has more octets than a settings file may have.
+    TooLarge,
     /// A read of it failed.
     Failed,
 }
@@ -72,12 +80,40 @@ impl<'a, R: Files + AllocGlobal> Disk<'a, R> {
 impl<'a, R: Files + AllocGlobal> Folder for Disk<'a, R> {
     ghost reads = { λ _ _ _. Unit {0} };
 
-    fn read(&self, _alloc: Global, name: &str) -> Result<Vec<u8>, FileFault> {
-        match fs::read(self.rt, name) {
-            Ok(octets) => Ok(octets),
+    fn read(&self, alloc: Global, name: &str) -> Result<Vec<u8>, FileFault> {
+        match small_file(self.rt, alloc, name) {
+            Ok(Some(octets)) => Ok(octets),
+            Ok(None) => Err(FileFault::Unread(Unread::TooLarge)),
             Err(error) => Err(file_fault(error.kind())),
         }
     }
+}
+
+/// What is in the file of this name; none if that is more than a settings file may have.
+fn small_file<R: Files>(rt: &R, alloc: Global, name: &str) -> io::Result<Option<Vec<u8>>>
+    ensures { IfOk result (λ read. IfSome read (λ octets. length octets.items ≤ MOST_OCTETS)) }
+{
+    let mut file = fs::open(rt, name)?;
+    let mut octets = Vec::new(alloc);
+    // Each read but the last has an octet at least.
+    for _ in 0..=MOST_OCTETS {
+        let goes_on = read_piece(&mut file, &mut octets)?;
+        if octets.len() > MOST_OCTETS {
+            return Ok(None);
+        }
+        if !goes_on {
+            return Ok(Some(octets));
+        }
+    }
+    Ok(None)
+}
+
+/// Reads once, and puts what came behind these octets. Returns whether something came.
+fn read_piece<F: Read>(file: &mut F, octets: &mut Vec<u8>) -> io::Result<bool> {
+    let mut piece = [0; PIECE_OCTETS];
+    let count = file.read(&mut piece)?;
+    octets.extend_from_slice(&piece[..count])?;
+    Ok(count > 0)
 }
 
 /// One file in memory, and no other.

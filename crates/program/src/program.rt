@@ -20,7 +20,7 @@ use crate::explaining::explain_end;
 use crate::folder::Folder;
 use crate::network::run_network_files;
 use crate::serving::serve_file;
-use crate::settings_files::{document_of, settings_in, settings_of};
+use crate::settings_files::{ParsedFile, parsed_file, settings_in, settings_of};
 use crate::telling::tell_file;
 use crate::two_nodes::{Medium, run_files};
 use exchange::{Exchange, NoMemory};
@@ -147,30 +147,31 @@ fn check_file<F: Folder, W: Sink, E: Sink>(
     ensures { (read : FileRead) × F.reads folder.now file.now read × ChecksFile file.now read
         (W.output writer.old) (W.output writer.new) (E.output errors.old) (E.output errors.new) result }
 {
-    let document = match document_of(alloc, folder, file, writer, errors) {
-        Ok(document) => document,
+    let parsed = match parsed_file(alloc, folder, file, writer, errors) {
+        Ok(parsed) => parsed,
         Err(status) => return status,
     };
-    let status = check_document(alloc, file, &document, writer, errors);
-    drop(document);
+    let status = check_parsed(alloc, file, &parsed, writer, errors);
+    drop(parsed);
     status
 }
 
-/// Prints whether the settings in the document of a file have a fault.
-fn check_document<W: Sink, E: Sink>(
+/// Prints whether the settings in a file have a fault.
+fn check_parsed<W: Sink, E: Sink>(
     alloc: Global,
     file: &str,
-    document: &Table,
+    parsed: &ParsedFile,
     writer: &mut W,
     errors: &mut E,
 ) -> Status
-    ensures { (octets : List ℕ) → AreDocument octets (table_view document.now) → ChecksFile file.now (Ok octets)
+    requires { AreDocument parsed.now.octets.items (table_view parsed.now.document) }
+    ensures { ChecksFile file.now (Ok parsed.now.octets.items)
         (W.output writer.old) (W.output writer.new) (E.output errors.old) (E.output errors.new) result }
 {
-    match settings_in(alloc, file, document, writer, errors) {
+    match settings_in(alloc, file, parsed, writer, errors) {
         Ok(settings) => {
             drop(settings);
-            check_server_in(alloc, file, document, writer, errors)
+            check_server_in(alloc, file, &parsed.document, writer, errors)
         }
         Err(status) => status,
     }

@@ -10,7 +10,7 @@ use crate::ending::{tell_no_memory, tell_server_fault};
 use crate::explaining::{NO_POLL, tell_made};
 use crate::folder::Folder;
 use crate::program::Status;
-use crate::settings_files::{document_of, settings_in};
+use crate::settings_files::{ParsedFile, parsed_file, settings_in};
 use script::Sink;
 use served_node::OneLine;
 use settings::Settings;
@@ -37,28 +37,29 @@ pub(crate) fn serve_file<F: Folder, W: Sink, E: Sink>(
         (W.output writer.old) (W.output writer.new) (E.output errors.old) (E.output errors.new) result }
 {
     let alloc = rt.alloc();
-    let document = match document_of(alloc, folder, file, writer, errors) {
-        Ok(document) => document,
+    let parsed = match parsed_file(alloc, folder, file, writer, errors) {
+        Ok(parsed) => parsed,
         Err(status) => return status,
     };
-    let status = serve_document(rt, file, &document, writer, errors);
-    drop(document);
+    let status = serve_parsed(rt, file, &parsed, writer, errors);
+    drop(parsed);
     status
 }
 
-/// Serves a node with the settings in the document of a file, if they have no fault.
-fn serve_document<W: Sink, E: Sink>(
+/// Serves a node with the settings in a file, if they have no fault.
+fn serve_parsed<W: Sink, E: Sink>(
     rt: &HostRuntime,
     file: &str,
-    document: &Table,
+    parsed: &ParsedFile,
     writer: &mut W,
     errors: &mut E,
 ) -> Status
-    ensures { (octets : List ℕ) → AreDocument octets (table_view document.now) → ServesFile file.now (Ok octets)
+    requires { AreDocument parsed.now.octets.items (table_view parsed.now.document) }
+    ensures { ServesFile file.now (Ok parsed.now.octets.items)
         (W.output writer.old) (W.output writer.new) (E.output errors.old) (E.output errors.new) result }
 {
-    match settings_in(rt.alloc(), file, document, writer, errors) {
-        Ok(settings) => serve_checked(rt, file, document, settings, writer, errors),
+    match settings_in(rt.alloc(), file, parsed, writer, errors) {
+        Ok(settings) => serve_checked(rt, file, &parsed.document, settings, writer, errors),
         Err(status) => status,
     }
 }

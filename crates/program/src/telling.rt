@@ -12,7 +12,7 @@ use crate::ending::{tell_no_memory, tell_server_fault};
 use crate::explaining::explain_call;
 use crate::folder::Folder;
 use crate::program::Status;
-use crate::settings_files::document_of;
+use crate::settings_files::parsed_file;
 use script::{Sink, Source};
 use settings_file::serve::{ConsolePlace, read_console};
 use toml::Table;
@@ -33,12 +33,12 @@ pub(crate) fn tell_file<F: Folder, R: Source, W: Sink, E: Sink>(
         (streams (R.input reader.old) (W.output writer.old) (E.output errors.old))
         (streams (R.input reader.new) (W.output writer.new) (E.output errors.new)) result }
 {
-    let document = match document_of(rt.alloc(), folder, file, writer, errors) {
-        Ok(document) => document,
+    let parsed = match parsed_file(rt.alloc(), folder, file, writer, errors) {
+        Ok(parsed) => parsed,
         Err(status) => return status,
     };
-    let status = tell_document(rt, file, &document, words, reader, writer, errors);
-    drop(document);
+    let status = tell_document(rt, file, &parsed.document, words, reader, writer, errors);
+    drop(parsed);
     status
 }
 

@@ -4,8 +4,9 @@ use Rattle.program.proofs.program.check_file.Goals as goal
 
 pub returns : goal.returns
 returns g c =
+    let octets = c.in-Ok.parsed.octets.items in
     let d = c.in-Ok.ensures.document in
-    (Ok d.0, d.1, checks-from c.args.file.now d.0 _ _ _ _ _ _ _ c.in-Ok.ensures.unwritten c.in-Ok.ensures.untold (c.check_document-status.ensures d.0 d.2))
+    (Ok octets, d.0, checks-from c.args.file.now octets _ _ _ _ _ _ _ c.in-Ok.ensures.unwritten c.in-Ok.ensures.untold c.check_parsed-status.ensures)
 
 pub returns-in-Err : goal.returns-in-Err
 returns-in-Err g c =
