@@ -20,7 +20,6 @@ TO_DO = {
     "docs/PROVED.md",
     "docs/SERVE.md",
     "docs/TROUBLESHOOTING.md",
-    "examples/README.md",
 }
 
 

@@ -10,8 +10,8 @@ TOP = Path(__file__).resolve().parent.parent
 REWRITTEN = ["README.md", "SECURITY.md", "docs/ALIGNMENT.md", "docs/ARCHITECTURE.md", "docs/CHANGEBACK.md",
              "docs/CHANGEOVER.md", "docs/COSTS.md", "docs/DECISIONS.md", "docs/EMBEDDING.md", "docs/GLOSSARY.md",
              "docs/INTEROP.md", "docs/OPERATING.md", "docs/RELAY.md", "docs/ROUTES.md", "docs/ROUTE_MANAGEMENT.md",
-             "docs/SCTP.md", "docs/WRONG_BODIES.md", "packaging", "tools", "crates/program/src", "crates/program/specs",
-             "crates/program/proofs"]
+             "docs/SCTP.md", "docs/WRONG_BODIES.md", "examples/README.md", "packaging", "tools", "crates/program/src",
+             "crates/program/specs", "crates/program/proofs"]
 
 # How each word that the table replaces is found.
 REPLACED = {
