@@ -15,7 +15,7 @@ LONG_OF = 10
 def prose(text: str) -> list[str]:
     """The paragraphs and list items of a page, without code, tables, headings and pictures."""
     text = re.sub(r"^```.*?^```$", "\n", text, flags=re.DOTALL | re.MULTILINE)
-    kept = [line for line in text.splitlines() if not line.startswith(("|", "#", "!"))]
+    kept = [line for line in text.splitlines() if not line.startswith(("|", "#", "!", "    "))]
     blocks = re.split(r"\n\s*\n|^- ", "\n".join(kept), flags=re.MULTILINE)
     return [" ".join(block.split()) for block in blocks if block.split()]
 
@@ -40,7 +40,7 @@ class Readme(unittest.TestCase):
         self.assertLessEqual(sum(count > LONG_WORDS for count in counts) * LONG_OF, len(counts))
 
     def test_sentences_are_found(self) -> None:
-        text = "# A b\n\nOne two. Three [four five](x.md) `six seven`:\n\n- eight nine\n\n| a | b |\n"
+        text = "# A b\n\nOne two. Three [four five](x.md) `six seven`:\n\n- eight nine\n\n    code\n\n| a | b |\n"
         self.assertEqual(sentences(text), [2, 4, 2])
 
 

@@ -7,8 +7,11 @@ from pathlib import Path
 TOP = Path(__file__).resolve().parent.parent
 
 # What was rewritten with the words of CONTRIBUTING's table.
-REWRITTEN = ["README.md", "docs/OPERATING.md", "packaging", "tools", "crates/program/src", "crates/program/specs",
-             "crates/program/proofs"]
+REWRITTEN = ["README.md", "SECURITY.md", "docs/ALIGNMENT.md", "docs/ARCHITECTURE.md", "docs/CHANGEBACK.md",
+             "docs/CHANGEOVER.md", "docs/COSTS.md", "docs/DECISIONS.md", "docs/EMBEDDING.md", "docs/GLOSSARY.md",
+             "docs/INTEROP.md", "docs/MANUAL.md", "docs/OPERATING.md", "docs/RELAY.md", "docs/ROUTES.md",
+             "docs/ROUTE_MANAGEMENT.md", "docs/SCTP.md", "docs/WRONG_BODIES.md", "examples/README.md", "packaging",
+             "tools", "crates/program/src", "crates/program/specs", "crates/program/proofs"]
 
 # How each word that the table replaces is found.
 REPLACED = {
