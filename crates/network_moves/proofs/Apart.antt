@@ -90,6 +90,13 @@ module _ (shape : Shape) (read : Message → Saying) (group : ℕ → Bool) (for
   pub apart-at : (p : Network) (place : Place) → IsApart p → within shape read group for_group place.link ≡ false → IsApartLine place (line_at p place)
   apart-at p place h e = apart-seen place.link place.side (p.line place.link) (h.lines place.link e)
 
+  pub apart-is : (p : Network) (place : Place) → IsApartLine place (line_at p place) → IsApartLine (record { link = place.link; side = Near }) (p.line place.link)
+  apart-is p place h = by place.side h
+    where
+      by : (side : Side) → IsApartLine (record { link = place.link; side = side }) (seen side (p.line place.link)) → IsApartLine (record { link = place.link; side = Near }) (p.line place.link)
+      by Near l = l
+      by Far l = record { near = l.far; far = l.near; to_far = l.to_near; to_near = l.to_far }
+
   -- a link is within only if the node here is of the group
   pub not-within : (place : Place) → here place ≡ false → within shape read group for_group place.link ≡ false
   not-within place e = by (within shape read group for_group place.link) refl

@@ -23,11 +23,10 @@ module _ (shape : Shape) (read : Message → Saying) (group : ℕ → Bool) (for
   abbrev pub concerns : Message → Bool
   concerns m = says_of_group (for_group m) (read m)
 
-  -- the group keeps to itself: its nodes put what concerns it on no link but those within, and no other node starts again
+  -- the group keeps to itself: its nodes put what concerns it on no link but those within
   pub record KeepsToItself : Type 0 where
     pub stays : (place : Place) (m : Message) → group (point_at shape place) ≡ true →
         shape.leads place.link place.side m ≡ true → concerns m ≡ true → is_within place.link ≡ true
-    pub lasting : (point : ℕ) → group point ≡ false → shape.restarts point ≡ false
 
   -- ---- what became of the messages for the group, at one of its nodes
 
@@ -109,7 +108,20 @@ module _ (shape : Shape) (read : Message → Saying) (group : ℕ → Bool) (for
     pub others : (link : ℕ) → is_within shape read group for_group link ≡ false → IsClear link (p.line link)
     pub books : (point : ℕ) → group point ≡ true → Begins (p.node point)
 
--- so the law of groups begins anew from each such network on, whatever was lost before
+  -- what concerns the group stays in it: no word about a link within is at another node; on other links nothing that
+  -- concerns the group is from a node of it, and no such word is on any of them, or in flight there
+  pub record StaysWithin (p : Network) : Type 0 where
+    pub bags : (point : ℕ) → group point ≡ false → count_by (is_left false) (p.node point).bag ≡ 0
+    pub others : (link : ℕ) → is_within shape read group for_group link ≡ false → IsClear link (p.line link)
+
+-- so it is after every list of moves from the first network on, whichever nodes are broken
+abbrev pub nothing_leaves_the_group : Type 0
+nothing_leaves_the_group =
+    (shape : Shape) (read : Message → Saying) (group : ℕ → Bool) (for_group : Message → Bool) (networks : List Network) →
+    KeepsToItself shape read group for_group → Moves shape read first_network networks →
+    StaysWithin shape read group for_group (last_of first_network networks)
+
+-- the law of groups begins anew from each network on in which nothing is left, whatever was lost before
 abbrev pub groups_begin_anew : Type 0
 groups_begin_anew =
     (shape : Shape) (read : Message → Saying) (group : ℕ → Bool) (for_group : Message → Bool) (start : Network)

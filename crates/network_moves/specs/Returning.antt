@@ -43,6 +43,30 @@ opened_first z = record {
 abbrev pub opened_second : Line → Line
 opened_second z = record z { near = opened_end z.near.came z.near.gone; near_may_follow = false }
 
+-- an end as at first, but for what ever came from it, and what was given up here
+abbrev pub shut_end : (came gone : List Message) → LinkEnd
+shut_end came gone = record {
+  queue = first_queue;
+  phase = Live;
+  up = false;
+  serving = false;
+  incomplete = false;
+  awaited = false;
+  heard = false;
+  came = came;
+  gone = gone;
+}
+
+-- a line whose near end is at a node that starts again: nothing is in flight to it any more. What it sent is in flight
+-- yet, and the far end loses the association later, by a move of its own; it may follow if it might
+abbrev pub restarted : Line → Line
+restarted z = record z {
+  near = shut_end z.near.came z.near.gone;
+  to_near = [];
+  told_near = 0;
+  near_may_follow = false;
+}
+
 -- an end may open again: it is down, its changeover is complete, and no answer is awaited for it
 pub record MayOpen (x : LinkEnd) : Type 0 where
   pub down : x.up ≡ false
@@ -131,11 +155,12 @@ module _ (shape : Shape) (read : Message → Saying) (p q : Network) where
         (with_completion (line_at p place) Gone false)
         (without_sent (record (node_at shape p place) { bag = rest }) (line_at p place).near.queue named)
 
-  -- a node starts again, if it may: whatever it and the ends of its links become, nothing else changes
+  -- a node starts again: no message is there, whatever its books say, and its ends of links are as at first
   pub record StartsAgain : Type 0 where
     pub point : ℕ
-    pub may : shape.restarts point ≡ true
+    pub empty : (q.node point).bag ≡ []
     pub others : (other : ℕ) → other ≢ point → q.node other ≡ p.node other
+    pub ends : (place : Place) → point_at shape place ≡ point → line_at q place ≡ restarted (line_at p place)
     pub lines : (link : ℕ) → shape.point link Near ≢ point → shape.point link Far ≢ point → q.line link ≡ p.line link
     pub broken : q.broken point ≡ true
     pub others_broken : (other : ℕ) → other ≢ point → q.broken other ≡ p.broken other

@@ -2,6 +2,7 @@ pub mod Basics
 pub mod Machine
 pub mod Sets
 pub mod Definitions
+pub mod Grown
 pub mod Reading
 pub mod Shown
 pub mod Going

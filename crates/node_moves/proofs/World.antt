@@ -138,7 +138,7 @@ module _ (settings : (point : ℕ) → Configuration) (t : AreTheirs settings) w
         e.ends (place_at y l).link (place_at y l).side
         (λ same. d (sym (t.own y fy) ∙ sym (at-own shape o (settings y) (t.well y fy) l) ∙ same ∙ t.own x fx))
 
-    pub goes-on : (w : NetworkState) (x : ℕ) (v u : Mid) (p : Network) → IsNode settings x → ShownAt w x v p → (a : Arrives shape (settings x) p u) → ShownAt w x u (last_of p a.networks)
+    pub goes-on : {times : ℕ} (w : NetworkState) (x : ℕ) (v u : Mid) (p : Network) → IsNode settings x → ShownAt w x v p → (a : Arrives shape (settings x) times p u) → ShownAt w x u (last_of p a.networks)
     goes-on w x v u p fx s a =
         let q : Network = last_of p a.networks in
         record {
