@@ -117,8 +117,8 @@ module _ (shape : Shape) (read : Message → Saying) (group : ℕ → Bool) (for
 -- so it is after every list of moves from the first network on, whichever nodes are broken
 abbrev pub nothing_leaves_the_group : Type 0
 nothing_leaves_the_group =
-    (shape : Shape) (read : Message → Saying) (group : ℕ → Bool) (for_group : Message → Bool) (networks : List Network) →
-    KeepsToItself shape read group for_group → Moves shape read first_network networks →
+    (shape : Shape) (read : Message → Saying) (group : ℕ → Bool) (for_group : Message → Bool)
+    (networks : List Network) → KeepsToItself shape read group for_group → Moves shape read first_network networks →
     StaysWithin shape read group for_group (last_of first_network networks)
 
 -- the law of groups begins anew from each network on in which nothing is left, whatever was lost before

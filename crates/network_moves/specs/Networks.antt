@@ -69,8 +69,8 @@ pub record Network : Type 0 where
   -- the nodes after which only laws that say so promise anything
   pub broken : ℕ → Bool
 
--- which nodes and links there are, each by its number; at which nodes the ends of a link are; and which messages the node
--- there may put on an end
+-- which nodes and links there are, each by its number; at which nodes the ends of a link are; and which messages the
+-- node there may put on an end
 pub record Shape : Type 0 where
   pub nodes : ℕ
   pub links : ℕ

@@ -29,11 +29,11 @@ pub either-true : (a b : Bool) → (a || b) ≡ true → (a ≡ true) ⊎ (b ≡
 either-true true b e = inl refl
 either-true false b e = inr e
 
-both-true : (a b : Bool) → a ≡ true → b ≡ true → (a && b) ≡ true
+pub both-true : (a b : Bool) → a ≡ true → b ≡ true → (a && b) ≡ true
 both-true true b e f = f
 both-true false b e f = absurd cc
 
-each-true : (a b : Bool) → (a && b) ≡ true → (a ≡ true) × (b ≡ true)
+pub each-true : (a b : Bool) → (a && b) ≡ true → (a ≡ true) × (b ≡ true)
 each-true true b e = (refl, e)
 each-true false b e = absurd cc
 
@@ -69,7 +69,7 @@ pub are-hop : (near far : ℕ) → IsShape (hop_points near far)
 are-hop near far = record { nodes = are-all.nodes; links = are-all.links; points = are-all.points }
 
 -- what concerns the two doesn't depend on where messages may go
-says-same : (near far : ℕ) (for_it : Bool) (s : Saying) → says_of_group (hop_points near far) says_of (is_one_of near far) (for_one_of near far) for_it s ≡ says_of_group all_points says_of (is_one_of near far) (for_one_of near far) for_it s
+pub says-same : (near far : ℕ) (for_it : Bool) (s : Saying) → says_of_group (hop_points near far) says_of (is_one_of near far) (for_one_of near far) for_it s ≡ says_of_group all_points says_of (is_one_of near far) (for_one_of near far) for_it s
 says-same near far for_it UserMessage = refl
 says-same near far for_it (Order link maker number) = refl
 says-same near far for_it (Answer link maker number) = refl

@@ -72,7 +72,7 @@ module _ (settings : (point : ℕ) → Configuration) (t : AreTheirs settings) (
         own-apart c (t.well x fx) link (t.own x fx ∙ sym same ∙ peer)
 
     -- a line at this node that is none of its links is no link of any node
-    no-link : (k : ℕ) (side : Side) → ((i : ℕ) → i < length (settings x).links → (place_at settings t x i).link ≢ k) → shape.point k side ≡ x → IsUnused settings t k
+    pub no-link : (k : ℕ) (side : Side) → ((i : ℕ) → i < length (settings x).links → (place_at settings t x i).link ≢ k) → shape.point k side ≡ x → IsUnused settings t k
     no-link k side none e y l fy inside same =
         let its : Place = place_at settings t y l in
         ⊎_elim

@@ -53,4 +53,10 @@ pub mod Codes
 pub mod Routed
 pub mod Closed
 pub mod Hops
+pub mod StartedAgain
+pub mod Changes
+pub mod CountedSince
+pub mod Begun
+pub mod Anew
 pub mod HopRun
+pub mod AnewRun

@@ -9,3 +9,5 @@ pub mod MatedRun
 pub mod LossRun
 pub mod Hops
 pub mod HopRun
+pub mod Anew
+pub mod AnewRun

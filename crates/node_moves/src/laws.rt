@@ -1,11 +1,14 @@
 //! What holds in each network that steps reach from the first (`specs/Networks.antt`), of any shape and with any
-//! routes. No step starts a node again, and nothing comes from outside. Where no other premise is named, these are
-//! asked (`AreTheirs`): each node is told the point at which it is, its settings are checked, and each of its links has
-//! its other end in the network, with its code. No node is *broken* while `times_broken` is 0 at all of them.
+//! routes. No step starts a node again, but for those of `hops_begin_anew`; and nothing comes from outside. Where no
+//! other premise is named, these are asked (`AreTheirs`): each node is told the point at which it is, its settings are
+//! checked, and each of its links has its other end in the network, with its code. No node is *broken* while
+//! `times_broken` is 0 at all of them.
 //!
 //! The laws are sums: each compares numbers of user messages, by any test. So equal messages aren't told apart, and one
 //! that was accepted twice may come twice. Messages whose SIF is longer than 272 octets aren't counted.
 
+ghost use Rattle.node_moves.specs.Anew.{hops_begin_anew, networks_begin_quietly, nothing_is_lost_anew};
+ghost use Rattle.node_moves.specs.AnewRun.{BeginsAnew};
 ghost use Rattle.node_moves.specs.EndToEnd.{each_message_is_accounted_for, messages_come_from_end_to_end};
 ghost use Rattle.node_moves.specs.Fates.{each_message_has_its_fate};
 ghost use Rattle.node_moves.specs.HopRun.{MatesAreAHop};
@@ -79,6 +82,21 @@ pub fn messages_come_over_a_hop()
     ensures flags { nothing_is_lost_over_a_hop }
 {}
 
+/// The law of hops begins anew whenever nothing is left between the two nodes: each link between them is down at both
+/// ends, its changeover complete and no answer awaited, and neither end may follow the other; and neither node has in
+/// Held a user message for one of the two, or management from one for one of them. What was lost or broken before
+/// doesn't matter, nor how often nodes have started again, nor what is in third nodes. From then on, while neither of
+/// the two starts again or is broken once more, whatever the others do, restarts among it: of the user messages for the
+/// far node that the near one accepts, by any test, those that come to the far node by a link from the near one and
+/// those that wait at the near one are together no more than it accepted. The rest are gone: by any test, no more than
+/// the near node named as lost since then; nor than it counted in `messages_lost` since. While neither of the two
+/// counts a possible loss, none is gone. It is so in both directions. At first nothing is left between any two nodes.
+pub fn hops_begin_anew()
+    ensures once { hops_begin_anew }
+    ensures flags { nothing_is_lost_anew }
+    ensures first { networks_begin_quietly }
+{}
+
 /// The node law isn't vacuous. Of a mated pair and two points that it transfers for, whose orders to change over go by
 /// any route: the only link between one of the pair and one of the points fails, with a message on it that came and
 /// wasn't confirmed, and one that didn't come. The orders and the answers go by the mate, and so does the second
@@ -102,6 +120,13 @@ pub fn a_message_is_named_as_lost()
 /// pair to the other comes, once.
 pub fn mates_are_a_hop()
     ensures { MatesAreAHop }
+{}
+
+/// Nor is that law anew. Of the same nodes, one of the pair starts again with a message for the other on their link,
+/// which is lost; nobody names it, and neither of the two counts a break. The other loses the association, and T1 runs
+/// out there. Then nothing is left between the two: their link opens again, and the next message comes, once.
+pub fn a_message_comes_anew()
+    ensures { BeginsAnew }
 {}
 
 /// The laws ask this little of links. On a link of a node the next link status in flight may be lost, or come twice.
