@@ -38,7 +38,7 @@ others-spared near far (Restarts point ∷ changes) h = (neither (nat_eq point n
     neither false b e f = f
     neither true b e f = absurd cc
 
-unraised : (before after : ℕ) → Stays before after → IsUnraised before after
+pub unraised : (before after : ℕ) → Stays before after → IsUnraised before after
 unraised before after h = record { same = omega (arith, h.same); low = h.countable }
 
 module _ (settings : (point : ℕ) → Configuration) (near far : ℕ) where
@@ -57,7 +57,7 @@ module _ (settings : (point : ℕ) → Configuration) (near far : ℕ) where
           ⊎_elim (λ (is : nat_eq y near ≡ true). d.0 (sym same ∙ eqb-true y near is)) (λ (is : nat_eq y far ≡ true). d.1 (sym same ∙ eqb-true y far is)) (either-true (nat_eq y near) (nat_eq y far) e)
 
   -- at each node, whatever is done
-  capped-after : (y : ℕ) (changes : List Change) (w : NetworkState) → IsCapped (w.node y) → IsCapped ((after_changes settings changes w).node y)
+  pub capped-after : (y : ℕ) (changes : List Change) (w : NetworkState) → IsCapped (w.node y) → IsCapped ((after_changes settings changes w).node y)
   capped-after y [] w k = k
   capped-after y (Does step ∷ changes) w k = capped-after y changes (after_step settings step w) (one-step (λ c x. IsCapped x) capped-kept settings y step w k)
   capped-after y (Restarts point ∷ changes) w k =
@@ -69,7 +69,7 @@ module _ (settings : (point : ℕ) → Configuration) (near far : ℕ) where
       (λ (d : y ≢ point). subst IsCapped (sym (changed-other point (restarted (settings point)) w y d)) k)
       (cases_eq y point))
 
-  begun-counted : (y : ℕ) (w : NetworkState) → HasCounted (w.node y).node.parts ((begun_anew w).node y)
+  pub begun-counted : (y : ℕ) (w : NetworkState) → HasCounted (w.node y).node.parts ((begun_anew w).node y)
   begun-counted y w = record { lost = omega arith; grown = same-grown refl; none_lost = λ u. refl; unbroken = λ u. refl }
 
 module _ (settings : (point : ℕ) → Configuration) (t : AreTheirs settings) (near far : ℕ) (fn : IsNode settings near) (ff : IsNode settings far) (hop : IsHop settings near far) (before changes : List Change)
@@ -102,7 +102,7 @@ module _ (settings : (point : ℕ) → Configuration) (t : AreTheirs settings) (
       (apart-first (hop_points near far) says_of (is_one_of near far) (for_one_of near far))
 
   at-begun : AreAt settings t (hop_points near far) (are-hop near far) (begun p)
-  at-begun x fx = record { lasts = begun-lasts near far p (at-p x fx).lasts; led = (at-p x fx).led }
+  at-begun x fx = record { lasts = begun-lasts (hop_points near far) p (at-p x fx).lasts; led = (at-p x fx).led }
 
   abbrev since : ChangeGoes settings t (hop_points near far) (are-hop near far) (is_one_of near far) (begun_anew start) now
   since = all-changes settings t (hop_points near far) (are-hop near far) (is_one_of near far) changes (others-spared near far changes others) (begun_anew start)
@@ -164,7 +164,7 @@ nothing-lost settings before changes near far test t fn ff hop quiet_then others
 
 -- ---- the first network
 
-first-quiet : (c : Configuration) (link : ℕ) → link < length c.links → IsQuietEnd (first_node c) link
+pub first-quiet : (c : Configuration) (link : ℕ) → link < length c.links → IsQuietEnd (first_node c) link
 first-quiet c link l =
     let at : link_at (first_node c).node.parts link ≡ down_link = get_or-replicate (length c.links) link down_link down_link l in
     let idle : changeover_of (first_node c).node.parts link ≡ no_changeover = get_or-replicate (length c.links) link no_changeover no_changeover l in

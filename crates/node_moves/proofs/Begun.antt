@@ -1,21 +1,22 @@
 -- A network of moves whose books begin: it shows the same nodes, and where nothing is left between two of them nothing of
 -- the two is left in it.
 use Rattle.node_moves.proofs.Basics.{◌≡◌, ◌≢◌, ◌⊎◌, inl, inr, ℕ, zero, suc, Bool, true, false, not, ◌&&◌, ◌||◌, ◌+◌, ◌^◌, ◌≤◌, ◌<◌, List, [], ◌∷◌, length, Some, Ok, Err, Result, count_by, nat_eq, nat_lt, refl, ap, sym, subst, ◌∙◌, arith, nat_tests, ⊎_elim, cases_eq, eqb-true, true≢false}
-use Rattle.node_moves.proofs.Machine.{Side, Near, Far, opposite, Saying, Phase, Live, Moved, Gone, LinkEnd, Line, Network, turned, seen, Place, line_at, point_at, one_if, IsEnd}
+use Rattle.node_moves.proofs.Machine.{Side, Near, Far, opposite, Saying, Phase, Live, Moved, Gone, LinkEnd, Line, Network, Shape, turned, seen, Place, line_at, point_at, one_if, IsEnd}
 use Rattle.node_moves.proofs.Definitions.{Message, Configuration, Node, WholeQueues, Queue, emptied, WINDOW, dpc_of, opc_of, is_management, service_indicator, testing, peer_of, down, changeover_of, Management, MgmtFault, read_management}
-use Rattle.node_moves.proofs.Reading.{place_by, place_of, across, read_says, says_by, says_of, is_long}
+use Rattle.node_moves.proofs.Reading.{IsShape, place_by, place_of, across, read_says, says_by, says_of, is_long}
 use Rattle.node_moves.proofs.Shown.{Shows, IsShown, IsBooked, shown_in, at-own}
 use Rattle.node_moves.proofs.Heard.{never-odd, own-apart}
 use Rattle.node_moves.proofs.Codes.{HasCode, read-fits}
 use Rattle.node_moves.proofs.World.{IsFlown, Shown, IsUnused, rests, place_at}
 use Rattle.node_moves.proofs.Relining.{across-line}
 use Rattle.node_moves.proofs.BothEnds.{IsOther, is-other}
-use Rattle.node_moves.proofs.Ending.{no-link, the-other, twice}
+use Rattle.node_moves.proofs.Ending.{no-link, the-other}
+use Rattle.node_moves.proofs.EndToEnd.{no-node}
 use Rattle.node_moves.proofs.Running.{all_points, point_by}
 use Rattle.node_moves.proofs.Closed.{either-true, is_one_of, for_one_of, concerning, hop_points, are-hop, point-far, says-same, each-true, both-true}
 use Rattle.node_moves.specs.Anew.{IsQuietEnd, IsQuietNode, NothingIsLeft, is_between, begun_anew}
 use Rattle.node_moves.specs.Laws.{AreTheirs}
-use Rattle.node_moves.specs.Networks.{NetworkNode, NetworkState, IsNode, other_end}
+use Rattle.node_moves.specs.Networks.{NetworkNode, NetworkState, IsNode, is_node, other_end}
 use Rattle.node_moves.specs.Networks as of_nodes
 use Rattle.link.proofs.Sound.{sound-emptied}
 use Rattle.mtp3_codec.specs.Management.{link_code_of}
@@ -115,23 +116,23 @@ module _ (settings : (point : ℕ) → Configuration) (t : AreTheirs settings) (
     idle = λ link unused. ap settled_line (s.idle link unused);
   }
 
-module _ (near far : ℕ) where
-  -- the same holds whatever was broken
-  pub begun-lasts : (p : Network) → Lasts (hop_points near far) says_of p → Lasts (hop_points near far) says_of (begun p)
-  begun-lasts p h = record {
-    bags = h.bags;
-    lines = λ link.
-        let l : LastsLine (hop_points near far) says_of (p.line link) = h.lines link in
-        record {
-          near = end-settled (p.line link).near l.near;
-          far = end-settled (p.line link).far l.far;
-          near_plain = omega (arith, l.near_plain, shown-fewer (odd says_of) (p.line link).near.phase (p.line link).near.queue);
-          far_plain = omega (arith, l.far_plain, shown-fewer (odd says_of) (p.line link).far.phase (p.line link).far.queue);
-          to_far = l.to_far;
-          to_near = l.to_near;
-        };
-  }
+-- the same holds whatever was broken
+pub begun-lasts : (shape : Shape) (p : Network) → Lasts shape says_of p → Lasts shape says_of (begun p)
+begun-lasts shape p h = record {
+  bags = h.bags;
+  lines = λ link.
+      let l : LastsLine shape says_of (p.line link) = h.lines link in
+      record {
+        near = end-settled (p.line link).near l.near;
+        far = end-settled (p.line link).far l.far;
+        near_plain = omega (arith, l.near_plain, shown-fewer (odd says_of) (p.line link).near.phase (p.line link).near.queue);
+        far_plain = omega (arith, l.far_plain, shown-fewer (odd says_of) (p.line link).far.phase (p.line link).far.queue);
+        to_far = l.to_far;
+        to_near = l.to_near;
+      };
+}
 
+module _ (near far : ℕ) where
   -- ---- messages that concern the two
 
   abbrev group : ℕ → Bool
@@ -250,6 +251,64 @@ rests-seen : (side : Side) (z : Line) → IsAtRest (settled_line (seen side z)) 
 rests-seen Near z h = h
 rests-seen Far z h = record { near = h.far; far = h.near; near_alone = h.far_alone; far_alone = h.near_alone }
 
+-- ---- lines whose ends are quiet
+
+module _ (settings : (point : ℕ) → Configuration) (t : AreTheirs settings) (shape : Shape) (o : IsShape shape) (w : NetworkState) (p : Network) (s : Shown settings t w p) (lasts : Lasts shape says_of p)
+    (inside : (link : ℕ) → Bool)
+    (quiet-end : (x link : ℕ) → IsNode settings x → link < length (settings x).links → inside (place_at settings t x link).link ≡ true → IsQuietEnd (w.node x) link) where
+  rest-found : (x link : ℕ) → IsNode settings x → link < length (settings x).links → inside (place_at settings t x link).link ≡ true → IsAtRest (settled_line (line_at p (place_at settings t x link)))
+  rest-found x link fx l e =
+      let its : Place = place_at settings t x link in
+      let z : Line = line_at p its in
+      let other : (there : of_nodes.LinkEnd) × (other_end settings x link ≡ Some there) = the-other (other_end settings x link) (t.joined x link fx l) in
+      let h : IsOther settings t shape o x link other.0 = is-other settings t shape o x link other.0 fx l other.1 in
+      let y : ℕ = other.0.point in
+      let j : ℕ = other.0.link in
+      let there : line_at p (place_at settings t y j) ≡ turned z = ap (line_at p) h.place ∙ across-line p its in
+      let away : inside (place_at settings t y j).link ≡ true = ap (λ (q : Place). inside q.link) h.place ∙ e in
+      let here_quiet : IsQuietEnd (w.node x) link = quiet-end x link fx l e in
+      let there_quiet : IsQuietEnd (w.node y) j = quiet-end y j h.within h.inside away in
+      let far_shown : IsShown (w.node y).node j z.far = subst (λ (g : Line). IsShown (w.node y).node j g.near) there ((s.nodes y h.within).ends j h.inside) in
+      let far_flown : IsFlown (w.node y) j (turned z) = subst (IsFlown (w.node y) j) there (s.flown y j h.within h.inside) in
+      let line : LastsLine shape says_of z = lasts-at shape says_of p its lasts in
+      record {
+        near = closed-by z.near line.near (up-by (w.node x) link z.near ((s.nodes x fx).ends link l) here_quiet);
+        far = closed-by z.far line.far (up-by (w.node y) j z.far far_shown there_quiet);
+        near_alone = sym (s.flown x link fx l).follows ∙ here_quiet.alone;
+        far_alone = sym far_flown.follows ∙ there_quiet.alone;
+      }
+
+  -- a link of a node at a line, if there is one
+  find-link : (x k n : ℕ) → ((i : ℕ) × (i < n) × ((place_at settings t x i).link ≡ k)) ⊎ ((i : ℕ) → i < n → (place_at settings t x i).link ≢ k)
+  find-link x k zero = inr (λ i l. absurd (omega (arith, l)))
+  find-link x k (suc n) =
+      ⊎_elim
+      (λ (found : (i : ℕ) × (i < n) × ((place_at settings t x i).link ≡ k)). inl (found.0, omega (arith, found.1), found.2))
+      (λ (none : (i : ℕ) → i < n → (place_at settings t x i).link ≢ k).
+      ⊎_elim
+      (λ (last : (place_at settings t x n).link ≡ k). inl (n, omega arith, last))
+      (λ (d : (place_at settings t x n).link ≢ k).
+      inr (λ i l. ⊎_elim (λ (same : i ≡ n). subst (λ (j : ℕ). (place_at settings t x j).link ≢ k) (sym same) d) (λ (less : i ≢ n). none i (omega (arith, l, less))) (cases_eq i n)))
+      (cases_eq (place_at settings t x n).link k))
+      (find-link x k n)
+
+  rest-unused : (link : ℕ) → IsUnused settings t link → IsAtRest (settled_line (p.line link))
+  rest-unused link unused = subst (λ (z : Line). IsAtRest (settled_line z)) (sym (s.idle link unused)) ((quiet-first says_of).lines link)
+
+  -- one of its points has a node, or none does
+  pub at-rest : (link : ℕ) → inside link ≡ true → (b : Bool) → is_node settings (shape.point link Near) ≡ b → IsAtRest (settled_line (p.line link))
+  at-rest link e true fx =
+      let x : ℕ = shape.point link Near in
+      ⊎_elim
+      (λ (found : (i : ℕ) × (i < length (settings x).links) × ((place_at settings t x i).link ≡ link)).
+      subst (λ (k : ℕ). IsAtRest (settled_line (p.line k))) found.2
+      (rests-seen (place_at settings t x found.0).side (p.line (place_at settings t x found.0).link) (rest-found x found.0 fx found.1 (ap inside found.2 ∙ e))))
+      (λ (none : (i : ℕ) → i < length (settings x).links → (place_at settings t x i).link ≢ link). rest-unused link (no-link settings t shape o x fx p s.idle link Near none refl))
+      (find-link x link (length (settings x).links))
+  at-rest link e false none = rest-unused link (no-node settings t shape o (shape.point link Near) link Near none refl)
+
+-- ---- between two nodes
+
 module _ (settings : (point : ℕ) → Configuration) (t : AreTheirs settings) (near far : ℕ) (fn : IsNode settings near) (ff : IsNode settings far) (w : NetworkState) (p : Network) (s : Shown settings t w p)
     (lasts : Lasts (hop_points near far) says_of p) (apart : IsApart (hop_points near far) says_of (is_one_of near far) (for_one_of near far) p) (quiet : NothingIsLeft settings near far w) where
   abbrev of_two : ℕ → Bool
@@ -294,63 +353,13 @@ module _ (settings : (point : ℕ) → Configuration) (t : AreTheirs settings) (
       let its : Place = place_at settings t x link in
       subst (λ (k : ℕ). of_two k ≡ true) (point-far near far (settings x) (t.well x fx) link) (within-side (hop_points near far) says_of of_two (for_one_of near far) its.link (opposite its.side) e)
 
-  ends-at : (p : Network) (place : Place) → Lasts (hop_points near far) says_of p → IsEnd (line_at p place).near × IsEnd (line_at p place).far
-  ends-at p place h = (let l : LastsLine (hop_points near far) says_of (line_at p place) = lasts-at (hop_points near far) says_of p place h in (l.near, l.far))
-
-  rest-found : (x link : ℕ) → of_two x ≡ true → link < length (settings x).links → inside (place_at settings t x link).link ≡ true → IsAtRest (settled_line (line_at p (place_at settings t x link)))
-  rest-found x link in_it l e =
-      let fx : IsNode settings x = of-node x in_it in
+  at-either : (x link : ℕ) → IsNode settings x → link < length (settings x).links → inside (place_at settings t x link).link ≡ true → IsQuietEnd (w.node x) link
+  at-either x link fx l e =
       let its : Place = place_at settings t x link in
-      let z : Line = line_at p its in
-      let other : (there : of_nodes.LinkEnd) × (other_end settings x link ≡ Some there) = the-other (other_end settings x link) (t.joined x link fx l) in
-      let h : IsOther settings t (hop_points near far) (are-hop near far) x link other.0 = is-other settings t (hop_points near far) (are-hop near far) x link other.0 fx l other.1 in
-      let y : ℕ = other.0.point in
-      let j : ℕ = other.0.link in
-      let there : line_at p (place_at settings t y j) ≡ turned z = ap (line_at p) h.place ∙ across-line p its in
-      let same : (place_at settings t y j).link ≡ its.link = ap (λ (q : Place). q.link) h.place in
-      let away : inside (place_at settings t y j).link ≡ true = ap inside same ∙ e in
-      let y_in : of_two y ≡ true =
-      subst (λ (k : ℕ). of_two k ≡ true) (at-own (hop_points near far) (are-hop near far) (settings y) (t.well y h.within) j ∙ t.own y h.within)
-      (within-side (hop_points near far) says_of of_two (for_one_of near far) (place_at settings t y j).link (place_at settings t y j).side away) in
-      let here_quiet : IsQuietEnd (w.node x) link = quiet-end x in_it link l (peer-in x link fx e) in
-      let there_quiet : IsQuietEnd (w.node y) j = quiet-end y y_in j h.inside (peer-in y j h.within away) in
-      let far_shown : IsShown (w.node y).node j z.far = subst (λ (g : Line). IsShown (w.node y).node j g.near) there ((s.nodes y h.within).ends j h.inside) in
-      let far_flown : IsFlown (w.node y) j (turned z) = subst (IsFlown (w.node y) j) there (s.flown y j h.within h.inside) in
-      let ends : IsEnd z.near × IsEnd z.far = ends-at p its lasts in
-      record {
-        near = closed-by z.near ends.0 (up-by (w.node x) link z.near ((s.nodes x fx).ends link l) here_quiet);
-        far = closed-by z.far ends.1 (up-by (w.node y) j z.far far_shown there_quiet);
-        near_alone = sym (s.flown x link fx l).follows ∙ here_quiet.alone;
-        far_alone = sym far_flown.follows ∙ there_quiet.alone;
-      }
-
-  -- a link of a node at a line, if there is one
-  find-link : (x k n : ℕ) → ((i : ℕ) × (i < n) × ((place_at settings t x i).link ≡ k)) ⊎ ((i : ℕ) → i < n → (place_at settings t x i).link ≢ k)
-  find-link x k zero = inr (λ i l. absurd (omega (arith, l)))
-  find-link x k (suc n) =
-      ⊎_elim
-      (λ (found : (i : ℕ) × (i < n) × ((place_at settings t x i).link ≡ k)). inl (found.0, omega (arith, found.1), found.2))
-      (λ (none : (i : ℕ) → i < n → (place_at settings t x i).link ≢ k).
-      ⊎_elim
-      (λ (last : (place_at settings t x n).link ≡ k). inl (n, omega arith, last))
-      (λ (d : (place_at settings t x n).link ≢ k).
-      inr (λ i l. ⊎_elim (λ (same : i ≡ n). subst (λ (j : ℕ). (place_at settings t x j).link ≢ k) (sym same) d) (λ (less : i ≢ n). none i (omega (arith, l, less))) (cases_eq i n)))
-      (cases_eq (place_at settings t x n).link k))
-      (find-link x k n)
-
-  at-rest : (link : ℕ) → inside link ≡ true → IsAtRest (settled_line (p.line link))
-  at-rest link e =
-      let x : ℕ = (hop_points near far).point link Near in
-      let in_it : of_two x ≡ true = within-side (hop_points near far) says_of of_two (for_one_of near far) link Near e in
-      let fx : IsNode settings x = of-node x in_it in
-      ⊎_elim
-      (λ (found : (i : ℕ) × (i < length (settings x).links) × ((place_at settings t x i).link ≡ link)).
-      subst (λ (k : ℕ). IsAtRest (settled_line (p.line k))) found.2
-      (rests-seen (place_at settings t x found.0).side (p.line (place_at settings t x found.0).link) (rest-found x found.0 in_it found.1 (ap inside found.2 ∙ e))))
-      (λ (none : (i : ℕ) → i < length (settings x).links → (place_at settings t x i).link ≢ link).
-      let unused : p.line link ≡ closed_line = s.idle link (no-link settings t (hop_points near far) (are-hop near far) x fx p s.idle link Near none refl) in
-      subst (λ (z : Line). IsAtRest (settled_line z)) (sym unused) ((quiet-first says_of).lines link))
-      (find-link x link (length (settings x).links))
+      let in_it : of_two x ≡ true =
+      subst (λ (k : ℕ). of_two k ≡ true) (at-own (hop_points near far) (are-hop near far) (settings x) (t.well x fx) link ∙ t.own x fx)
+      (within-side (hop_points near far) says_of of_two (for_one_of near far) its.link its.side e) in
+      quiet-end x in_it link l (peer-in x link fx e)
 
   -- ---- nodes
 
@@ -377,7 +386,7 @@ module _ (settings : (point : ℕ) → Configuration) (t : AreTheirs settings) (
 
   pub none-left : groups.NothingIsLeft (hop_points near far) says_of of_two (for_one_of near far) (begun p)
   none-left = record {
-    lines = at-rest;
+    lines = λ link e. at-rest settings t (hop_points near far) (are-hop near far) w p s lasts inside at-either link e (is_node settings ((hop_points near far).point link Near)) refl;
     bags = λ x. bag-none x (of_two x) refl;
     others = clear;
     books = λ x e. record { submitted = refl; accepted = refl; ended = refl; gone = refl; named = refl };

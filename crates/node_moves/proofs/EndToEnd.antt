@@ -94,7 +94,7 @@ without-sums handed made there refused waits gone e f = omega (arith, e, f)
 
 module _ (settings : (point : ℕ) → Configuration) (t : AreTheirs settings) (shape : Shape) (o : IsShape shape) where
   -- a line of the machine at a point without a node is no link
-  no-node : (x k : ℕ) (side : Side) → is_node settings x ≡ false → shape.point k side ≡ x → IsUnused settings t k
+  pub no-node : (x k : ℕ) (side : Side) → is_node settings x ≡ false → shape.point k side ≡ x → IsUnused settings t k
   no-node x k side none e y l fy inside same =
       let its : Place = place_at settings t y l in
       ⊎_elim
@@ -140,7 +140,7 @@ module _ (settings : (point : ℕ) → Configuration) (t : AreTheirs settings) (
           ∙ sym (sum-ends settings t shape o x fx p s.idle (λ z. count_by users z.far.came) refl)
       to-is x false none = sym (none-there (λ z. count_by users z.far.came) refl x none)
 
-      across : IsJoined shape → shape.nodes ≡ points → total settings w (came_from settings w test) ≡ total settings w (came_to settings w any_fate test)
+      pub across : IsJoined shape → shape.nodes ≡ points → total settings w (came_from settings w test) ≡ total settings w (came_to settings w any_fate test)
       across joined e =
           sum-alike (law.came_from shape users p) (λ x. if is_node settings x then came_from settings w test x else 0) points (λ x l. from-is x (is_node settings x) refl)
           ∙ subst (λ (n : ℕ). sum_to (law.came_from shape users p) n ≡ sum_to (law.came_to shape users p) n) e (came-across shape joined users p)
@@ -244,7 +244,7 @@ module _ (settings : (point : ℕ) → Configuration) (t : AreTheirs settings) (
       (λ f. relayed-sccp (is_here (settings x) f.message) (is_sccp f.message) (is_taken_on f.outcome || is_handled f.outcome) (test f.message))) points
 
   -- of the whole network
-  accounted : IsAccounted settings w
+  pub accounted : IsAccounted settings w
   accounted = record {
     once = λ test. with-none (for_user_parts test) (delivered (for_user_parts test)) refl (none-relayed test) (none-made test);
     with_sccp = λ test. with-both test (delivered test) (relayed test) refl refl;
@@ -290,7 +290,7 @@ module _ (settings : (point : ℕ) → Configuration) (t : AreTheirs settings) (
           (delivered-there (to_user_parts point test) (λ m e. and-last (not (is_sccp m)) (to_point point test m) (to-point m e)))
           (none-relayed (to_point point test)) (none-made (to_point point test))
 
-    end-to-end : ComeFromEndToEnd settings w point
+    pub end-to-end : ComeFromEndToEnd settings w point
     end-to-end = record {
       once = λ test. once test;
       with_sccp = λ test. with-sccp test;
@@ -300,7 +300,7 @@ module _ (settings : (point : ℕ) → Configuration) (t : AreTheirs settings) (
 
 -- ---- after every list of steps
 
-are-joined : IsJoined all_points
+pub are-joined : IsJoined all_points
 unfolding all_points
 are-joined = record { inside = λ link side l. within link side l }
   where
@@ -308,7 +308,7 @@ are-joined = record { inside = λ link side l. within link side l }
     within link Near l = omega (arith, l)
     within link Far l = omega (arith, l)
 
-all-nodes : all_points.nodes ≡ points
+pub all-nodes : all_points.nodes ≡ points
 unfolding all_points
 all-nodes = refl
 

@@ -128,7 +128,7 @@ module _ (P : Configuration → NetworkNode → Type 0) (kept : IsKept P) where
         by true = did-keeps step.what step.point w h
         by false = h
 
-    steps-keep : (steps : List Step) (w : NetworkState) → Holds w → Holds (after_steps settings steps w)
+    pub steps-keep : (steps : List Step) (w : NetworkState) → Holds w → Holds (after_steps settings steps w)
     steps-keep [] w h = h
     steps-keep (step ∷ steps) w h = steps-keep steps (after_step settings step w) (one-step step w h)
 

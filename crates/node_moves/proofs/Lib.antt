@@ -58,5 +58,6 @@ pub mod Changes
 pub mod CountedSince
 pub mod Begun
 pub mod Anew
+pub mod NetworkAnew
 pub mod HopRun
 pub mod AnewRun

@@ -11,3 +11,4 @@ pub mod Hops
 pub mod HopRun
 pub mod Anew
 pub mod AnewRun
+pub mod NetworkAnew

@@ -1,5 +1,5 @@
 //! What holds in each network that steps reach from the first (`specs/Networks.antt`), of any shape and with any
-//! routes. No step starts a node again, but for those of `hops_begin_anew`; and nothing comes from outside. Where no
+//! routes. No step starts a node again, but in laws of what begins anew; and nothing comes from outside. Where no
 //! other premise is named, these are asked (`AreTheirs`): each node is told the point at which it is, its settings are
 //! checked, and each of its links has its other end in the network, with its code. No node is *broken* while
 //! `times_broken` is 0 at all of them.
@@ -18,6 +18,8 @@ ghost use Rattle.node_moves.specs.LossRun.{NamesWhatIsLost};
 ghost use Rattle.node_moves.specs.Lossless.{flags_tell_of_each_loss, nodes_lose_nothing};
 ghost use Rattle.node_moves.specs.Lossless.{nothing_is_lost_from_end_to_end};
 ghost use Rattle.node_moves.specs.MatedRun.{ComesByTheMate};
+ghost use Rattle.node_moves.specs.NetworkAnew.{ends_begin_anew, first_networks_are_quiet, nodes_begin_anew};
+ghost use Rattle.node_moves.specs.NetworkAnew.{nothing_is_lost_in_a_network_anew, sums_begin_anew};
 ghost use Rattle.node_moves.specs.Possible.{links_may_fail, statuses_may_be_harmed};
 
 /// The node law. While no node is broken: of user messages, by any test, those that came from a node to its neighbours
@@ -95,6 +97,20 @@ pub fn hops_begin_anew()
     ensures once { hops_begin_anew }
     ensures flags { nothing_is_lost_anew }
     ensures first { networks_begin_quietly }
+{}
+
+/// The node law, and both laws from end to end, begin anew whenever nothing is left at any node: each link of a node is
+/// down there, its changeover complete and no answer awaited, and the node may not follow its other end; and nothing is
+/// in Held. What was lost or broken before doesn't matter, nor how often nodes have started again. From then on, while
+/// no node starts again or is broken once more, what these laws say holds of what is handed over and accepted since,
+/// and of what nodes named as lost since; and of a node no more is gone than it counted in `messages_lost` since. While
+/// no node counts a possible loss, none is gone. The first network is such a one.
+pub fn networks_begin_anew()
+    ensures nodes { nodes_begin_anew }
+    ensures ends { ends_begin_anew }
+    ensures sums { sums_begin_anew }
+    ensures flags { nothing_is_lost_in_a_network_anew }
+    ensures first { first_networks_are_quiet }
 {}
 
 /// The node law isn't vacuous. Of a mated pair and two points that it transfers for, whose orders to change over go by
