@@ -2,7 +2,7 @@
 use Rattle.network_moves.proofs.Basics.{◌≡◌, ◌≢◌, ℕ, Bool, true, false, ◌+◌, ◌&&◌, List, [], ◌∷◌, ◌++◌, count_by, nat_eq, refl, ap, sym, ◌∙◌, subst, arith, if◌then◌else◌, ⊎_elim, cases_eq}
 use Rattle.network_moves.proofs.Definitions.{Message, Near, Far, Saying, user, Line, Network, Shape, turned, waiting, given_up, point_at, one_if, Move, Moves, last_of, closed_line, first_network, came_from, sum_at, EndsOnce}
 use Rattle.network_moves.specs.Moves as moves
-use Rattle.network_moves.specs.Groups.{KeepsToItself, sum_within, came_within, users_for, EndsOnceWithin, groups_decide_alone, is_left, IsClear, Begins, NothingIsLeft, groups_begin_anew, StaysWithin, nothing_leaves_the_group}
+use Rattle.network_moves.specs.Groups.{KeepsToItself, sum_within, came_within, users_for, EndsOnceWithin, groups_decide_alone, is_left, IsClear, Begins, NothingIsLeft, groups_begin_anew, nothing_leaves_the_group}
 use Rattle.network_moves.specs.Quiet.{AreOthers, IsAtRest, IsIdle, IsQuiet, first_node}
 use Rattle.network_moves.proofs.Counts.{count-cons, sum-alike}
 use Rattle.network_moves.proofs.Lines.{both}

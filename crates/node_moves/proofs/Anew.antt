@@ -1,23 +1,21 @@
 -- A hop anew: from each network on in which nothing is left between its two nodes.
-use Rattle.node_moves.proofs.Basics.{◌≡◌, ◌≢◌, ℕ, Bool, true, false, ◌||◌, ◌&&◌, ◌+◌, ◌≤◌, ◌<◌, List, [], ◌∷◌, count_by, length, min, nat_eq, refl, ap, sym, subst, ◌∙◌, arith, ⊎_elim, cases_eq, eqb-true, ne_eqb}
+use Rattle.node_moves.proofs.Basics.{◌≡◌, ◌≢◌, ℕ, Bool, true, false, ◌||◌, ◌&&◌, ◌<◌, List, [], ◌∷◌, length, nat_eq, refl, ap, sym, subst, ◌∙◌, arith, ⊎_elim, cases_eq, eqb-true, ne_eqb}
 use Rattle.node_moves.proofs.Machine.{Network, last_of}
 use Rattle.node_moves.proofs.Definitions.{Message, Configuration, link_at, changeover_of, Link, down_link, is_down, Standing, no_changeover}
 use Rattle.node_moves.proofs.Grown.{IsUnraised, same-grown}
 use Rattle.node_moves.proofs.Reading.{says_of}
-use Rattle.node_moves.proofs.Going.{IsAt}
-use Rattle.node_moves.proofs.World.{Shown}
 use Rattle.node_moves.proofs.Flights.{changed-here, changed-other}
 use Rattle.node_moves.proofs.Running.{first-shown}
 use Rattle.node_moves.proofs.Closed.{either-true, is_one_of, for_one_of, hop_points, are-hop, stays-between}
 use Rattle.node_moves.proofs.Hops.{near-in, far-in, led, comes-by}
 use Rattle.node_moves.proofs.Everywhere.{one-step}
-use Rattle.node_moves.proofs.Changes.{Spares, SpareAll, nobody, spares-nobody, AreAt, at-after, Comes, ChangeGoes, all-changes}
+use Rattle.node_moves.proofs.Changes.{SpareAll, nobody, spares-nobody, AreAt, at-after, Comes, ChangeGoes, all-changes}
 use Rattle.node_moves.proofs.CountedSince.{HasCounted, counted-kept, IsCapped, capped-kept}
 use Rattle.node_moves.proofs.Begun.{begun, begun-shown, begun-lasts, none-left}
-use Rattle.node_moves.specs.Anew.{Change, Does, Restarts, restarted, after_change, after_changes, IsQuietEnd, NothingIsLeft, begun_anew, Stays, IsOfOthers, AreOfOthers, AreUnbrokenSince, HaveLostNothingSince, ComesOverSince, hops_begin_anew, nothing_is_lost_anew, networks_begin_quietly}
+use Rattle.node_moves.specs.Anew.{Change, Does, Restarts, restarted, after_change, after_changes, IsQuietEnd, NothingIsLeft, begun_anew, Stays, AreOfOthers, AreUnbrokenSince, HaveLostNothingSince, ComesOverSince, hops_begin_anew, nothing_is_lost_anew, networks_begin_quietly}
 use Rattle.node_moves.specs.EndToEnd.{to_point}
 use Rattle.node_moves.specs.Hops.{IsHop, ComesOver, gone_for}
-use Rattle.node_moves.specs.Laws.{AreTheirs, is_user, most, users_that}
+use Rattle.node_moves.specs.Laws.{AreTheirs, is_user}
 use Rattle.node_moves.specs.Networks.{NetworkNode, NetworkState, IsNode, after_step, first_network, first_node}
 use Rattle.network_moves.proofs.Apart.{IsApart}
 use Rattle.network_moves.proofs.Grouped.{apart-after, apart-first, groups-anew}

@@ -1,5 +1,5 @@
 -- The run in which a mate starts again, computed as `MatedRun` computes its own.
-use Rattle.node_moves.proofs.Basics.{◌≡◌, ℕ, zero, suc, Bool, true, false, List, [], ◌∷◌, ◌++◌, ◌<◌, ◌≢◌, map, count_by, nat_eq, refl, ap, sym, subst, ◌∙◌, arith}
+use Rattle.node_moves.proofs.Basics.{◌≡◌, ℕ, zero, suc, Bool, true, false, List, [], ◌∷◌, ◌++◌, ◌<◌, map, count_by, nat_eq, refl, ap, sym, subst, ◌∙◌, arith}
 use Rattle.node_moves.proofs.Definitions.{Message, Configuration, down, changeover_of, peer_of}
 use Rattle.node_moves.proofs.HopRun.{pair-hop, three-out, three-free}
 use Rattle.node_moves.proofs.LaidOut.{Four, at_point, changed-is, changed_at, network_of, run, run-is}
@@ -8,7 +8,7 @@ use Rattle.node_moves.proofs.MatedRun.{first_four, served-is, served_from}
 use Rattle.node_moves.proofs.Offering.{GoesOut, submits-on, submitting}
 use Rattle.node_moves.proofs.Unheld.{Free, free-none, none-held}
 use Rattle.node_moves.specs.Anew.{Change, Does, Restarts, IsQuietEnd, after_changes, begun_anew, is_between, restarted, Stays}
-use Rattle.node_moves.specs.AnewRun.{BeginsAnew, come_anew, message_four, next, outage, over, restarting, return}
+use Rattle.node_moves.specs.AnewRun.{BeginsAnew, come_anew, message_four, next, outage, over, return}
 use Rattle.node_moves.specs.HopRun.{message_three}
 use Rattle.node_moves.specs.Laws.{most}
 use Rattle.node_moves.specs.MatedPair.{mated}

@@ -1,9 +1,9 @@
 -- A network of moves whose books begin: it shows the same nodes, and where nothing is left between two of them nothing of
 -- the two is left in it.
 use Rattle.node_moves.proofs.Basics.{◌≡◌, ◌≢◌, ◌⊎◌, inl, inr, ℕ, zero, suc, Bool, true, false, not, ◌&&◌, ◌||◌, ◌+◌, ◌^◌, ◌≤◌, ◌<◌, List, [], ◌∷◌, length, Some, Ok, Err, Result, count_by, nat_eq, nat_lt, refl, ap, sym, subst, ◌∙◌, arith, nat_tests, ⊎_elim, cases_eq, eqb-true, true≢false}
-use Rattle.node_moves.proofs.Machine.{Side, Near, Far, opposite, Saying, Phase, Live, Moved, Gone, LinkEnd, Line, Network, Shape, turned, seen, Place, line_at, point_at, one_if, IsEnd}
-use Rattle.node_moves.proofs.Definitions.{Message, Configuration, Node, WholeQueues, Queue, emptied, WINDOW, dpc_of, opc_of, is_management, service_indicator, testing, peer_of, down, changeover_of, Management, MgmtFault, read_management}
-use Rattle.node_moves.proofs.Reading.{IsShape, place_by, place_of, across, read_says, says_by, says_of, is_long}
+use Rattle.node_moves.proofs.Machine.{Side, Near, Far, opposite, Phase, Live, Moved, Gone, LinkEnd, Line, Network, Shape, turned, seen, Place, line_at, one_if, IsEnd}
+use Rattle.node_moves.proofs.Definitions.{Message, Configuration, Queue, WINDOW, dpc_of, opc_of, is_management, service_indicator, testing, peer_of, Management, MgmtFault, read_management}
+use Rattle.node_moves.proofs.Reading.{IsShape, place_by, place_of, read_says, says_by, says_of, is_long}
 use Rattle.node_moves.proofs.Shown.{Shows, IsShown, IsBooked, shown_in, at-own}
 use Rattle.node_moves.proofs.Heard.{never-odd, own-apart}
 use Rattle.node_moves.proofs.Codes.{HasCode, read-fits}
@@ -14,7 +14,7 @@ use Rattle.node_moves.proofs.Ending.{no-link, the-other}
 use Rattle.node_moves.proofs.EndToEnd.{no-node}
 use Rattle.node_moves.proofs.Running.{all_points, point_by}
 use Rattle.node_moves.proofs.Closed.{either-true, is_one_of, for_one_of, concerning, hop_points, are-hop, point-far, says-same, each-true, both-true}
-use Rattle.node_moves.specs.Anew.{IsQuietEnd, IsQuietNode, NothingIsLeft, is_between, begun_anew}
+use Rattle.node_moves.specs.Anew.{IsQuietEnd, NothingIsLeft, is_between, begun_anew}
 use Rattle.node_moves.specs.Laws.{AreTheirs}
 use Rattle.node_moves.specs.Networks.{NetworkNode, NetworkState, IsNode, is_node, other_end}
 use Rattle.node_moves.specs.Networks as of_nodes
@@ -29,7 +29,7 @@ use Rattle.network_moves.proofs.Masking.{within-side}
 use Rattle.network_moves.specs.Groups as groups
 use Rattle.network_moves.specs.Groups.{is_within, is_left, IsClear, says_of_group}
 use Rattle.network_moves.specs.Lasting.{is_odd, odd}
-use Rattle.network_moves.specs.Quiet.{IsAtRest, IsClosed, closed_line}
+use Rattle.network_moves.specs.Quiet.{IsAtRest, IsClosed}
 use Rattle.network_moves.specs.Returning.{MayOpen}
 
 -- ---- ends and lines whose books begin

@@ -1,7 +1,7 @@
 -- Each list of changes is a list of moves, from whatever network shows the state before it. It breaks no node that it
 -- spares, unless that counted it.
-use Rattle.node_moves.proofs.Basics.{◌≡◌, ◌≢◌, ℕ, Bool, true, false, List, [], ◌∷◌, ◌++◌, refl, ap, sym, subst, ◌∙◌, ⊎_elim, cases_eq}
-use Rattle.node_moves.proofs.Machine.{Network, Shape, line_at, Move, Moves, last_of}
+use Rattle.node_moves.proofs.Basics.{◌≡◌, ◌≢◌, ℕ, Bool, true, false, List, [], ◌∷◌, ◌++◌, refl, ap, sym, subst, ◌∙◌}
+use Rattle.node_moves.proofs.Machine.{Network, Shape, line_at, Moves, last_of}
 use Rattle.node_moves.proofs.Definitions.{Configuration}
 use Rattle.node_moves.proofs.Grown.{Grown, IsUnraised, same-grown, both-grown, unraised-first, unraised-then}
 use Rattle.node_moves.proofs.Reading.{IsShape, says_of}
@@ -14,7 +14,7 @@ use Rattle.node_moves.proofs.Running.{all-steps}
 use Rattle.node_moves.proofs.StartedAgain.{after, restart-shown, restart-move, restart-broken}
 use Rattle.node_moves.specs.Anew.{Change, Does, Restarts, restarted, after_change, after_changes}
 use Rattle.node_moves.specs.Laws.{AreTheirs}
-use Rattle.node_moves.specs.Networks.{NetworkNode, NetworkState, Step, IsNode, is_node, changed, after_steps}
+use Rattle.node_moves.specs.Networks.{NetworkNode, NetworkState, IsNode, is_node, changed}
 use Rattle.network_moves.proofs.Lasting.{lasts-after}
 
 -- changes by which none of these nodes starts again

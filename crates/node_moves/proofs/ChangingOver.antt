@@ -1,10 +1,10 @@
 -- The rules of a changeover go by moves: an order that is heard, an answer, a timer, and orders that go out late.
 use Rattle.node_moves.proofs.Basics.{◌≡◌, ℕ, Bool, true, false, not, ◌&&◌, ◌+◌, ◌≤◌, ◌<◌, List, [], ◌∷◌, ◌++◌, length, Option, Some, None, min, refl, ap, sym, subst, ◌∙◌, arith, if◌then◌else◌, get_or-set_same, get_or_past, length-set, slice_index_or, ⊎_elim, cases_lt, is_some}
 use Rattle.std.proofs.lemmas.List.{set-set}
-use Rattle.node_moves.proofs.Machine.{is_user_message, line_at, Shape}
+use Rattle.node_moves.proofs.Machine.{is_user_message, Shape}
 use Rattle.node_moves.proofs.Definitions.{Message, flow_of, is_management, Configuration, IsWell, Node, WholeQueues, Parts, whole, with_parts, answer, queue_at, link_at, links_with, is_link, in_service, down, changeover_of, with_changeover, link_of, no_room, Queue, first_queue, appended, last_accepted, Standing, no_changeover, Link, down_link, is_down}
 use Rattle.node_moves.proofs.Reading.{IsShape, says_of, says-managing, order_at, answer_at, across}
-use Rattle.node_moves.proofs.Shown.{Books, no_books, naming, marks_of, most, place, shown-alike}
+use Rattle.node_moves.proofs.Shown.{Books, no_books, naming, marks_of, most, place}
 use Rattle.node_moves.proofs.Grown.{Grown, same-grown, both-grown, more-grown}
 use Rattle.node_moves.proofs.Going.{Goes, goes-none, goes-both, arrives-here}
 use Rattle.node_moves.proofs.Handling.{mid, drops}

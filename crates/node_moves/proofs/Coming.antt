@@ -3,7 +3,7 @@ use Rattle.node_moves.proofs.Basics.{◌≡◌, ◌≢◌, ℕ, Bool, true, fals
 use Rattle.node_moves.proofs.Machine.{Frame, EmptyFrame, MessageFrame, LinkEnd, Live, Line, Network, Shape, Place, line_at, node_at, user}
 use Rattle.node_moves.proofs.Definitions.{Message, Configuration, IsWell, Node, WholeQueues, Parts, whole, link_at, queue_at, in_service, down, changeover_of, Queue, first_queue, Link, down_link, is_down, is_in_service, Alignment}
 use Rattle.node_moves.proofs.Reading.{IsShape, says_of}
-use Rattle.node_moves.proofs.Shown.{Books, no_books, Mid, Shows, IsShown, IsAlike, IsSized, IsSilent, IsBooked, is_heard, shown_in, users_that, any_message, most, link-inside, own-inside}
+use Rattle.node_moves.proofs.Shown.{Books, Mid, Shows, IsShown, IsAlike, IsSized, IsSilent, IsBooked, is_heard, shown_in, users_that, any_message, most, link-inside, own-inside}
 use Rattle.node_moves.proofs.Grown.{Grown, same-grown}
 use Rattle.node_moves.proofs.Going.{IsAt}
 use Rattle.exchange_rules.proofs.Steps.{ways_of}

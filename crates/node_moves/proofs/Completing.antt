@@ -4,7 +4,7 @@ use Rattle.node_moves.proofs.Machine.{is_user_message, user, Phase, Live, Moved,
 use Rattle.node_moves.proofs.Definitions.{Message, Configuration, IsWell, Node, WholeQueues, whole, with_parts, queue_at, down, changeover_of, Queue, first_queue, emptied, last_accepted, Standing, no_changeover, Link, is_down, is_in_service}
 use Rattle.node_moves.proofs.Reading.{IsShape, says_of, order_at, answer_at, across}
 use Rattle.node_moves.proofs.Sets.{with_node, node-set, end-set, break-set}
-use Rattle.node_moves.proofs.Shown.{Books, no_books, naming, Mid, Shows, IsShown, IsAlike, IsSized, IsSilent, IsBooked, Marks, shown_in, is_heard, place, users_that, any_message, most, shown-alike, link-inside, own-inside, at-own}
+use Rattle.node_moves.proofs.Shown.{Books, naming, Mid, Shows, IsShown, IsAlike, IsSized, IsSilent, IsBooked, Marks, shown_in, is_heard, place, users_that, any_message, most, shown-alike, link-inside, own-inside, at-own}
 use Rattle.node_moves.proofs.Grown.{Grown, IsUnraised, same-grown, both-grown, more-grown, raised-not}
 use Rattle.node_moves.proofs.Going.{IsAt, Goes, by-line, by-break}
 use Rattle.node_moves.proofs.Own.{K}

@@ -1,12 +1,12 @@
 -- What one node has counted since its books began: each message that it named as lost; and if it counts no loss, none and
 -- no break.
-use Rattle.node_moves.proofs.Basics.{◌≡◌, ◌≢◌, ℕ, zero, suc, Bool, ◌+◌, ◌-◌, ◌≤◌, ◌<◌, ◌^◌, List, [], ◌∷◌, ◌++◌, length, Some, count_by, map, min, refl, ap, sym, subst, ◌∙◌, arith}
+use Rattle.node_moves.proofs.Basics.{◌≡◌, ℕ, zero, suc, ◌+◌, ◌≤◌, List, ◌++◌, length, Some, map, min, refl, ap, sym, subst, ◌∙◌, arith}
 use Rattle.node_moves.proofs.Definitions.{Message, Configuration, Parts, Node, WholeQueues, whole}
 use Rattle.node_moves.proofs.Grown.{Grown, IsUnraised, same-grown, both-grown, more-grown, unraised-first, unraised-then, raised-not}
 use Rattle.node_moves.proofs.Everywhere.{IsKept}
 use Rattle.node_moves.proofs.Lossless.{gone-few}
 use Rattle.node_moves.specs.Laws.{most}
-use Rattle.node_moves.specs.Networks.{NetworkNode, hand_over, happens, hear_data, after_event, named_by, state_of}
+use Rattle.node_moves.specs.Networks.{NetworkNode, hand_over, happens, hear_data, named_by, state_of}
 use Rattle.exchange_rules.proofs.NamedAll.{events-account, takes-flag}
 use Rattle.exchange_rules.specs.ChangingOver.{bars}
 use Rattle.exchange_rules.specs.Conserving.{gone, gone_by, gone_by_release}

@@ -1,13 +1,13 @@
 -- A network anew: from each state on in which nothing is left at any node.
-use Rattle.node_moves.proofs.Basics.{◌≡◌, ℕ, Bool, true, false, ◌&&◌, ◌+◌, ◌≤◌, ◌<◌, List, [], ◌∷◌, count_by, length, min, nat_lt, refl, ap, sym, subst, ◌∙◌, arith, nat_tests, if◌then◌else◌}
+use Rattle.node_moves.proofs.Basics.{◌≡◌, ℕ, Bool, true, false, ◌&&◌, ◌+◌, ◌<◌, List, [], ◌∷◌, count_by, nat_lt, refl, ap, sym, subst, ◌∙◌, arith, nat_tests}
 use Rattle.node_moves.proofs.Machine.{Near, Network, last_of, Sound}
 use Rattle.node_moves.proofs.Definitions.{Message, Configuration}
-use Rattle.node_moves.proofs.Grown.{IsUnraised, same-grown}
+use Rattle.node_moves.proofs.Grown.{same-grown}
 use Rattle.node_moves.proofs.Reading.{says_of}
 use Rattle.node_moves.proofs.Shown.{Shows, IsBooked}
 use Rattle.node_moves.proofs.World.{Shown, rests}
 use Rattle.node_moves.proofs.Running.{all_points, are-all, all-led, all-steps, first-shown}
-use Rattle.node_moves.proofs.Steps.{StepGoes, Reaches}
+use Rattle.node_moves.proofs.Steps.{Reaches}
 use Rattle.node_moves.proofs.Ending.{ends}
 use Rattle.node_moves.proofs.EndToEnd.{across, accounted, end-to-end, are-joined, all-nodes}
 use Rattle.node_moves.proofs.Everywhere.{steps-keep}
@@ -16,11 +16,11 @@ use Rattle.node_moves.proofs.Changes.{nobody, spares-nobody, AreAt, at-after, Co
 use Rattle.node_moves.proofs.CountedSince.{HasCounted, counted-kept, IsCapped}
 use Rattle.node_moves.proofs.Begun.{settled_line, begun, begun-shown, begun-lasts, at-rest}
 use Rattle.node_moves.proofs.Anew.{begun-counted, capped-after, first-quiet, unraised}
-use Rattle.node_moves.specs.Anew.{Change, Stays, IsQuietEnd, after_changes, begun_anew}
+use Rattle.node_moves.specs.Anew.{Change, Stays, after_changes, begun_anew}
 use Rattle.node_moves.specs.EndToEnd.{ComeFromEndToEnd, IsAccounted}
 use Rattle.node_moves.specs.Fates.{TakesEachIn}
-use Rattle.node_moves.specs.Laws.{AreTheirs, EndsOnce, gone_at, is_user, most}
-use Rattle.node_moves.specs.NetworkAnew.{IsQuietAlone, IsQuietNetwork, NoneBrokenSince, NoneLostSince, EndsOnceSince, nodes_begin_anew, ends_begin_anew, sums_begin_anew, nothing_is_lost_in_a_network_anew, first_networks_are_quiet}
+use Rattle.node_moves.specs.Laws.{AreTheirs, EndsOnce, gone_at, is_user}
+use Rattle.node_moves.specs.NetworkAnew.{IsQuietNetwork, NoneBrokenSince, NoneLostSince, EndsOnceSince, nodes_begin_anew, ends_begin_anew, sums_begin_anew, nothing_is_lost_in_a_network_anew, first_networks_are_quiet}
 use Rattle.node_moves.specs.Networks as of_nodes
 use Rattle.node_moves.specs.Networks.{NetworkNode, NetworkState, IsNode, Step, is_node, points, after_steps, first_network}
 use Rattle.network_moves.proofs.Counts.{count-cons}

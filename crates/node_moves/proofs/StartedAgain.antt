@@ -1,7 +1,7 @@
 -- A node that starts again: one move.
 use Rattle.node_moves.proofs.Basics.{◌≡◌, ◌≢◌, ℕ, Bool, true, false, not, ◌<◌, List, [], length, Some, count_by, nat_eq, refl, ap, sym, subst, ◌∙◌, arith, if◌then◌else◌, length-replicate, ⊎_elim, cases_eq, ne_eqb, eq-eqb}
 use Rattle.node_moves.proofs.Machine.{Side, Near, Far, opposite, LinkEnd, Line, Network, Shape, turned, seen, Place, line_at, point_at, Move}
-use Rattle.node_moves.proofs.Definitions.{Message, Configuration, IsWell, Node, WholeQueues, link_at, changeover_of, first_queue, Link, down_link, Standing, no_changeover, is_down, is_in_service}
+use Rattle.node_moves.proofs.Definitions.{Message, Configuration, link_at, changeover_of, first_queue, Link, down_link, Standing, no_changeover, is_down, is_in_service}
 use Rattle.node_moves.proofs.Reading.{IsShape, says_of, across}
 use Rattle.node_moves.proofs.Shown.{Shows, IsShown, IsSized, IsSilent, IsBooked, is_heard, at-own}
 use Rattle.node_moves.proofs.BothEnds.{IsOther, is-other}
