@@ -1,7 +1,7 @@
 -- What concerns a group of nodes is at no other node, and on no link that isn't within.
 use Rattle.network_moves.proofs.Basics.{◌≡◌, ◌≢◌, ℕ, zero, suc, Bool, true, false, ◌+◌, ◌≤◌, ◌&&◌, List, [], ◌∷◌, ◌++◌, count_by, drop, refl, ap, sym, ◌∙◌, subst, arith, ⊎_elim, cases_eq}
 use Rattle.network_moves.proofs.Definitions.{Message, Side, Near, Far, opposite, Saying, UserMessage, Order, Answer, Other, Frame, EmptyFrame, MessageFrame, Line, Node, Network, Shape, seen, Place, line_at, point_at, node_at, one_if, LinesBecome}
-pub use Rattle.network_moves.specs.Groups.{frames_by}
+pub use Rattle.network_moves.specs.Networks.{frames_by}
 use Rattle.network_moves.specs.Groups.{says_of_group}
 use Rattle.network_moves.proofs.Counts.{count-cons}
 use Rattle.network_moves.proofs.Lines.{both}
@@ -23,6 +23,11 @@ frames-message test fsn bsn m (MessageFrame f b x ∷ frames) = omega (arith, fr
 pub frames-rest : (test : Message → Bool) (frame : Frame) (frames : List Frame) → frames_by test frames ≤ frames_by test (frame ∷ frames)
 frames-rest test (EmptyFrame fsn bsn) frames = omega arith
 frames-rest test (MessageFrame fsn bsn m) frames = omega arith
+
+pub frames-fewer : (t u : Message → Bool) → ((m : Message) → one_if (t m) ≤ one_if (u m)) → (frames : List Frame) → frames_by t frames ≤ frames_by u frames
+frames-fewer t u h [] = omega arith
+frames-fewer t u h (EmptyFrame fsn bsn ∷ frames) = frames-fewer t u h frames
+frames-fewer t u h (MessageFrame fsn bsn m ∷ frames) = omega (arith, h m, frames-fewer t u h frames)
 
 -- ---- parts of lists
 

@@ -1,12 +1,15 @@
 -- Moves of a link that opens are followed, and those that break a node outside a group are none to it.
-use Rattle.network_moves.proofs.Basics.{◌≡◌, ◌≢◌, ℕ, Bool, true, false, [], ◌∷◌, count_by, drop, refl, ap, sym, ◌∙◌, subst, arith, if◌then◌else◌, ⊎_elim, cases_eq}
-use Rattle.network_moves.proofs.Definitions.{Message, Near, Far, Saying, LinkEnd, Line, Node, Network, Shape, Place, line_at, point_at, node_at, Gone, MayOpen, with_wait, with_completion, opened_first, opened_second, with_service, closed_line, OpensFirst, OpensSecond, Enters, Breaks, ReleasesBar, HearsUnreasonableOrder, HearsUnreasonableAnswer}
-use Rattle.network_moves.specs.Returning.{StartsAgain, restarted}
+use Rattle.network_moves.proofs.Basics.{◌≡◌, ◌≢◌, ℕ, Bool, true, false, not, ◌&&◌, ◌||◌, ◌≤◌, ◌^◌, [], ◌∷◌, count_by, nat_eq, nat_lt, drop, refl, ap, sym, ◌∙◌, subst, arith, if◌then◌else◌, ⊎_elim, cases_eq}
+use Rattle.network_moves.proofs.Definitions.{Message, Near, Far, Saying, UserMessage, Order, Answer, Other, one_if, LinkEnd, Line, Node, Network, Shape, Place, line_at, point_at, node_at, Gone, MayOpen, with_wait, with_completion, opened_first, opened_second, with_service, closed_line, OpensFirst, OpensSecond, Enters, Breaks, ReleasesBar, HearsUnreasonableOrder, HearsUnreasonableAnswer}
+use Rattle.network_moves.specs.Returning.{Strays, StartsAgain, restarted, strayed}
+use Rattle.network_moves.specs.Groups.{says_of_group}
+use Rattle.network_moves.specs.Sayings.{is_elsewhere, saying}
 use Rattle.network_moves.specs.Moves as moves
+use Rattle.std.proofs.lemmas.Bool.{eqb-true}
 use Rattle.network_moves.proofs.Counts.{count-cons, count-append}
 use Rattle.network_moves.proofs.Lines.{both}
 use Rattle.network_moves.proofs.Masking.{line-set, within, within-side, IsLike, IsMask, mask-outside}
-use Rattle.network_moves.proofs.Apart.{stays, says-none, IsApart, IsApartLine, IsLess, apart-at, apart-is, apart-less, apart-line, here, not-within}
+use Rattle.network_moves.proofs.Apart.{stays, says-none, IsApart, IsApartLine, IsLess, frames-fewer, apart-at, apart-is, apart-less, apart-line, here, not-within}
 use Rattle.network_moves.proofs.Following.{Follows, breaks, goes}
 use Rattle.network_moves.proofs.FollowedNodes.{left-none}
 use Rattle.network_moves.proofs.FollowedFrames.{follows-quiet}
@@ -81,6 +84,10 @@ module _ (shape : Shape) (read : Message → Saying) (group : ℕ → Bool) (for
       by true e = breaks apart (point_at shape place) e after.broken
       by false e = goes apart [] tt (mask-outside shape read group for_group p q k place z after.lines after.others h (not-within shape read group for_group place e) (λ f. both f e))
 
+  at-most : (b : Bool) → one_if b ≤ 1
+  at-most true = omega arith
+  at-most false = omega arith
+
   abbrev gone : Message → Bool
   gone = stays shape read group for_group false
 
@@ -124,6 +131,35 @@ module _ (shape : Shape) (read : Message → Saying) (group : ℕ → Bool) (for
         behind-gone shape read group for_group p q k a h m.place y.near.queue.sent g,
         left-none shape read group for_group p q k a h (node_at shape p m.place).bag m.rest m.answer m.taken none,
       )) a)
+
+  -- ---- a node does as it likes on a link
+
+  -- a word about a link that isn't within is none about one within
+  said-elsewhere : (link : ℕ) → within shape read group for_group link ≡ false → (for_it : Bool) (s : Saying) → one_if (says_of_group shape read group for_group (false && for_it) s) ≤ one_if (is_elsewhere link s)
+  said-elsewhere link out for_it UserMessage = omega arith
+  said-elsewhere link out for_it (Order about maker number) = about-by link out about (not (nat_lt number (2 ^ 24))) (nat_eq about link) refl
+    where
+      about-by : (link : ℕ) → within shape read group for_group link ≡ false → (about : ℕ) (odd b : Bool) → nat_eq about link ≡ b → one_if (within shape read group for_group about) ≤ one_if (not b || odd)
+      about-by link out about odd true e = omega (arith, ap one_if (ap (within shape read group for_group) (eqb-true about link e) ∙ out))
+      about-by link out about odd false e = at-most (within shape read group for_group about)
+  said-elsewhere link out for_it (Answer about maker number) = about-by link out about (not (nat_lt number (2 ^ 24))) (nat_eq about link) refl
+    where
+      about-by : (link : ℕ) → within shape read group for_group link ≡ false → (about : ℕ) (odd b : Bool) → nat_eq about link ≡ b → one_if (within shape read group for_group about) ≤ one_if (not b || odd)
+      about-by link out about odd true e = omega (arith, ap one_if (ap (within shape read group for_group) (eqb-true about link e) ∙ out))
+      about-by link out about odd false e = at-most (within shape read group for_group about)
+  said-elsewhere link out for_it Other = omega arith
+
+  pub follows-strays : Strays shape read p q → Follows shape read group for_group q k
+  follows-strays m =
+      breaking m.place _ _ m.after
+      (apart-line shape read group for_group p q m.place (strayed (line_at p m.place) m.to_far m.told_far m.follows) _ m.after.lines m.after.here m.after.others
+      (λ out l. record {
+        near = refl;
+        far = l.far;
+        to_far = omega (arith, m.own, frames-fewer gone (saying read (is_elsewhere m.place.link)) (λ x. said-elsewhere m.place.link out (for_group x) (read x)) m.to_far);
+        to_near = refl;
+      })
+      (λ l none out. none) a)
 
   -- ---- a node starts again
 

@@ -1,16 +1,17 @@
 -- What holds whatever was broken, and however often nodes start again: the ends of links are sound, and no word has a number that
 -- no end has.
-use Rattle.network_moves.proofs.Basics.{◌≡◌, ◌≢◌, ℕ, Bool, true, false, not, ◌+◌, ◌≤◌, ◌<◌, ◌^◌, ◌||◌, List, [], ◌∷◌, ◌++◌, count_by, drop, nat_lt, refl, ap, sym, ◌∙◌, subst, arith, nat_tests, ⊎_elim, cases_eq, Some, Ok}
-use Rattle.network_moves.proofs.Definitions.{Message, WINDOW, Queue, IsQueue, Sending, last_accepted, last_sent, accept_answer, to_send, sound-appended, sound-first, sound-emptied, Side, Near, Far, Saying, UserMessage, Other, is_user_message, Frame, EmptyFrame, MessageFrame, Phase, Live, Moved, Gone, LinkEnd, Line, Node, Network, Shape, seen, Place, line_at, point_at, node_at, one_if, NodeBecomes, LinesBecome, Becomes, IsTakenFrom, IsEnd, closed_end, first_network, after_answer, appended, emptied, with_failure, with_sent, with_completion, opened_first, Breaks, Move, Moves, last_of}
+use Rattle.network_moves.proofs.Basics.{◌≡◌, ◌≢◌, ℕ, Bool, true, false, not, ◌+◌, ◌≤◌, ◌<◌, ◌^◌, ◌||◌, List, [], ◌∷◌, ◌++◌, count_by, drop, nat_eq, nat_lt, refl, ap, sym, ◌∙◌, subst, arith, nat_tests, ⊎_elim, cases_eq, Some, Ok}
+use Rattle.network_moves.proofs.Definitions.{Message, WINDOW, Queue, IsQueue, Sending, last_accepted, last_sent, accept_answer, to_send, sound-appended, sound-first, sound-emptied, Side, Near, Far, Saying, UserMessage, Order, Answer, Other, is_user_message, saying, Frame, EmptyFrame, MessageFrame, Phase, Live, Moved, Gone, LinkEnd, Line, Node, Network, Shape, seen, Place, line_at, point_at, node_at, one_if, NodeBecomes, LinesBecome, Becomes, IsTakenFrom, IsEnd, closed_end, first_network, after_answer, appended, emptied, with_failure, with_sent, with_completion, opened_first, Breaks, Move, Moves, last_of}
 use Rattle.network_moves.specs.Moves as moves
 use Rattle.network_moves.specs.Lasting.{is_odd, odd, ends_last}
 use Rattle.network_moves.specs.Returning.{StartsAgain, restarted, shut_end}
+use Rattle.network_moves.specs.Sayings.{is_elsewhere}
 use Rattle.network_moves.proofs.Counts.{count-cons, count-append, count-one}
 use Rattle.network_moves.proofs.Lines.{both, true_is_false, false_is_true, busy, is-next, queue-sent}
 use Rattle.network_moves.proofs.LinesTaken.{queue-accepted, end-came}
 use Rattle.network_moves.proofs.LinesChanged.{opened}
 use Rattle.network_moves.proofs.Words.{only-user}
-use Rattle.network_moves.proofs.Apart.{frames_by, frames-empty, frames-message, frames-rest, drop-within}
+use Rattle.network_moves.proofs.Apart.{frames_by, frames-empty, frames-fewer, frames-message, frames-rest, drop-within}
 use Rattle.network_moves.proofs.Waiting.{drop-first}
 use Rattle.signalling_types.specs.Numbers.{previous_number}
 
@@ -124,9 +125,21 @@ shut came gone = record {
   idle = λ l e. refl;
 }
 
+or-more : (a b : Bool) → one_if b ≤ one_if (a || b)
+or-more true true = omega arith
+or-more true false = omega arith
+or-more false b = omega arith
+
 seen-twice : (side : Side) (z : Line) → seen side (seen side z) ≡ z
 seen-twice Near z = refl
 seen-twice Far z = refl
+
+-- a word that isn't elsewhere has a number of 24 bits
+odd-elsewhere : (link : ℕ) (s : Saying) → one_if (is_odd s) ≤ one_if (is_elsewhere link s)
+odd-elsewhere link UserMessage = omega arith
+odd-elsewhere link (Order about maker number) = or-more (not (nat_eq about link)) (not (nat_lt number (2 ^ 24)))
+odd-elsewhere link (Answer about maker number) = or-more (not (nat_eq about link)) (not (nat_lt number (2 ^ 24)))
+odd-elsewhere link Other = omega arith
 
 moved-over : Moved ≡ Live → ⊥
 moved-over e = absurd cc
@@ -416,6 +429,19 @@ module _ (shape : Shape) (read : Message → Saying) where
         let y : Line = line_at p m.place in
         by-break m.place _ _ m.after (completed-line m.place Gone false gone-over m.incomplete)
         (behind-plain y.near.queue.sent y.near.queue.all m.rest (here-line m.place).near_plain (left-plain (node_at shape p m.place).bag m.rest m.answer m.taken (here-bag m.place)).0)
+    lasts-move (moves.strays m) =
+        let y : Line = line_at p m.place in
+        let l : LastsLine y = here-line m.place in
+        by-break m.place _ _ m.after
+        (record {
+          near = shut y.near.came y.near.gone;
+          far = l.far;
+          near_plain = refl;
+          far_plain = l.far_plain;
+          to_far = omega (arith, m.own, frames-fewer (odd read) (saying read (is_elsewhere m.place.link)) (λ x. odd-elsewhere m.place.link (read x)) m.to_far);
+          to_near = refl;
+        })
+        (here-bag m.place)
     lasts-move (moves.starts_again m) = starts-again m
 
   pub lasts-after : (p : Network) (networks : List Network) → Moves shape read p networks → Lasts p → Lasts (last_of p networks)

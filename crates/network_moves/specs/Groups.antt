@@ -3,8 +3,8 @@
 use Rattle.std.specs.Prelude.{◌≡◌, ◌+◌, ◌≤◌, ◌&&◌, ℕ, Bool, true, false, List, [], ◌∷◌, count_by, nat_eq, if◌then◌else◌}
 use Rattle.signalling_types.specs.Message.{Message}
 use Rattle.network_moves.specs.Sayings.{Near, Far, Saying, UserMessage, Order, Answer, Other, user}
-use Rattle.network_moves.specs.Networks.{Frame, EmptyFrame, MessageFrame, Line, Node, Network, Shape, Place, point_at}
-use Rattle.network_moves.specs.Networks.{one_if, sum_of_ends, waiting, given_up}
+use Rattle.network_moves.specs.Networks.{Line, Node, Network, Shape, Place, point_at}
+use Rattle.network_moves.specs.Networks.{frames_by, sum_of_ends, waiting, given_up}
 use Rattle.network_moves.specs.Moves.{Moves, last_of}
 use Rattle.network_moves.specs.Quiet.{IsAtRest, first_network}
 
@@ -73,12 +73,6 @@ groups_decide_alone =
     group point ≡ true → EndsOnceWithin shape read group for_group (last_of first_network networks) point
 
 -- ---- where nothing of the group is left
-
--- how many messages in User Data in flight pass a test
-abbrev pub frames_by : (Message → Bool) → List Frame → ℕ
-frames_by test [] = 0
-frames_by test (EmptyFrame fsn bsn ∷ frames) = frames_by test frames
-frames_by test (MessageFrame fsn bsn m ∷ frames) = one_if (test m) + frames_by test frames
 
 -- the books of a node begin
 pub record Begins (n : Node) : Type 0 where

@@ -1,10 +1,11 @@
 -- Moves of a link that opens and enters service (Q.704 §6), and those by which a node breaks.
-use Rattle.std.specs.Prelude.{◌≡◌, ◌≢◌, ℕ, true, false, ◌<◌, [], ◌++◌, ◌∷◌, List, drop, None}
+use Rattle.std.specs.Prelude.{◌≡◌, ◌≢◌, ℕ, Bool, true, false, ◌<◌, [], ◌++◌, ◌∷◌, List, drop, None}
 use Rattle.signalling_types.specs.Message.{Message}
 use Rattle.link.specs.Queue.{Queue, first_queue, emptied, named_count}
-use Rattle.network_moves.specs.Sayings.{Near, Far, Saying, Order, Answer, opposite}
-use Rattle.network_moves.specs.Networks.{Live, Gone, LinkEnd, Line, Node, Network, Shape, Place, turned}
-use Rattle.network_moves.specs.Networks.{line_at, node_at, point_at, given_up, LinesBecome, Becomes, IsTakenFrom}
+use Rattle.network_moves.specs.Sayings.{Near, Far, Saying, Order, Answer, opposite, is_elsewhere, saying}
+use Rattle.network_moves.specs.Networks.{Frame, Live, Gone, LinkEnd, Line, Node, Network, Shape, Place, turned}
+use Rattle.network_moves.specs.Networks.{line_at, node_at, point_at, given_up, frames_by, LinesBecome, Becomes}
+use Rattle.network_moves.specs.Networks.{IsTakenFrom}
 use Rattle.network_moves.specs.Failing.{final_number, with_wait, with_completion}
 
 -- an end in a new epoch; what came from it before stays, and what was given up here has gone for good
@@ -65,6 +66,15 @@ restarted z = record z {
   to_near = [];
   told_near = 0;
   near_may_follow = false;
+}
+
+-- a line whose near end is at a node that does as it likes: so much is in flight to the far end from then on, and that
+-- may follow or not. The near end itself is closed
+abbrev pub strayed : Line → (to_far : List Frame) → (told_far : ℕ) → (follows : Bool) → Line
+strayed z to_far told_far follows = record (restarted z) {
+  to_far = to_far;
+  told_far = told_far;
+  far_may_follow = follows;
 }
 
 -- an end may open again: it is down, its changeover is complete, and no answer is awaited for it
@@ -154,6 +164,18 @@ module _ (shape : Shape) (read : Message → Saying) (p q : Network) where
     pub after : Breaks shape p q place
         (with_completion (line_at p place) Gone false)
         (without_sent (record (node_at shape p place) { bag = rest }) (line_at p place).near.queue named)
+
+  -- a node does as it likes on a link of it, as one outside the network may: it puts anything in flight, but speaks for
+  -- nobody else, so no order or answer about another link
+  pub record Strays : Type 0 where
+    pub place : Place
+    pub to_far : List Frame
+    pub told_far : ℕ
+    pub follows : Bool
+    pub own : frames_by (saying read (is_elsewhere place.link)) to_far ≡ 0
+    pub after : Breaks shape p q place
+        (strayed (line_at p place) to_far told_far follows)
+        (node_at shape p place)
 
   -- a node starts again: no message is there, whatever its books say, and its ends of links are as at first
   pub record StartsAgain : Type 0 where
