@@ -24,6 +24,11 @@ pub frames-rest : (test : Message → Bool) (frame : Frame) (frames : List Frame
 frames-rest test (EmptyFrame fsn bsn) frames = omega arith
 frames-rest test (MessageFrame fsn bsn m) frames = omega arith
 
+pub frames-append : (test : Message → Bool) (left new : List Frame) → frames_by test (left ++ new) ≡ frames_by test left + frames_by test new
+frames-append test [] new = omega arith
+frames-append test (EmptyFrame fsn bsn ∷ left) new = frames-append test left new
+frames-append test (MessageFrame fsn bsn m ∷ left) new = omega (arith, frames-append test left new)
+
 pub frames-fewer : (t u : Message → Bool) → ((m : Message) → one_if (t m) ≤ one_if (u m)) → (frames : List Frame) → frames_by t frames ≤ frames_by u frames
 frames-fewer t u h [] = omega arith
 frames-fewer t u h (EmptyFrame fsn bsn ∷ frames) = frames-fewer t u h frames

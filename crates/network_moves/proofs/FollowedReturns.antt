@@ -1,5 +1,5 @@
 -- Moves of a link that opens are followed, and those that break a node outside a group are none to it.
-use Rattle.network_moves.proofs.Basics.{◌≡◌, ◌≢◌, ℕ, Bool, true, false, not, ◌&&◌, ◌||◌, ◌≤◌, ◌^◌, [], ◌∷◌, count_by, nat_eq, nat_lt, drop, refl, ap, sym, ◌∙◌, subst, arith, if◌then◌else◌, ⊎_elim, cases_eq}
+use Rattle.network_moves.proofs.Basics.{◌≡◌, ◌≢◌, ℕ, Bool, true, false, not, ◌&&◌, ◌||◌, ◌≤◌, ◌^◌, [], ◌∷◌, ◌++◌, count_by, nat_eq, nat_lt, drop, refl, ap, sym, ◌∙◌, subst, arith, if◌then◌else◌, ⊎_elim, cases_eq}
 use Rattle.network_moves.proofs.Definitions.{Message, Near, Far, Saying, UserMessage, Order, Answer, Other, one_if, LinkEnd, Line, Node, Network, Shape, Place, line_at, point_at, node_at, Gone, MayOpen, with_wait, with_completion, opened_first, opened_second, with_service, closed_line, OpensFirst, OpensSecond, Enters, Breaks, ReleasesBar, HearsUnreasonableOrder, HearsUnreasonableAnswer}
 use Rattle.network_moves.specs.Returning.{Strays, StartsAgain, restarted, strayed}
 use Rattle.network_moves.specs.Groups.{says_of_group}
@@ -9,7 +9,7 @@ use Rattle.std.proofs.lemmas.Bool.{eqb-true}
 use Rattle.network_moves.proofs.Counts.{count-cons, count-append}
 use Rattle.network_moves.proofs.Lines.{both}
 use Rattle.network_moves.proofs.Masking.{line-set, within, within-side, IsLike, IsMask, mask-outside}
-use Rattle.network_moves.proofs.Apart.{stays, says-none, IsApart, IsApartLine, IsLess, frames-fewer, apart-at, apart-is, apart-less, apart-line, here, not-within}
+use Rattle.network_moves.proofs.Apart.{stays, says-none, IsApart, IsApartLine, IsLess, frames-append, frames-fewer, apart-at, apart-is, apart-less, apart-line, here, not-within}
 use Rattle.network_moves.proofs.Following.{Follows, breaks, goes}
 use Rattle.network_moves.proofs.FollowedNodes.{left-none}
 use Rattle.network_moves.proofs.FollowedFrames.{follows-quiet}
@@ -152,11 +152,19 @@ module _ (shape : Shape) (read : Message → Saying) (group : ℕ → Bool) (for
   pub follows-strays : Strays shape read p q → Follows shape read group for_group q k
   follows-strays m =
       breaking m.place _ _ m.after
-      (apart-line shape read group for_group p q m.place (strayed (line_at p m.place) m.to_far m.told_far m.follows) _ m.after.lines m.after.here m.after.others
+      (apart-line shape read group for_group p q m.place (strayed (line_at p m.place) (m.left ++ m.new) m.told_far m.follows) _ m.after.lines m.after.here m.after.others
       (λ out l. record {
         near = refl;
         far = l.far;
-        to_far = omega (arith, m.own, frames-fewer gone (saying read (is_elsewhere m.place.link)) (λ x. said-elsewhere m.place.link out (for_group x) (read x)) m.to_far);
+        to_far =
+            omega (
+              arith,
+              m.own,
+              l.to_far,
+              m.fewer gone,
+              frames-append gone m.left m.new,
+              frames-fewer gone (saying read (is_elsewhere m.place.link)) (λ x. said-elsewhere m.place.link out (for_group x) (read x)) m.new,
+            );
         to_near = refl;
       })
       (λ l none out. none) a)

@@ -11,7 +11,7 @@ use Rattle.network_moves.proofs.Lines.{both, true_is_false, false_is_true, busy,
 use Rattle.network_moves.proofs.LinesTaken.{queue-accepted, end-came}
 use Rattle.network_moves.proofs.LinesChanged.{opened}
 use Rattle.network_moves.proofs.Words.{only-user}
-use Rattle.network_moves.proofs.Apart.{frames_by, frames-empty, frames-fewer, frames-message, frames-rest, drop-within}
+use Rattle.network_moves.proofs.Apart.{frames_by, frames-append, frames-empty, frames-fewer, frames-message, frames-rest, drop-within}
 use Rattle.network_moves.proofs.Waiting.{drop-first}
 use Rattle.signalling_types.specs.Numbers.{previous_number}
 
@@ -438,7 +438,15 @@ module _ (shape : Shape) (read : Message → Saying) where
           far = l.far;
           near_plain = refl;
           far_plain = l.far_plain;
-          to_far = omega (arith, m.own, frames-fewer (odd read) (saying read (is_elsewhere m.place.link)) (λ x. odd-elsewhere m.place.link (read x)) m.to_far);
+          to_far =
+              omega (
+                arith,
+                m.own,
+                l.to_far,
+                m.fewer (odd read),
+                frames-append (odd read) m.left m.new,
+                frames-fewer (odd read) (saying read (is_elsewhere m.place.link)) (λ x. odd-elsewhere m.place.link (read x)) m.new,
+              );
           to_near = refl;
         })
         (here-bag m.place)

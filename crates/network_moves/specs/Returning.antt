@@ -1,5 +1,5 @@
 -- Moves of a link that opens and enters service (Q.704 §6), and those by which a node breaks.
-use Rattle.std.specs.Prelude.{◌≡◌, ◌≢◌, ℕ, Bool, true, false, ◌<◌, [], ◌++◌, ◌∷◌, List, drop, None}
+use Rattle.std.specs.Prelude.{◌≡◌, ◌≢◌, ◌≤◌, ℕ, Bool, true, false, ◌<◌, [], ◌++◌, ◌∷◌, List, drop, None}
 use Rattle.signalling_types.specs.Message.{Message}
 use Rattle.link.specs.Queue.{Queue, first_queue, emptied, named_count}
 use Rattle.network_moves.specs.Sayings.{Near, Far, Saying, Order, Answer, opposite, is_elsewhere, saying}
@@ -169,12 +169,15 @@ module _ (shape : Shape) (read : Message → Saying) (p q : Network) where
   -- nobody else, so no order or answer about another link
   pub record Strays : Type 0 where
     pub place : Place
-    pub to_far : List Frame
+    -- what is left in flight of what was, and what is new
+    pub left : List Frame
+    pub fewer : (test : Message → Bool) → frames_by test left ≤ frames_by test (line_at p place).to_far
+    pub new : List Frame
+    pub own : frames_by (saying read (is_elsewhere place.link)) new ≡ 0
     pub told_far : ℕ
     pub follows : Bool
-    pub own : frames_by (saying read (is_elsewhere place.link)) to_far ≡ 0
     pub after : Breaks shape p q place
-        (strayed (line_at p place) to_far told_far follows)
+        (strayed (line_at p place) (left ++ new) told_far follows)
         (node_at shape p place)
 
   -- a node starts again: no message is there, whatever its books say, and its ends of links are as at first

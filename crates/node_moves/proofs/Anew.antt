@@ -1,5 +1,5 @@
 -- A hop anew: from each network on in which nothing is left between its two nodes.
-use Rattle.node_moves.proofs.Basics.{◌≡◌, ◌≢◌, ℕ, Bool, true, false, ◌||◌, ◌&&◌, ◌<◌, List, [], ◌∷◌, length, nat_eq, refl, ap, sym, subst, ◌∙◌, arith, ⊎_elim, cases_eq, eqb-true, ne_eqb}
+use Rattle.node_moves.proofs.Basics.{◌≡◌, ◌≢◌, ℕ, Bool, true, false, ◌||◌, ◌&&◌, ◌<◌, List, [], ◌∷◌, length, nat_eq, refl, ap, sym, subst, ◌∙◌, arith, ⊎_elim, cases_eq, eqb-true, ne_eqb, ◌++◌, Ok, Err, Result, if◌then◌else◌}
 use Rattle.node_moves.proofs.Machine.{Network, last_of}
 use Rattle.node_moves.proofs.Definitions.{Message, Configuration, link_at, changeover_of, Link, down_link, is_down, Standing, no_changeover}
 use Rattle.node_moves.proofs.Grown.{IsUnraised, same-grown}
@@ -8,44 +8,75 @@ use Rattle.node_moves.proofs.Flights.{changed-here, changed-other}
 use Rattle.node_moves.proofs.Running.{first-shown}
 use Rattle.node_moves.proofs.Closed.{either-true, is_one_of, for_one_of, hop_points, are-hop, stays-between}
 use Rattle.node_moves.proofs.Hops.{near-in, far-in, led, comes-by}
-use Rattle.node_moves.proofs.Everywhere.{one-step}
+use Rattle.node_moves.proofs.Everywhere.{IsKept, IsSameNode, one-step}
 use Rattle.node_moves.proofs.Changes.{SpareAll, nobody, spares-nobody, AreAt, at-after, Comes, ChangeGoes, all-changes}
 use Rattle.node_moves.proofs.CountedSince.{HasCounted, counted-kept, IsCapped, capped-kept}
 use Rattle.node_moves.proofs.Begun.{begun, begun-shown, begun-lasts, none-left}
-use Rattle.node_moves.specs.Anew.{Change, Does, Restarts, restarted, after_change, after_changes, IsQuietEnd, NothingIsLeft, begun_anew, Stays, AreOfOthers, AreUnbrokenSince, HaveLostNothingSince, ComesOverSince, hops_begin_anew, nothing_is_lost_anew, networks_begin_quietly}
+use Rattle.node_moves.specs.Anew.{Change, Does, Restarts, OpensOutside, ComesOutside, restarted, after_change, after_changes, IsQuietEnd, NothingIsLeft, begun_anew, Stays, AreOfOthers, AreUnbrokenSince, HaveLostNothingSince, ComesOverSince, hops_begin_anew, nothing_is_lost_anew, networks_begin_quietly}
 use Rattle.node_moves.specs.EndToEnd.{to_point}
 use Rattle.node_moves.specs.Hops.{IsHop, ComesOver, gone_for}
-use Rattle.node_moves.specs.Laws.{AreTheirs, is_user}
-use Rattle.node_moves.specs.Networks.{NetworkNode, NetworkState, IsNode, after_step, first_network, first_node}
+use Rattle.node_moves.specs.Laws.{is_user}
+use Rattle.node_moves.specs.Outside.{ArePlaced, leads_out, may_come, put_in}
+use Rattle.node_moves.specs.Networks.{NetworkNode, NetworkState, IsNode, after_step, be_led, changed, first_network, first_node, updated}
 use Rattle.network_moves.proofs.Apart.{IsApart}
 use Rattle.network_moves.proofs.Grouped.{apart-after, apart-first, groups-anew}
 use Rattle.network_moves.proofs.Lasting.{lasts-first}
 use Rattle.network_moves.specs.Groups.{EndsOnceWithin}
 use Rattle.network_moves.specs.Quiet as quiet
 use Rattle.std.proofs.lemmas.List.{get_or-replicate}
+use Rattle.m2pa_codec.specs.Frames.{FrameValue, EmptyFrame, MessageFrame, StatusFrame, read_frame}
+use Rattle.signalling_types.specs.declared.notice.FrameFault.{FrameFault}
 use Rattle.std.proofs.lemmas.List.Sums.{count_by-le-length}
 
 -- ---- changes of others
+
+neither : (a b : Bool) → a ≡ false → b ≡ false → (a || b) ≡ false
+neither false b e f = f
+neither true b e f = absurd cc
 
 others-spared : (near far : ℕ) (changes : List Change) → AreOfOthers near far changes → SpareAll (is_one_of near far) changes
 others-spared near far [] h = tt
 others-spared near far (Does step ∷ changes) h = (tt, others-spared near far changes h.1)
 others-spared near far (Restarts point ∷ changes) h = (neither (nat_eq point near) (nat_eq point far) (ne_eqb point near h.0.0) (ne_eqb point far h.0.1), others-spared near far changes h.1)
-  where
-    neither : (a b : Bool) → a ≡ false → b ≡ false → (a || b) ≡ false
-    neither false b e f = f
-    neither true b e f = absurd cc
+others-spared near far (OpensOutside point link ∷ changes) h = (tt, others-spared near far changes h.1)
+others-spared near far (ComesOutside point link text ∷ changes) h = (tt, others-spared near far changes h.1)
 
 pub unraised : (before after : ℕ) → Stays before after → IsUnraised before after
 unraised before after h = record { same = omega (arith, h.same); low = h.countable }
 
 module _ (settings : (point : ℕ) → Configuration) (near far : ℕ) where
+  -- what comes from outside changes nothing but what is in flight
+  put-same : (c : Configuration) (link : ℕ) (text : List ℕ) (r : Result FrameValue FrameFault) (x : NetworkNode) → IsSameNode x (put_in c link text r x)
+  put-same c link text (Ok (StatusFrame bsn fsn status)) x = record { node = refl; submitted = refl; came = refl; accepted = refl; made = refl; named = refl }
+  put-same c link text (Ok (EmptyFrame bsn fsn)) x = record { node = refl; submitted = refl; came = refl; accepted = refl; made = refl; named = refl }
+  put-same c link text (Ok (MessageFrame bsn fsn sio sif)) x = by (may_come c link (record { sio = sio; sif = sif }))
+    where
+      by : (b : Bool) → IsSameNode x (if b then record x { user_data = updated x.user_data link (x.user_data link ++ text ∷ []) } else x)
+      by true = record { node = refl; submitted = refl; came = refl; accepted = refl; made = refl; named = refl }
+      by false = record { node = refl; submitted = refl; came = refl; accepted = refl; made = refl; named = refl }
+  put-same c link text (Err fault) x = record { node = refl; submitted = refl; came = refl; accepted = refl; made = refl; named = refl }
+
+  outside-keeps : (P : Configuration → NetworkNode → Type 0) → IsKept P → (y : ℕ) (w : NetworkState) (point : ℕ) (b : Bool) (f : NetworkNode → NetworkNode) → ((x : NetworkNode) → IsSameNode x (f x)) → P (settings y) (w.node y)
+      → P (settings y) ((if b then changed point f w else w).node y)
+  outside-keeps P kept y w point false f same k = k
+  outside-keeps P kept y w point true f same k =
+      ⊎_elim
+      (λ (is : y ≡ point). subst (P (settings y)) (ap (λ (i : ℕ). f (w.node i)) is ∙ sym (changed-here point f w) ∙ ap (changed point f w).node (sym is)) (kept.flown (settings y) (w.node y) (f (w.node y)) (same (w.node y)) k))
+      (λ (d : y ≢ point). subst (P (settings y)) (sym (changed-other point f w y d)) k)
+      (cases_eq y point)
+
   -- what a node counts, while it doesn't start again
   counted-after : (y : ℕ) (before : NetworkNode) (changes : List Change) → (is_one_of near far y ≡ true) → AreOfOthers near far changes → (w : NetworkState)
       → HasCounted before.node.parts (w.node y) → HasCounted before.node.parts ((after_changes settings changes w).node y)
   counted-after y before [] e h w k = k
   counted-after y before (Does step ∷ changes) e h w k =
       counted-after y before changes e h.1 (after_step settings step w) (one-step (λ c x. HasCounted before.node.parts x) (counted-kept before.node.parts) settings y step w k)
+  counted-after y before (OpensOutside point link ∷ changes) e h w k =
+      counted-after y before changes e h.1 (after_change settings (OpensOutside point link) w)
+      (outside-keeps (λ c x. HasCounted before.node.parts x) (counted-kept before.node.parts) y w point (leads_out settings point link) (be_led link) (λ x. record { node = refl; submitted = refl; came = refl; accepted = refl; made = refl; named = refl }) k)
+  counted-after y before (ComesOutside point link text ∷ changes) e h w k =
+      counted-after y before changes e h.1 (after_change settings (ComesOutside point link text) w)
+      (outside-keeps (λ c x. HasCounted before.node.parts x) (counted-kept before.node.parts) y w point (leads_out settings point link) (put_in (settings point) link text (read_frame text)) (put-same (settings point) link text (read_frame text)) k)
   counted-after y before (Restarts point ∷ changes) e h w k =
       counted-after y before changes e h.1 (after_change settings (Restarts point) w)
       (subst (HasCounted before.node.parts) (sym (changed-other point (restarted (settings point)) w y (apart point h.0))) k)
@@ -66,11 +97,17 @@ module _ (settings : (point : ℕ) → Configuration) (near far : ℕ) where
       (subst IsCapped (sym (changed-here point (restarted (settings point)) w)) (record { breaks = same-grown refl; messages = same-grown refl })))
       (λ (d : y ≢ point). subst IsCapped (sym (changed-other point (restarted (settings point)) w y d)) k)
       (cases_eq y point))
+  capped-after y (OpensOutside point link ∷ changes) w k =
+      capped-after y changes (after_change settings (OpensOutside point link) w)
+      (outside-keeps (λ c x. IsCapped x) capped-kept y w point (leads_out settings point link) (be_led link) (λ x. record { node = refl; submitted = refl; came = refl; accepted = refl; made = refl; named = refl }) k)
+  capped-after y (ComesOutside point link text ∷ changes) w k =
+      capped-after y changes (after_change settings (ComesOutside point link text) w)
+      (outside-keeps (λ c x. IsCapped x) capped-kept y w point (leads_out settings point link) (put_in (settings point) link text (read_frame text)) (put-same (settings point) link text (read_frame text)) k)
 
   pub begun-counted : (y : ℕ) (w : NetworkState) → HasCounted (w.node y).node.parts ((begun_anew w).node y)
   begun-counted y w = record { lost = omega arith; grown = same-grown refl; none_lost = λ u. refl; unbroken = λ u. refl }
 
-module _ (settings : (point : ℕ) → Configuration) (t : AreTheirs settings) (near far : ℕ) (fn : IsNode settings near) (ff : IsNode settings far) (hop : IsHop settings near far) (before changes : List Change)
+module _ (settings : (point : ℕ) → Configuration) (t : ArePlaced settings) (near far : ℕ) (fn : IsNode settings near) (ff : IsNode settings far) (hop : IsHop settings near far) (before changes : List Change)
     (quiet_then : NothingIsLeft settings near far (after_changes settings before (first_network settings))) (others : AreOfOthers near far changes) where
   abbrev start : NetworkState
   start = after_changes settings before (first_network settings)
@@ -78,14 +115,24 @@ module _ (settings : (point : ℕ) → Configuration) (t : AreTheirs settings) (
   abbrev now : NetworkState
   now = after_changes settings changes (begun_anew start)
 
+  no-nodes : (point : ℕ) → nobody point ≡ true → IsNode settings point
+  no-nodes point e = absurd cc
+
+  two-nodes : (point : ℕ) → is_one_of near far point ≡ true → IsNode settings point
+  two-nodes point e =
+      ⊎_elim
+      (λ (is : nat_eq point near ≡ true). subst (IsNode settings) (sym (eqb-true point near is)) fn)
+      (λ (is : nat_eq point far ≡ true). subst (IsNode settings) (sym (eqb-true point far is)) ff)
+      (either-true (nat_eq point near) (nat_eq point far) e)
+
   -- ---- as moves show it
 
   at-first : AreAt settings t (hop_points near far) (are-hop near far) quiet.first_network
   at-first x fx = record { lasts = lasts-first (hop_points near far) says_of; led = led settings t near far fn ff hop x fx }
 
-  abbrev reached : Comes settings t (hop_points near far) (are-hop near far) nobody (first_network settings) quiet.first_network start
+  abbrev reached : Comes settings t (hop_points near far) (are-hop near far) nobody no-nodes (first_network settings) quiet.first_network start
   reached =
-      (all-changes settings t (hop_points near far) (are-hop near far) nobody before (spares-nobody before) (first_network settings)).goes quiet.first_network at-first
+      (all-changes settings t (hop_points near far) (are-hop near far) nobody no-nodes before (spares-nobody before) (first_network settings)).goes quiet.first_network at-first
       (first-shown settings t (hop_points near far) (are-hop near far))
 
   abbrev p : Network
@@ -102,10 +149,10 @@ module _ (settings : (point : ℕ) → Configuration) (t : AreTheirs settings) (
   at-begun : AreAt settings t (hop_points near far) (are-hop near far) (begun p)
   at-begun x fx = record { lasts = begun-lasts (hop_points near far) p (at-p x fx).lasts; led = (at-p x fx).led }
 
-  abbrev since : ChangeGoes settings t (hop_points near far) (are-hop near far) (is_one_of near far) (begun_anew start) now
-  since = all-changes settings t (hop_points near far) (are-hop near far) (is_one_of near far) changes (others-spared near far changes others) (begun_anew start)
+  abbrev since : ChangeGoes settings t (hop_points near far) (are-hop near far) (is_one_of near far) two-nodes (begun_anew start) now
+  since = all-changes settings t (hop_points near far) (are-hop near far) (is_one_of near far) two-nodes changes (others-spared near far changes others) (begun_anew start)
 
-  abbrev goes_on : Comes settings t (hop_points near far) (are-hop near far) (is_one_of near far) (begun_anew start) (begun p) now
+  abbrev goes_on : Comes settings t (hop_points near far) (are-hop near far) (is_one_of near far) two-nodes (begun_anew start) (begun p) now
   goes_on = since.goes (begun p) at-begun (begun-shown settings t start p reached.shown)
 
   -- ---- what the two count

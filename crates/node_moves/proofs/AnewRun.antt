@@ -2,6 +2,7 @@
 use Rattle.node_moves.proofs.Basics.{◌≡◌, ℕ, zero, suc, Bool, true, false, List, [], ◌∷◌, ◌++◌, ◌<◌, map, count_by, nat_eq, refl, ap, sym, subst, ◌∙◌, arith}
 use Rattle.node_moves.proofs.Definitions.{Message, Configuration, down, changeover_of, peer_of}
 use Rattle.node_moves.proofs.HopRun.{pair-hop, three-out, three-free}
+use Rattle.node_moves.proofs.Ending.{placed}
 use Rattle.node_moves.proofs.LaidOut.{Four, at_point, changed-is, changed_at, network_of, run, run-is}
 use Rattle.node_moves.proofs.Mated.{mated-theirs}
 use Rattle.node_moves.proofs.MatedRun.{first_four, served-is, served_from}
@@ -207,7 +208,7 @@ far-links link l e =
 
 pub begins-anew : BeginsAnew
 begins-anew = record {
-  theirs = mated-theirs;
+  theirs = placed mated mated-theirs;
   hop = pair-hop;
   left = record {
     near_quiet = record { links = near-links; held = ap (λ (s : Before). s.near.between) before-is };

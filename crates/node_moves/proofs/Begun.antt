@@ -1,6 +1,7 @@
 -- A network of moves whose books begin: it shows the same nodes, and where nothing is left between two of them nothing of
 -- the two is left in it.
 use Rattle.node_moves.proofs.Basics.{◌≡◌, ◌≢◌, ◌⊎◌, inl, inr, ℕ, zero, suc, Bool, true, false, not, ◌&&◌, ◌||◌, ◌+◌, ◌^◌, ◌≤◌, ◌<◌, List, [], ◌∷◌, length, Some, Ok, Err, Result, count_by, nat_eq, nat_lt, refl, ap, sym, subst, ◌∙◌, arith, nat_tests, ⊎_elim, cases_eq, eqb-true, true≢false}
+use Rattle.std.specs.Prelude.{is_some}
 use Rattle.node_moves.proofs.Machine.{Side, Near, Far, opposite, Phase, Live, Moved, Gone, LinkEnd, Line, Network, Shape, turned, seen, Place, line_at, one_if, IsEnd}
 use Rattle.node_moves.proofs.Definitions.{Message, Configuration, Queue, WINDOW, dpc_of, opc_of, is_management, service_indicator, testing, peer_of, Management, MgmtFault, read_management}
 use Rattle.node_moves.proofs.Reading.{IsShape, place_by, place_of, read_says, says_by, says_of, is_long}
@@ -11,12 +12,11 @@ use Rattle.node_moves.proofs.World.{IsFlown, Shown, IsUnused, rests, place_at}
 use Rattle.node_moves.proofs.Relining.{across-line}
 use Rattle.node_moves.proofs.BothEnds.{IsOther, is-other}
 use Rattle.node_moves.proofs.Ending.{no-link, the-other}
-use Rattle.node_moves.proofs.EndToEnd.{no-node}
 use Rattle.node_moves.proofs.Running.{all_points, point_by}
 use Rattle.node_moves.proofs.Closed.{either-true, is_one_of, for_one_of, concerning, hop_points, are-hop, point-far, says-same, each-true, both-true}
 use Rattle.node_moves.specs.Anew.{IsQuietEnd, NothingIsLeft, is_between, begun_anew}
-use Rattle.node_moves.specs.Laws.{AreTheirs}
-use Rattle.node_moves.specs.Networks.{NetworkNode, NetworkState, IsNode, is_node, other_end}
+use Rattle.node_moves.specs.Outside.{ArePlaced}
+use Rattle.node_moves.specs.Networks.{NetworkNode, NetworkState, IsNode, other_end}
 use Rattle.node_moves.specs.Networks as of_nodes
 use Rattle.link.proofs.Sound.{sound-emptied}
 use Rattle.mtp3_codec.specs.Management.{link_code_of}
@@ -93,7 +93,7 @@ end-settled e h = settled-by e.phase e refl h
 
 -- ---- what shows, and lasts
 
-module _ (settings : (point : ℕ) → Configuration) (t : AreTheirs settings) (w : NetworkState) (p : Network) (s : Shown settings t w p) where
+module _ (settings : (point : ℕ) → Configuration) (t : ArePlaced settings) (w : NetworkState) (p : Network) (s : Shown settings t w p) where
   line-begun : (place : Place) → line_at (begun p) place ≡ settled_line (line_at p place)
   line-begun place = seen-settled place.side (p.line place.link)
 
@@ -253,23 +253,24 @@ rests-seen Far z h = record { near = h.far; far = h.near; near_alone = h.far_alo
 
 -- ---- lines whose ends are quiet
 
-module _ (settings : (point : ℕ) → Configuration) (t : AreTheirs settings) (shape : Shape) (o : IsShape shape) (w : NetworkState) (p : Network) (s : Shown settings t w p) (lasts : Lasts shape says_of p)
+module _ (settings : (point : ℕ) → Configuration) (t : ArePlaced settings) (shape : Shape) (o : IsShape shape) (w : NetworkState) (p : Network) (s : Shown settings t w p) (lasts : Lasts shape says_of p)
     (inside : (link : ℕ) → Bool)
+    (there : (x link : ℕ) → IsNode settings x → link < length (settings x).links → inside (place_at settings t x link).link ≡ true → is_some (other_end settings x link) ≡ true)
     (quiet-end : (x link : ℕ) → IsNode settings x → link < length (settings x).links → inside (place_at settings t x link).link ≡ true → IsQuietEnd (w.node x) link) where
   rest-found : (x link : ℕ) → IsNode settings x → link < length (settings x).links → inside (place_at settings t x link).link ≡ true → IsAtRest (settled_line (line_at p (place_at settings t x link)))
   rest-found x link fx l e =
       let its : Place = place_at settings t x link in
       let z : Line = line_at p its in
-      let other : (there : of_nodes.LinkEnd) × (other_end settings x link ≡ Some there) = the-other (other_end settings x link) (t.joined x link fx l) in
+      let other : (there : of_nodes.LinkEnd) × (other_end settings x link ≡ Some there) = the-other (other_end settings x link) (there x link fx l e) in
       let h : IsOther settings t shape o x link other.0 = is-other settings t shape o x link other.0 fx l other.1 in
       let y : ℕ = other.0.point in
       let j : ℕ = other.0.link in
-      let there : line_at p (place_at settings t y j) ≡ turned z = ap (line_at p) h.place ∙ across-line p its in
+      let line_there : line_at p (place_at settings t y j) ≡ turned z = ap (line_at p) h.place ∙ across-line p its in
       let away : inside (place_at settings t y j).link ≡ true = ap (λ (q : Place). inside q.link) h.place ∙ e in
       let here_quiet : IsQuietEnd (w.node x) link = quiet-end x link fx l e in
       let there_quiet : IsQuietEnd (w.node y) j = quiet-end y j h.within h.inside away in
-      let far_shown : IsShown (w.node y).node j z.far = subst (λ (g : Line). IsShown (w.node y).node j g.near) there ((s.nodes y h.within).ends j h.inside) in
-      let far_flown : IsFlown (w.node y) j (turned z) = subst (IsFlown (w.node y) j) there (s.flown y j h.within h.inside) in
+      let far_shown : IsShown (w.node y).node j z.far = subst (λ (g : Line). IsShown (w.node y).node j g.near) line_there ((s.nodes y h.within).ends j h.inside) in
+      let far_flown : IsFlown (w.node y) j (turned z) = subst (IsFlown (w.node y) j) line_there (s.flown y j h.within h.inside) in
       let line : LastsLine shape says_of z = lasts-at shape says_of p its lasts in
       record {
         near = closed-by z.near line.near (up-by (w.node x) link z.near ((s.nodes x fx).ends link l) here_quiet);
@@ -292,12 +293,12 @@ module _ (settings : (point : ℕ) → Configuration) (t : AreTheirs settings) (
       (cases_eq (place_at settings t x n).link k))
       (find-link x k n)
 
-  rest-unused : (link : ℕ) → IsUnused settings t link → IsAtRest (settled_line (p.line link))
+  pub rest-unused : (link : ℕ) → IsUnused settings t link → IsAtRest (settled_line (p.line link))
   rest-unused link unused = subst (λ (z : Line). IsAtRest (settled_line z)) (sym (s.idle link unused)) ((quiet-first says_of).lines link)
 
-  -- one of its points has a node, or none does
-  pub at-rest : (link : ℕ) → inside link ≡ true → (b : Bool) → is_node settings (shape.point link Near) ≡ b → IsAtRest (settled_line (p.line link))
-  at-rest link e true fx =
+  -- one of its points has a node
+  pub at-rest : (link : ℕ) → inside link ≡ true → IsNode settings (shape.point link Near) → IsAtRest (settled_line (p.line link))
+  at-rest link e fx =
       let x : ℕ = shape.point link Near in
       ⊎_elim
       (λ (found : (i : ℕ) × (i < length (settings x).links) × ((place_at settings t x i).link ≡ link)).
@@ -305,11 +306,10 @@ module _ (settings : (point : ℕ) → Configuration) (t : AreTheirs settings) (
       (rests-seen (place_at settings t x found.0).side (p.line (place_at settings t x found.0).link) (rest-found x found.0 fx found.1 (ap inside found.2 ∙ e))))
       (λ (none : (i : ℕ) → i < length (settings x).links → (place_at settings t x i).link ≢ link). rest-unused link (no-link settings t shape o x fx p s.idle link Near none refl))
       (find-link x link (length (settings x).links))
-  at-rest link e false none = rest-unused link (no-node settings t shape o (shape.point link Near) link Near none refl)
 
 -- ---- between two nodes
 
-module _ (settings : (point : ℕ) → Configuration) (t : AreTheirs settings) (near far : ℕ) (fn : IsNode settings near) (ff : IsNode settings far) (w : NetworkState) (p : Network) (s : Shown settings t w p)
+module _ (settings : (point : ℕ) → Configuration) (t : ArePlaced settings) (near far : ℕ) (fn : IsNode settings near) (ff : IsNode settings far) (w : NetworkState) (p : Network) (s : Shown settings t w p)
     (lasts : Lasts (hop_points near far) says_of p) (apart : IsApart (hop_points near far) says_of (is_one_of near far) (for_one_of near far) p) (quiet : NothingIsLeft settings near far w) where
   abbrev of_two : ℕ → Bool
   of_two = is_one_of near far
@@ -353,6 +353,9 @@ module _ (settings : (point : ℕ) → Configuration) (t : AreTheirs settings) (
       let its : Place = place_at settings t x link in
       subst (λ (k : ℕ). of_two k ≡ true) (point-far near far (settings x) (t.well x fx) link) (within-side (hop_points near far) says_of of_two (for_one_of near far) its.link (opposite its.side) e)
 
+  there-is : (x link : ℕ) → IsNode settings x → link < length (settings x).links → inside (place_at settings t x link).link ≡ true → is_some (other_end settings x link) ≡ true
+  there-is x link fx l e = t.joined x link fx l (of-node (peer_of (settings x) link) (peer-in x link fx e))
+
   at-either : (x link : ℕ) → IsNode settings x → link < length (settings x).links → inside (place_at settings t x link).link ≡ true → IsQuietEnd (w.node x) link
   at-either x link fx l e =
       let its : Place = place_at settings t x link in
@@ -386,7 +389,7 @@ module _ (settings : (point : ℕ) → Configuration) (t : AreTheirs settings) (
 
   pub none-left : groups.NothingIsLeft (hop_points near far) says_of of_two (for_one_of near far) (begun p)
   none-left = record {
-    lines = λ link e. at-rest settings t (hop_points near far) (are-hop near far) w p s lasts inside at-either link e (is_node settings ((hop_points near far).point link Near)) refl;
+    lines = λ link e. at-rest settings t (hop_points near far) (are-hop near far) w p s lasts inside there-is at-either link e (of-node ((hop_points near far).point link Near) (within-side (hop_points near far) says_of of_two (for_one_of near far) link Near e));
     bags = λ x. bag-none x (of_two x) refl;
     others = clear;
     books = λ x e. record { submitted = refl; accepted = refl; ended = refl; gone = refl; named = refl };

@@ -13,7 +13,7 @@ use Rattle.node_moves.proofs.World.{IsFlown, AreData, AreStatuses, ShownAt, plac
 use Rattle.node_moves.proofs.Relining.{Leads, leads-one, line-set}
 use Rattle.node_moves.proofs.Flights.{changed-here, updated-here, updated-other, OnlyHere, only-changed, reline-near}
 use Rattle.node_moves.specs.Networks.{Fate, NetworkNode, NetworkState, IsNode, changed, messages_of, updated}
-use Rattle.node_moves.specs.Laws.{AreTheirs}
+use Rattle.node_moves.specs.Outside.{ArePlaced}
 use Rattle.exchange_rules.proofs.Lists.{alike-at, each-set}
 use Rattle.exchange_rules.proofs.Serving.{data-serves, fails-up}
 use Rattle.exchange_rules.proofs.Serving as serving
@@ -65,7 +65,7 @@ pub messages-unseen : (ms : List Message) → messages_of (unseen ms) ≡ ms
 messages-unseen [] = refl
 messages-unseen (m ∷ ms) = ap (λ (ks : List Message). m ∷ ks) (messages-unseen ms)
 
-module _ (settings : (point : ℕ) → Configuration) (t : AreTheirs settings) (shape : Shape) (o : IsShape shape) (w : NetworkState) (x link : ℕ) (fx : IsNode settings x) (inside : link < length (settings x).links) where
+module _ (settings : (point : ℕ) → Configuration) (t : ArePlaced settings) (shape : Shape) (o : IsShape shape) (w : NetworkState) (x link : ℕ) (fx : IsNode settings x) (inside : link < length (settings x).links) where
   abbrev c : Configuration
   c = settings x
 

@@ -16,7 +16,7 @@ use Rattle.node_moves.proofs.Relining.{Leads, leads-none, leads-both, leads-at, 
 use Rattle.node_moves.proofs.Grown.{Grown, same-grown, both-grown}
 use Rattle.node_moves.proofs.Coming.{frame_of, ignored-down, popped, drops-frame, takes-frame, taken-serves, taken-grown}
 use Rattle.node_moves.specs.Networks.{NetworkState, IsNode, changed, state_of}
-use Rattle.node_moves.specs.Laws.{AreTheirs}
+use Rattle.node_moves.specs.Outside.{ArePlaced}
 use Rattle.exchange_rules.proofs.Serving.{data-serves, fails-up}
 use Rattle.exchange_rules.proofs.Serving as serving
 use Rattle.exchange_rules.proofs.SteppingLinks.{advance-serves, failed_if_up-down}
@@ -42,7 +42,7 @@ use Rattle.signalling_types.specs.declared.outcome.Outcome.{Outcome}
 use Rattle.signalling_types.specs.declared.outcome.Outcome.TheVariants.{Ignored, Refused}
 use Rattle.std.specs.Option.{option_to_list}
 
-module _ (settings : (point : ℕ) → Configuration) (t : AreTheirs settings) (shape : Shape) (o : IsShape shape) (w : NetworkState) (x link : ℕ) (fx : IsNode settings x) (inside : link < length (settings x).links) where
+module _ (settings : (point : ℕ) → Configuration) (t : ArePlaced settings) (shape : Shape) (o : IsShape shape) (w : NetworkState) (x link : ℕ) (fx : IsNode settings x) (inside : link < length (settings x).links) where
   abbrev pub c : Configuration
   c = settings x
 

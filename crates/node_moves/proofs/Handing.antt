@@ -18,7 +18,7 @@ use Rattle.node_moves.proofs.Steps.{StepGoes, finish, grown-before, event-settle
 use Rattle.node_moves.proofs.Coming.{popped, unseen, messages-append, messages-unseen}
 use Rattle.node_moves.proofs.Data.{there, Comes_in, kind-comes}
 use Rattle.node_moves.specs.Networks.{Fate, NetworkNode, NetworkState, IsNode, changed, updated, fates, hear_data, hear_status, with_statuses, state_of, messages_of}
-use Rattle.node_moves.specs.Laws.{AreTheirs}
+use Rattle.node_moves.specs.Outside.{ArePlaced}
 use Rattle.exchange_rules.specs.Conserving.{brought_by}
 use Rattle.exchange_rules.specs.Conserving as of_rules
 unfoldable use Rattle.exchange_rules.specs.Exchange.{apply}
@@ -54,7 +54,7 @@ changed-alike x f g w same = λ i. record { node = λ other. each other i }
         ap (λ (b : Bool). if b then f (w.node other) else w.node other) (ne_eqb other x d) ∙ ap (λ (b : Bool). if b then g (w.node other) else w.node other) (sym (ne_eqb other x d)))
         (cases_eq other x)
 
-module _ (settings : (point : ℕ) → Configuration) (t : AreTheirs settings) (shape : Shape) (o : IsShape shape) (w : NetworkState) (x link : ℕ) (fx : IsNode settings x) (inside : link < length (settings x).links) where
+module _ (settings : (point : ℕ) → Configuration) (t : ArePlaced settings) (shape : Shape) (o : IsShape shape) (w : NetworkState) (x link : ℕ) (fx : IsNode settings x) (inside : link < length (settings x).links) where
   abbrev c : Configuration
   c = settings x
 

@@ -1,6 +1,7 @@
 -- What becomes of the messages of one node for an adjacent one, where one set alone leads between the two: their counts
 -- of breaks alone matter.
-use Rattle.node_moves.proofs.Basics.{◌≡◌, ℕ, Bool, true, false, ◌&&◌, ◌||◌, ◌+◌, ◌≤◌, List, [], ◌∷◌, length, Some, count_by, nat_eq, refl, ap, sym, subst, ◌∙◌, arith, if◌then◌else◌, ⊎_elim, eq-eqb, eqb-true, ne_eqb, true≢false}
+use Rattle.node_moves.proofs.Basics.{◌≡◌, ℕ, Bool, true, false, ◌&&◌, ◌||◌, ◌+◌, ◌≤◌, ◌<◌, List, [], ◌∷◌, length, Some, count_by, nat_eq, refl, ap, sym, subst, ◌∙◌, arith, if◌then◌else◌, ⊎_elim, eq-eqb, eqb-true, ne_eqb, true≢false}
+use Rattle.std.specs.Prelude.{is_some}
 use Rattle.node_moves.proofs.Machine.{Side, Near, Far, opposite, is_user_message, user, Line, Network, turned, line_at, last_of, one_if}
 use Rattle.node_moves.proofs.Definitions.{Message, flow_of, dpc_of, Configuration, Parts, peer_of, link_of}
 use Rattle.node_moves.proofs.Reading.{says_of}
@@ -11,13 +12,14 @@ use Rattle.node_moves.proofs.Heard.{own-apart}
 use Rattle.node_moves.proofs.World.{Shown, rests, place_at}
 use Rattle.node_moves.proofs.Steps.{Reaches}
 use Rattle.node_moves.proofs.Running.{all_points, reaches}
-use Rattle.node_moves.proofs.Ending.{any-by, came-by, fates-same, fewer, node_books, sum-ends-by, users-same, waits-by}
+use Rattle.node_moves.proofs.Ending.{any-by, placed, came-by, fates-same, fewer, node_books, sum-ends-by, users-same, waits-by}
 use Rattle.node_moves.proofs.Closed.{either-true, led-by, is_one_of, for_one_of, concerning, is_between, hop_points, are-hop, stays-between, concerned, point-near, point-far, link-between, goes-there, goes-elsewhere}
 use Rattle.node_moves.proofs.Lossless.{flags-tell}
 use Rattle.node_moves.specs.EndToEnd.{to_point}
 use Rattle.node_moves.specs.Hops.{IsHop, over_hop, accepted_for, came_over, waits_for, ComesOver, AreUnbroken, messages_come_over_a_hop, nothing_is_lost_over_a_hop}
 use Rattle.node_moves.specs.Laws as law
-use Rattle.node_moves.specs.Laws.{AreTheirs, any_fate, came_by, fates_that, most, waiting_on}
+use Rattle.node_moves.specs.Laws.{any_fate, came_by, fates_that, most, waiting_on}
+use Rattle.node_moves.specs.Outside.{ArePlaced}
 use Rattle.node_moves.specs.Lossless.{CountsNothing}
 use Rattle.node_moves.specs.Networks.{NetworkState, IsNode, Step, other_end, after_steps, first_network}
 use Rattle.settings.specs.Sharing.{LeadsAlone}
@@ -35,6 +37,10 @@ or-true false b e = e
 if-alike : (b : Bool) (m n : ℕ) → m ≡ n → (if b then m else 0) ≡ (if b then n else 0)
 if-alike true m n e = e
 if-alike false m n e = refl
+
+if-when : (b : Bool) (m n : ℕ) → (b ≡ true → m ≡ n) → (if b then m else 0) ≡ (if b then n else 0)
+if-when true m n e = e refl
+if-when false m n e = refl
 
 and-if : (a b : Bool) (n : ℕ) → (if a && b then n else 0) ≡ (if b then (if a then n else 0) else 0)
 and-if true b n = refl
@@ -74,7 +80,7 @@ module _ (near far : ℕ) where
       and-right true b g = g
       and-right false b g = refl
 
-module _ (settings : (point : ℕ) → Configuration) (t : AreTheirs settings) (near far : ℕ) (fn : IsNode settings near) (ff : IsNode settings far) (hop : IsHop settings near far) where
+module _ (settings : (point : ℕ) → Configuration) (t : ArePlaced settings) (near far : ℕ) (fn : IsNode settings near) (ff : IsNode settings far) (hop : IsHop settings near far) where
   -- ---- each node puts messages where it may
 
   other-in : (x : ℕ) (fx : IsNode settings x) (p : Parts) (m : Message) (link : ℕ) → HasWays (settings x) p → link_of (settings x) p (flow_of m) ≡ Some link → group near far x ≡ true → group near far (dpc_of m) ≡ true
@@ -122,6 +128,10 @@ module _ (settings : (point : ℕ) → Configuration) (t : AreTheirs settings) (
 
     abbrev line_on : (link : ℕ) → Line
     line_on link = line_at p (place_at settings t near link)
+
+    -- a link to the other has its other end there
+    there : (link : ℕ) → link < length c.links → nat_eq (peer_of c link) far ≡ true → is_some (other_end settings near link) ≡ true
+    there link l to = t.joined near link fn l (subst (IsNode settings) (sym (eqb-true (peer_of c link) far to)) ff)
 
     -- whether a link is between the two
     between-is : (link : ℕ) → is_between near far (place c link).link ≡ nat_eq (peer_of c link) far
@@ -174,8 +184,8 @@ module _ (settings : (point : ℕ) → Configuration) (t : AreTheirs settings) (
           sum-over (λ z. count_by of_two z.near.came) refl
           ∙ sum-alike (λ link. if nat_eq (peer_of c link) far then fates_that any_fate to_far (came_by settings w (other_end settings near link)) else 0)
           (λ link. if nat_eq (peer_of c link) far then count_by of_two (line_on link).near.came else 0) (length c.links)
-          (λ link l. if-alike (nat_eq (peer_of c link) far) (count_by of_two (line_on link).near.came) (fates_that any_fate to_far (came_by settings w (other_end settings near link)))
-          (same-users (line_on link).near.came ∙ came-by settings t (hop_points near far) (are-hop near far) w p s near fn users link l ∙ sym (fates-same to_far (came_by settings w (other_end settings near link)))))
+          (λ link l. if-when (nat_eq (peer_of c link) far) (count_by of_two (line_on link).near.came) (fates_that any_fate to_far (came_by settings w (other_end settings near link)))
+          (λ to. same-users (line_on link).near.came ∙ came-by settings t (hop_points near far) (are-hop near far) w p s near fn users link l (there link l to) ∙ sym (fates-same to_far (came_by settings w (other_end settings near link)))))
 
       waits : sum_within (hop_points near far) says_of (group near far) (for_one_of near far) (λ z. count_by of_two (waiting z)) p near
           ≡ over_hop settings near far (λ link. law.users_that to_far (waiting_on settings w near link))
@@ -183,8 +193,8 @@ module _ (settings : (point : ℕ) → Configuration) (t : AreTheirs settings) (
           sum-over (λ z. count_by of_two (waiting z)) refl
           ∙ sum-alike (λ link. if nat_eq (peer_of c link) far then law.users_that to_far (waiting_on settings w near link) else 0)
           (λ link. if nat_eq (peer_of c link) far then count_by of_two (waiting (line_on link)) else 0) (length c.links)
-          (λ link l. if-alike (nat_eq (peer_of c link) far) (count_by of_two (waiting (line_on link))) (law.users_that to_far (waiting_on settings w near link))
-          (same-users (waiting (line_on link)) ∙ ap (count_by users) (sym (waits-by settings t (hop_points near far) (are-hop near far) w p s near fn link l)) ∙ sym (users-same to_far (waiting_on settings w near link))))
+          (λ link l. if-when (nat_eq (peer_of c link) far) (count_by of_two (waiting (line_on link))) (law.users_that to_far (waiting_on settings w near link))
+          (λ to. same-users (waiting (line_on link)) ∙ ap (count_by users) (sym (waits-by settings t (hop_points near far) (are-hop near far) w p s near fn link l (there link l to))) ∙ sym (users-same to_far (waiting_on settings w near link))))
 
       abbrev gone : ℕ
       gone = gone_within (hop_points near far) says_of (group near far) (for_one_of near far) of_two p near
@@ -242,12 +252,12 @@ module _ (settings : (point : ℕ) → Configuration) (t : AreTheirs settings) (
         (λ other e. reached.broken other (λ f. never-raised (two-whole other e))) (near-in near far))
 
 pub comes-over : messages_come_over_a_hop
-comes-over settings steps near far t fn ff hop whole = comes settings t near far fn ff hop steps whole
+comes-over settings steps near far t fn ff hop whole = comes settings (placed settings t) near far fn ff hop steps whole
 
 pub loses-nothing : nothing_is_lost_over_a_hop
 loses-nothing settings steps near far test t fn ff hop none =
     let w : NetworkState = after_steps settings steps (first_network settings) in
     let near_counts : CountsNothing (w.node near).node.parts = flags-tell settings steps near none.near_none in
     let far_counts : CountsNothing (w.node far).node.parts = flags-tell settings steps far none.far_none in
-    let it : ComesOver settings near far w = comes settings t near far fn ff hop steps (record { near_whole = near_counts.unbroken; far_whole = far_counts.unbroken }) in
+    let it : ComesOver settings near far w = comes settings (placed settings t) near far fn ff hop steps (record { near_whole = near_counts.unbroken; far_whole = far_counts.unbroken }) in
     omega (arith, it.once test, it.counted test, near_counts.none_lost)

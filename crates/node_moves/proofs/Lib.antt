@@ -54,6 +54,7 @@ pub mod Routed
 pub mod Closed
 pub mod Hops
 pub mod StartedAgain
+pub mod FromOutside
 pub mod Changes
 pub mod CountedSince
 pub mod Begun

@@ -1,5 +1,6 @@
 -- A network anew: from each state on in which nothing is left at any node.
-use Rattle.node_moves.proofs.Basics.{◌≡◌, ℕ, Bool, true, false, ◌&&◌, ◌+◌, ◌<◌, List, [], ◌∷◌, count_by, nat_lt, refl, ap, sym, subst, ◌∙◌, arith, nat_tests}
+use Rattle.node_moves.proofs.Basics.{◌≡◌, ℕ, Bool, true, false, ◌&&◌, ◌+◌, ◌<◌, List, [], ◌∷◌, count_by, nat_lt, refl, ap, sym, subst, ◌∙◌, arith, nat_tests, length}
+use Rattle.std.specs.Prelude.{is_some}
 use Rattle.node_moves.proofs.Machine.{Near, Network, last_of, Sound}
 use Rattle.node_moves.proofs.Definitions.{Message, Configuration}
 use Rattle.node_moves.proofs.Grown.{same-grown}
@@ -8,21 +9,22 @@ use Rattle.node_moves.proofs.Shown.{Shows, IsBooked}
 use Rattle.node_moves.proofs.World.{Shown, rests}
 use Rattle.node_moves.proofs.Running.{all_points, are-all, all-led, all-steps, first-shown}
 use Rattle.node_moves.proofs.Steps.{Reaches}
-use Rattle.node_moves.proofs.Ending.{ends}
-use Rattle.node_moves.proofs.EndToEnd.{across, accounted, end-to-end, are-joined, all-nodes}
+use Rattle.node_moves.proofs.Ending.{ends, placed}
+use Rattle.node_moves.proofs.EndToEnd.{across, accounted, end-to-end, are-joined, all-nodes, no-node}
 use Rattle.node_moves.proofs.Everywhere.{steps-keep}
 use Rattle.node_moves.proofs.Booking.{IsInOrder, order-kept, first-in-order, takes-each}
 use Rattle.node_moves.proofs.Changes.{nobody, spares-nobody, AreAt, at-after, Comes, all-changes}
 use Rattle.node_moves.proofs.CountedSince.{HasCounted, counted-kept, IsCapped}
-use Rattle.node_moves.proofs.Begun.{settled_line, begun, begun-shown, begun-lasts, at-rest}
+use Rattle.node_moves.proofs.Begun.{settled_line, begun, begun-shown, begun-lasts, at-rest, rest-unused}
 use Rattle.node_moves.proofs.Anew.{begun-counted, capped-after, first-quiet, unraised}
 use Rattle.node_moves.specs.Anew.{Change, Stays, after_changes, begun_anew}
 use Rattle.node_moves.specs.EndToEnd.{ComeFromEndToEnd, IsAccounted}
 use Rattle.node_moves.specs.Fates.{TakesEachIn}
 use Rattle.node_moves.specs.Laws.{AreTheirs, EndsOnce, gone_at, is_user}
+use Rattle.node_moves.specs.Outside.{ArePlaced}
 use Rattle.node_moves.specs.NetworkAnew.{IsQuietNetwork, NoneBrokenSince, NoneLostSince, EndsOnceSince, nodes_begin_anew, ends_begin_anew, sums_begin_anew, nothing_is_lost_in_a_network_anew, first_networks_are_quiet}
 use Rattle.node_moves.specs.Networks as of_nodes
-use Rattle.node_moves.specs.Networks.{NetworkNode, NetworkState, IsNode, Step, is_node, points, after_steps, first_network}
+use Rattle.node_moves.specs.Networks.{NetworkNode, NetworkState, IsNode, Step, is_node, other_end, points, after_steps, first_network}
 use Rattle.network_moves.proofs.Counts.{count-cons}
 use Rattle.network_moves.proofs.Keeping.{sound-always}
 use Rattle.network_moves.proofs.Lasting.{Lasts, lasts-after, lasts-first}
@@ -46,7 +48,7 @@ and-first : (a b : Bool) → (a && b) ≡ true → a ≡ true
 and-first true b e = refl
 and-first false b e = absurd cc
 
-module _ (settings : (point : ℕ) → Configuration) (t : AreTheirs settings) where
+module _ (settings : (point : ℕ) → Configuration) (t : ArePlaced settings) where
   abbrev alone : Network → Network
   alone p = record (begun p) { node = λ x. emptied (is_node settings x) ((begun p).node x) }
 
@@ -75,9 +77,16 @@ module _ (settings : (point : ℕ) → Configuration) (t : AreTheirs settings) w
       by true x e = e
       by false x e = refl
 
-  module _ (w : NetworkState) (p : Network) (s : Shown settings t w p) (lasts : Lasts all_points says_of p) (quiet_then : IsQuietNetwork settings w) where
+  module _ (all_joined : (x link : ℕ) → IsNode settings x → link < length (settings x).links → is_some (other_end settings x link) ≡ true)
+      (w : NetworkState) (p : Network) (s : Shown settings t w p) (lasts : Lasts all_points says_of p) (quiet_then : IsQuietNetwork settings w) where
     lines-rest : (link : ℕ) → quiet.IsAtRest (settled_line (p.line link))
-    lines-rest link = at-rest settings t all_points are-all w p s lasts (λ k. true) (λ x l fx k e. (quiet_then x fx).links l k) link refl (is_node settings (all_points.point link Near)) refl
+    lines-rest link = by (is_node settings (all_points.point link Near)) refl
+      where
+        by : (b : Bool) → is_node settings (all_points.point link Near) ≡ b → quiet.IsAtRest (settled_line (p.line link))
+        by true fx = at-rest settings t all_points are-all w p s lasts (λ k. true) (λ x l fx k e. all_joined x l fx k) (λ x l fx k e. (quiet_then x fx).links l k) link refl fx
+        by false none =
+            rest-unused settings t all_points are-all w p s lasts (λ k. true) (λ x l fx k e. all_joined x l fx k) (λ x l fx k e. (quiet_then x fx).links l k) link
+            (no-node settings t all_joined all_points are-all (all_points.point link Near) link Near none refl)
 
     bag-others : (x : ℕ) → IsNode settings x → AreOthers says_of (p.node x).bag
     bag-others x fx =
@@ -93,18 +102,24 @@ module _ (settings : (point : ℕ) → Configuration) (t : AreTheirs settings) w
 
 -- ---- from such a network on
 
-module _ (settings : (point : ℕ) → Configuration) (before : List Change) (steps : List Step) (t : AreTheirs settings) (quiet_then : IsQuietNetwork settings (after_changes settings before (first_network settings))) where
+module _ (settings : (point : ℕ) → Configuration) (before : List Change) (steps : List Step) (its : AreTheirs settings) (quiet_then : IsQuietNetwork settings (after_changes settings before (first_network settings))) where
+  abbrev t : ArePlaced settings
+  t = placed settings its
+
   abbrev start : NetworkState
   start = after_changes settings before (first_network settings)
 
   abbrev now : NetworkState
   now = after_steps settings steps (begun_anew start)
 
+  no-nodes : (point : ℕ) → nobody point ≡ true → IsNode settings point
+  no-nodes point e = absurd cc
+
   at-first : AreAt settings t all_points are-all quiet.first_network
   at-first x fx = record { lasts = lasts-first all_points says_of; led = all-led (settings x) }
 
-  abbrev reached : Comes settings t all_points are-all nobody (first_network settings) quiet.first_network start
-  reached = (all-changes settings t all_points are-all nobody before (spares-nobody before) (first_network settings)).goes quiet.first_network at-first (first-shown settings t all_points are-all)
+  abbrev reached : Comes settings t all_points are-all nobody no-nodes (first_network settings) quiet.first_network start
+  reached = (all-changes settings t all_points are-all nobody no-nodes before (spares-nobody before) (first_network settings)).goes quiet.first_network at-first (first-shown settings t all_points are-all)
 
   abbrev p : Network
   p = last_of quiet.first_network reached.networks
@@ -150,11 +165,11 @@ module _ (settings : (point : ℕ) → Configuration) (before : List Change) (st
   module _ (whole : NoneBrokenSince settings start now) where
     sound : Sound all_points says_of q
     sound =
-        sound-always all_points says_of (alone settings t p) since.networks (alone-quiet settings t start p reached.shown lasts-p quiet_then) since.moves
+        sound-always all_points says_of (alone settings t p) since.networks (alone-quiet settings t its.joined start p reached.shown lasts-p quiet_then) since.moves
         (λ x. since.broken x (λ fx. unraised _ _ (whole x fx)))
 
     each : (x : ℕ) → IsNode settings x → EndsOnce settings now x
-    each x fx = ends settings t all_points are-all now q since.shown x fx sound
+    each x fx = ends settings t all_points are-all now q since.shown x fx (λ link inside. its.joined x link fx inside) sound
 
     pub each-since : (x : ℕ) → IsNode settings x → EndsOnceSince settings start now x
     each-since x fx = record {
@@ -166,10 +181,10 @@ module _ (settings : (point : ℕ) → Configuration) (before : List Change) (st
     pub ends-since : (x : ℕ) → IsNode settings x → ComeFromEndToEnd settings now x
     ends-since x fx =
         let inside : x < points = (let l : nat_lt x points ≡ true = and-first (nat_lt x points) _ fx in grind (arith, nat_tests, l)) in
-        end-to-end settings t now each takes (λ test. across settings t all_points are-all now q sound since.shown test are-joined all-nodes) x fx inside
+        end-to-end settings t now each takes (λ test. across settings t its.joined all_points are-all now q sound since.shown test are-joined all-nodes) x fx inside
 
     pub sums-since : IsAccounted settings now
-    sums-since = accounted settings t now each takes (λ test. across settings t all_points are-all now q sound since.shown test are-joined all-nodes)
+    sums-since = accounted settings t now each takes (λ test. across settings t its.joined all_points are-all now q sound since.shown test are-joined all-nodes)
 
   pub none-gone : NoneLostSince settings start now → (x : ℕ) → IsNode settings x → (test : Message → Bool) → gone_at settings now test x ≡ 0
   none-gone none x fx test =

@@ -15,7 +15,7 @@ use Rattle.node_moves.proofs.BothEnds.{IsOther, OnlyBoth, reline-both}
 use Rattle.node_moves.proofs.Steps.{StepGoes, finish, grown-before, event-settles}
 use Rattle.node_moves.specs.Networks.{NetworkNode, NetworkState, IsNode, changed, updated, happens, come_up, be_led, state_of}
 use Rattle.node_moves.specs.Networks as of_nodes
-use Rattle.node_moves.specs.Laws.{AreTheirs}
+use Rattle.node_moves.specs.Outside.{ArePlaced}
 use Rattle.changeover.specs.Changeover.{may_restart}
 use Rattle.exchange_rules.proofs.Lists.{each-set}
 use Rattle.exchange_rules.specs.Conserving as of_rules
@@ -144,7 +144,7 @@ module _ (c : Configuration) (n : Node WholeQueues) (link : ℕ) (m : MayComeUp 
     ways = z.ways;
   }
 
-module _ (settings : (point : ℕ) → Configuration) (t : AreTheirs settings) (shape : Shape) (o : IsShape shape) (w : NetworkState) (x link : ℕ) (fx : IsNode settings x) (inside : link < length (settings x).links)
+module _ (settings : (point : ℕ) → Configuration) (t : ArePlaced settings) (shape : Shape) (o : IsShape shape) (w : NetworkState) (x link : ℕ) (fx : IsNode settings x) (inside : link < length (settings x).links)
     (m : MayComeUp (w.node x).node.parts link) where
   abbrev c : Configuration
   c = settings x

@@ -8,7 +8,7 @@ use Rattle.node_moves.proofs.Shown.{Mid, Shows, IsShown, IsAlike, IsSized, IsBoo
 use Rattle.node_moves.proofs.Going.{IsAt, Arrives, Goes, is_broken, last-append, moves-append}
 use Rattle.node_moves.proofs.World.{IsFlown, ShownAt, place_at, rests, same-line, goes-on}
 use Rattle.node_moves.specs.Networks.{NetworkState, IsNode}
-use Rattle.node_moves.specs.Laws.{AreTheirs}
+use Rattle.node_moves.specs.Outside.{ArePlaced}
 use Rattle.network_moves.proofs.Lasting.{lasts-after}
 use Rattle.network_moves.specs.Networks as net
 
@@ -65,7 +65,7 @@ module _ (shape : Shape) (p : Network) (place : Place) (z : Line) (n : net.Node)
   pub other-node : (other : ℕ) → other ≢ point_at shape place → after.node other ≡ p.node other
   other-node other d = ap (λ (b : Bool). if b then n else p.node other) (ne_eqb other (point_at shape place) d)
 
-module _ (settings : (point : ℕ) → Configuration) (t : AreTheirs settings) (shape : Shape) (o : IsShape shape) where
+module _ (settings : (point : ℕ) → Configuration) (t : ArePlaced settings) (shape : Shape) (o : IsShape shape) where
   pub record Relines (w v : NetworkState) (x link : ℕ) (m u : Mid) (y z : Line) (n : net.Node) : Type 0 where
     pub inside : link < length (settings x).links
     pub sized : IsSized (settings x) u.node

@@ -16,7 +16,8 @@ use Rattle.node_moves.proofs.Opening.{MayComeUp, wants-open, second-step, first-
 use Rattle.node_moves.proofs.Sending.{takes-step}
 use Rattle.node_moves.specs.Networks.{NetworkNode, NetworkState, Doing, Step, IsNode, is_node, changed, updated, next_in, happens, hear_data, hear_status, with_statuses, follow, come_up, be_led, open_first, may_open_at, other_end, did, did_here, after_step, after_steps, first_network}
 use Rattle.node_moves.specs.Networks as of_nodes
-use Rattle.node_moves.specs.Laws.{AreTheirs, IsUnbroken}
+use Rattle.node_moves.specs.Laws.{IsUnbroken}
+use Rattle.node_moves.specs.Outside.{ArePlaced}
 unfoldable use Rattle.exchange_rules.specs.Exchange.{apply}
 use Rattle.exchange_rules.specs.Exchange.{handle_event}
 use Rattle.exchange_rules.specs.Opening.{may_open, wanted, open_link, association_up}
@@ -80,7 +81,7 @@ next-is c link texts text e = by (nat_lt link (length c.links)) refl e
     by true f g = record { inside = grind (arith, nat_tests, f); flying = first-text texts text g }
     by false f g = absurd cc
 
-module _ (settings : (point : ℕ) → Configuration) (t : AreTheirs settings) (shape : Shape) (o : IsShape shape) where
+module _ (settings : (point : ℕ) → Configuration) (t : ArePlaced settings) (shape : Shape) (o : IsShape shape) where
   abbrev pub Goes_on : NetworkState → NetworkState → Type 0
   Goes_on w v = StepGoes settings t shape o w v
 

@@ -18,7 +18,7 @@ use Rattle.node_moves.proofs.Outgoing.{IsNext, is-next, message-is-next, next-se
 use Rattle.node_moves.proofs.Steps.{StepGoes, step-none, finish}
 use Rattle.node_moves.specs.Networks.{NetworkNode, NetworkState, IsNode, changed, updated, reach, sent, flies, fetch, other_end}
 use Rattle.node_moves.specs.Networks as of_nodes
-use Rattle.node_moves.specs.Laws.{AreTheirs}
+use Rattle.node_moves.specs.Outside.{ArePlaced}
 use Rattle.exchange_rules.proofs.Steps.{ways_of}
 use Rattle.exchange_rules.proofs.Lists.{alike-at, each-set}
 use Rattle.exchange_rules.specs.Sending.{Outgoing, SendsStatus, SendsMessage, Acknowledges, SendsNothing, goes_out, may_send, next_message, status_first, message_first, frame_from, frame_taken, after_sending, after_take, without_owed}
@@ -87,7 +87,7 @@ take-broken c link n SendsNothing = refl
 
 -- ---- a frame flies
 
-reach-rests : (settings : (point : ℕ) → Configuration) (t : AreTheirs settings) (frame : FrameValue) (l : ℕ) (e : NetworkNode) → rests settings t (reach frame l e) ≡ rests settings t e
+reach-rests : (settings : (point : ℕ) → Configuration) (t : ArePlaced settings) (frame : FrameValue) (l : ℕ) (e : NetworkNode) → rests settings t (reach frame l e) ≡ rests settings t e
 reach-rests settings t (StatusFrame bsn fsn status) l e = refl
 reach-rests settings t (EmptyFrame bsn fsn) l e = refl
 reach-rests settings t (MessageFrame bsn fsn sio sif) l e = refl
@@ -148,7 +148,7 @@ flies-data frame shown y z is s carries more to_near told_near told_far near_may
   });
 }
 
-module _ (settings : (point : ℕ) → Configuration) (t : AreTheirs settings) (shape : Shape) (o : IsShape shape) (w : NetworkState) (x link : ℕ) (fx : IsNode settings x) where
+module _ (settings : (point : ℕ) → Configuration) (t : ArePlaced settings) (shape : Shape) (o : IsShape shape) (w : NetworkState) (x link : ℕ) (fx : IsNode settings x) where
   abbrev c : Configuration
   c = settings x
 

@@ -1,16 +1,16 @@
 -- A node that starts again: one move.
 use Rattle.node_moves.proofs.Basics.{◌≡◌, ◌≢◌, ℕ, Bool, true, false, not, ◌<◌, List, [], length, Some, count_by, nat_eq, refl, ap, sym, subst, ◌∙◌, arith, if◌then◌else◌, length-replicate, ⊎_elim, cases_eq, ne_eqb, eq-eqb}
 use Rattle.node_moves.proofs.Machine.{Side, Near, Far, opposite, LinkEnd, Line, Network, Shape, turned, seen, Place, line_at, point_at, Move}
-use Rattle.node_moves.proofs.Definitions.{Message, Configuration, link_at, changeover_of, first_queue, Link, down_link, Standing, no_changeover, is_down, is_in_service}
+use Rattle.node_moves.proofs.Definitions.{Message, Configuration, link_at, changeover_of, first_queue, Link, down_link, Standing, no_changeover, is_down, is_in_service, peer_of}
 use Rattle.node_moves.proofs.Reading.{IsShape, says_of, across}
 use Rattle.node_moves.proofs.Shown.{Shows, IsShown, IsSized, IsSilent, IsBooked, is_heard, at-own}
-use Rattle.node_moves.proofs.BothEnds.{IsOther, is-other}
-use Rattle.node_moves.proofs.Ending.{same-or, the-other, twice}
+use Rattle.node_moves.proofs.Heard.{own-apart}
+use Rattle.node_moves.proofs.Ending.{peer-at, same-or, twice}
 use Rattle.node_moves.proofs.Flights.{changed-here, changed-other}
 use Rattle.node_moves.proofs.World.{IsFlown, AreData, AreStatuses, Shown, IsUnused, rests, place_at}
 use Rattle.node_moves.specs.Anew.{restarted}
-use Rattle.node_moves.specs.Laws.{AreTheirs}
-use Rattle.node_moves.specs.Networks.{NetworkNode, NetworkState, IsNode, changed, other_end, first_node}
+use Rattle.node_moves.specs.Outside.{ArePlaced}
+use Rattle.node_moves.specs.Networks.{NetworkNode, NetworkState, IsNode, changed, first_node}
 use Rattle.node_moves.specs.Networks as of_nodes
 use Rattle.exchange_rules.proofs.Lists.{each-replicate}
 use Rattle.network_moves.specs.Moves as moves
@@ -93,23 +93,19 @@ module _ (shape : Shape) (x : ℕ) where
       by Far false true e = absurd cc
       by Far false false e = record { near = refl; to_near = refl; told_near = refl; near_may = refl; far_came = refl }
 
-module _ (settings : (point : ℕ) → Configuration) (t : AreTheirs settings) (shape : Shape) (o : IsShape shape) where
+module _ (settings : (point : ℕ) → Configuration) (t : ArePlaced settings) (shape : Shape) (o : IsShape shape) where
   -- no link has both its ends at one node
   never-both : (k : ℕ) (side : Side) → shape.point k side ≡ shape.point k (opposite side) → IsUnused settings t k
   never-both k side same y l fy inside at =
       let its : Place = place_at settings t y l in
-      let other : (there : of_nodes.LinkEnd) × (other_end settings y l ≡ Some there) = the-other (other_end settings y l) (t.joined y l fy inside) in
-      let h : IsOther settings t shape o y l other.0 = is-other settings t shape o y l other.0 fy inside other.1 in
       let here : shape.point k its.side ≡ y = ap (λ (j : ℕ). shape.point j its.side) (sym at) ∙ at-own shape o (settings y) (t.well y fy) l ∙ t.own y fy in
-      let there : shape.point k (opposite its.side) ≡ other.0.point =
-      ap (λ (j : ℕ). shape.point j (opposite its.side)) (sym at) ∙ ap (point_at shape) (sym h.place) ∙ at-own shape o (settings other.0.point) (t.well other.0.point h.within) other.0.link
-      ∙ t.own other.0.point h.within in
+      let there : shape.point k (opposite its.side) ≡ peer_of (settings y) l = ap (λ (j : ℕ). shape.point j (opposite its.side)) (sym at) ∙ peer-at settings t shape o y l fy in
       let both : shape.point k its.side ≡ shape.point k (opposite its.side) =
       ⊎_elim
       (λ (e : its.side ≡ side). ap (shape.point k) e ∙ same ∙ ap (λ (s : Side). shape.point k (opposite s)) (sym e))
       (λ (e : its.side ≡ opposite side). ap (shape.point k) e ∙ sym same ∙ ap (shape.point k) (sym (ap opposite e ∙ twice side)))
       (same-or its.side side) in
-      h.apart (sym there ∙ sym both ∙ here)
+      own-apart (settings y) (t.well y fy) l (t.own y fy ∙ sym here ∙ both ∙ there)
 
   module _ (w : NetworkState) (p : Network) (s : Shown settings t w p) (x : ℕ) (fx : IsNode settings x) where
     abbrev c : Configuration

@@ -14,7 +14,7 @@ use Rattle.node_moves.proofs.World.{IsFlown, AreStatuses, Shown, books_of, rests
 use Rattle.node_moves.proofs.Relining.{Leads, leads-none, leads-one, leads-goes, with_line}
 use Rattle.node_moves.proofs.Flights.{IsSameFlight, same-flight, changed-here, changed-other, updated-here, updated-other, only-changed, statuses-changed}
 use Rattle.node_moves.specs.Networks.{NetworkNode, NetworkState, IsNode, changed, happens, hand_over, with_statuses, state_of}
-use Rattle.node_moves.specs.Laws.{AreTheirs}
+use Rattle.node_moves.specs.Outside.{ArePlaced}
 use Rattle.exchange_rules.specs.Reroutings.{first_reroutings}
 use Rattle.exchange_rules.specs.Conserving.{brought_in, brought_to, gone, gone_by, gone_by_release}
 unfoldable use Rattle.exchange_rules.specs.Exchange.{apply}
@@ -47,7 +47,7 @@ module _ (shape : Shape) (o : IsShape shape) (c : Configuration) (well : IsWell 
       let lost : List Message = (gone_by what (record { settings = c; node = n; reroutings = first_reroutings c })).lost in
       event-ends what v n k lost (names-more shape o c well v (handle_event whole c what n).left [] [] k lost e)
 
-module _ (settings : (point : ℕ) → Configuration) (t : AreTheirs settings) (shape : Shape) (o : IsShape shape) where
+module _ (settings : (point : ℕ) → Configuration) (t : ArePlaced settings) (shape : Shape) (o : IsShape shape) where
   -- moves lead from a network that shows one state to one that shows another; they break the nodes that counted more alone
   pub record Reaches (w : NetworkState) (p : Network) (v : NetworkState) : Type 0 where
     pub networks : List Network

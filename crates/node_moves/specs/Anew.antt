@@ -2,24 +2,29 @@
 -- which nothing is left between the two, whatever was lost or broken before, and however often nodes have started
 -- again.
 use Rattle.std.specs.Prelude.{◌≡◌, ◌≢◌, ◌≤◌, ◌<◌, ◌+◌, ◌&&◌, ◌||◌, ℕ, Bool, true, false, not, min, nat_eq, List, []}
-use Rattle.std.specs.Prelude.{◌∷◌, length, count_by}
+use Rattle.std.specs.Prelude.{◌∷◌, length, count_by, if◌then◌else◌}
 use Rattle.signalling_types.specs.Message.{Message, dpc_of, opc_of, service_indicator, is_management}
 use Rattle.settings.specs.Configuration.{Configuration}
 use Rattle.exchange_rules.specs.ChangingOver.{changeover_of}
 use Rattle.exchange_rules.specs.Routing.{peer_of}
 use Rattle.exchange_rules.specs.State.{down}
+use Rattle.m2pa_codec.specs.Frames.{read_frame}
 use Rattle.node_moves.specs.EndToEnd.{to_point}
 use Rattle.node_moves.specs.Hops.{IsHop, accepted_for, came_over, gone_for, waits_for}
-use Rattle.node_moves.specs.Laws.{AreTheirs, most, users_that}
+use Rattle.node_moves.specs.Laws.{most, users_that}
 use Rattle.node_moves.specs.Networks.{NetworkNode, NetworkState, IsNode, Step, after_step, changed, first_network}
-use Rattle.node_moves.specs.Networks.{first_node}
+use Rattle.node_moves.specs.Networks.{be_led, first_node}
+use Rattle.node_moves.specs.Outside.{ArePlaced, leads_out, put_in}
 
 -- ---- nodes that start again
 
--- what is done to a network: a step, or a node starts again
+-- what is done to a network: a step; a node starts again; or, on a link of a node that leads out, the other end opens,
+-- and the node may follow, or a frame is in flight to the node
 pub data Change : Type 0 where
   Does : (step : Step) → Change
   Restarts : (point : ℕ) → Change
+  OpensOutside : (point link : ℕ) → Change
+  ComesOutside : (point link : ℕ) (text : List ℕ) → Change
 
 -- a node starts again: its exchange is as it was booted, with the same settings. Nothing is in flight to it, and it may
 -- follow on no link. What it sent is in flight yet: the other end of each link sees its association lost later, by a
@@ -37,6 +42,12 @@ module _ (settings : (point : ℕ) → Configuration) where
   abbrev pub after_change : Change → NetworkState → NetworkState
   after_change (Does step) w = after_step settings step w
   after_change (Restarts point) w = changed point (restarted (settings point)) w
+  after_change (OpensOutside point link) w =
+      if leads_out settings point link then changed point (be_led link) w else w
+  after_change (ComesOutside point link text) w =
+      if leads_out settings point link
+      then changed point (put_in (settings point) link text (read_frame text)) w
+      else w
 
   abbrev pub after_changes : List Change → NetworkState → NetworkState
   after_changes [] w = w
@@ -95,6 +106,8 @@ module _ (near far : ℕ) where
   abbrev pub IsOfOthers : Change → Type 0
   IsOfOthers (Does step) = Unit {0}
   IsOfOthers (Restarts point) = (point ≢ near) × (point ≢ far)
+  IsOfOthers (OpensOutside point link) = Unit {0}
+  IsOfOthers (ComesOutside point link text) = Unit {0}
 
   abbrev pub AreOfOthers : List Change → Type 0
   AreOfOthers [] = Unit {0}
@@ -129,7 +142,7 @@ module _ (settings : (point : ℕ) → Configuration) (near far : ℕ) where
 -- is broken, whatever the others do
 abbrev pub hops_begin_anew : Type 0
 hops_begin_anew =
-    (settings : (point : ℕ) → Configuration) (before changes : List Change) (near far : ℕ) → AreTheirs settings →
+    (settings : (point : ℕ) → Configuration) (before changes : List Change) (near far : ℕ) → ArePlaced settings →
     IsNode settings near → IsNode settings far → IsHop settings near far →
     NothingIsLeft settings near far (after_changes settings before (first_network settings)) →
     AreOfOthers near far changes →
@@ -144,7 +157,7 @@ hops_begin_anew =
 abbrev pub nothing_is_lost_anew : Type 0
 nothing_is_lost_anew =
     (settings : (point : ℕ) → Configuration) (before changes : List Change) (near far : ℕ) (test : Message → Bool) →
-    AreTheirs settings → IsNode settings near → IsNode settings far → IsHop settings near far →
+    ArePlaced settings → IsNode settings near → IsNode settings far → IsHop settings near far →
     NothingIsLeft settings near far (after_changes settings before (first_network settings)) →
     AreOfOthers near far changes →
     HaveLostNothingSince near far

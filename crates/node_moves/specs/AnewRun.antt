@@ -6,11 +6,11 @@ use Rattle.node_moves.specs.Anew.{Change, Does, Restarts, HaveLostNothingSince, 
 use Rattle.node_moves.specs.Anew.{begun_anew}
 use Rattle.node_moves.specs.Hops.{IsHop, AreUnbroken}
 use Rattle.node_moves.specs.HopRun.{message_three}
-use Rattle.node_moves.specs.Laws.{AreTheirs}
 use Rattle.node_moves.specs.MatedPair.{mated}
 use Rattle.node_moves.specs.MatedRun.{aligns, cross, delivered, done_at, opening, sends, serves, settling, submits}
 use Rattle.node_moves.specs.MatedRun.{turned, users, users_in}
 use Rattle.node_moves.specs.Networks.{NetworkState, Step, Loses, Ticks, first_network}
+use Rattle.node_moves.specs.Outside.{ArePlaced}
 
 -- another message of the ISDN user part from point 1 to point 2
 abbrev pub message_four : Message
@@ -42,7 +42,7 @@ come_anew = after_changes mated (map Does (return ++ next)) (begun_anew over)
 
 pub record BeginsAnew : Type 0 where
   -- what the law asks
-  pub theirs : AreTheirs mated
+  pub theirs : ArePlaced mated
   pub hop : IsHop mated 1 2
   pub left : NothingIsLeft mated 1 2 over
   pub none_lost : HaveLostNothingSince 1 2 over come_anew

@@ -93,6 +93,8 @@ pub fn messages_come_over_a_hop()
 /// those that wait at the near one are together no more than it accepted. The rest are gone: by any test, no more than
 /// the near node named as lost since then; nor than it counted in `messages_lost` since. While neither of the two
 /// counts a possible loss, none is gone. It is so in both directions. At first nothing is left between any two nodes.
+/// Links may lead out of the network there, to points without a node (`specs/Outside.antt`): then any frame may come by
+/// them whose order or answer, if it has one, is about that link and from its other end.
 pub fn hops_begin_anew()
     ensures once { hops_begin_anew }
     ensures flags { nothing_is_lost_anew }
