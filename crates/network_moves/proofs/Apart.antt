@@ -1,7 +1,7 @@
 -- What concerns a group of nodes is at no other node, and on no link that isn't within.
 use Rattle.network_moves.proofs.Basics.{◌≡◌, ◌≢◌, ℕ, zero, suc, Bool, true, false, ◌+◌, ◌≤◌, ◌&&◌, List, [], ◌∷◌, ◌++◌, count_by, drop, refl, ap, sym, ◌∙◌, subst, arith, ⊎_elim, cases_eq}
 use Rattle.network_moves.proofs.Definitions.{Message, Side, Near, Far, opposite, Saying, UserMessage, Order, Answer, Other, Frame, EmptyFrame, MessageFrame, Line, Node, Network, Shape, seen, Place, line_at, point_at, node_at, one_if, LinesBecome}
-pub use Rattle.network_moves.specs.Groups.{frames_by}
+pub use Rattle.network_moves.specs.Networks.{frames_by}
 use Rattle.network_moves.specs.Groups.{says_of_group}
 use Rattle.network_moves.proofs.Counts.{count-cons}
 use Rattle.network_moves.proofs.Lines.{both}
@@ -23,6 +23,16 @@ frames-message test fsn bsn m (MessageFrame f b x ∷ frames) = omega (arith, fr
 pub frames-rest : (test : Message → Bool) (frame : Frame) (frames : List Frame) → frames_by test frames ≤ frames_by test (frame ∷ frames)
 frames-rest test (EmptyFrame fsn bsn) frames = omega arith
 frames-rest test (MessageFrame fsn bsn m) frames = omega arith
+
+pub frames-append : (test : Message → Bool) (left new : List Frame) → frames_by test (left ++ new) ≡ frames_by test left + frames_by test new
+frames-append test [] new = omega arith
+frames-append test (EmptyFrame fsn bsn ∷ left) new = frames-append test left new
+frames-append test (MessageFrame fsn bsn m ∷ left) new = omega (arith, frames-append test left new)
+
+pub frames-fewer : (t u : Message → Bool) → ((m : Message) → one_if (t m) ≤ one_if (u m)) → (frames : List Frame) → frames_by t frames ≤ frames_by u frames
+frames-fewer t u h [] = omega arith
+frames-fewer t u h (EmptyFrame fsn bsn ∷ frames) = frames-fewer t u h frames
+frames-fewer t u h (MessageFrame fsn bsn m ∷ frames) = omega (arith, h m, frames-fewer t u h frames)
 
 -- ---- parts of lists
 
@@ -89,6 +99,13 @@ module _ (shape : Shape) (read : Message → Saying) (group : ℕ → Bool) (for
 
   pub apart-at : (p : Network) (place : Place) → IsApart p → within shape read group for_group place.link ≡ false → IsApartLine place (line_at p place)
   apart-at p place h e = apart-seen place.link place.side (p.line place.link) (h.lines place.link e)
+
+  pub apart-is : (p : Network) (place : Place) → IsApartLine place (line_at p place) → IsApartLine (record { link = place.link; side = Near }) (p.line place.link)
+  apart-is p place h = by place.side h
+    where
+      by : (side : Side) → IsApartLine (record { link = place.link; side = side }) (seen side (p.line place.link)) → IsApartLine (record { link = place.link; side = Near }) (p.line place.link)
+      by Near l = l
+      by Far l = record { near = l.far; far = l.near; to_far = l.to_near; to_near = l.to_far }
 
   -- a link is within only if the node here is of the group
   pub not-within : (place : Place) → here place ≡ false → within shape read group for_group place.link ≡ false

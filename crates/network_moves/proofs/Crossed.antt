@@ -98,7 +98,7 @@ within-so false false e f = f
 
 pub mates-decide : MatesDecide
 mates-decide = record {
-  apart = record { stays = λ place m inside leads of. within-so _ _ leads of; lasting = λ point out. out };
+  apart = record { stays = λ place m inside leads of. within-so _ _ leads of };
   moves = all-done first_network mates_run (can-append first_network (joining ++ breaking) between (can-append first_network joining breaking joining-can apart-can) between-can);
   broken = refl;
   whole = (refl, refl);

@@ -1,13 +1,15 @@
 -- Moves of a link that opens are followed, and those that break a node outside a group are none to it.
-use Rattle.network_moves.proofs.Basics.{◌≡◌, ℕ, Bool, true, false, [], ◌∷◌, drop, refl, ap, ◌∙◌, arith}
-use Rattle.network_moves.proofs.Definitions.{Message, Saying, LinkEnd, Line, Node, Network, Shape, Place, line_at, point_at, node_at, Gone, MayOpen, with_wait, with_completion, opened_first, opened_second, with_service, OpensFirst, OpensSecond, Enters, Breaks, ReleasesBar, HearsUnreasonableOrder, HearsUnreasonableAnswer}
-use Rattle.network_moves.specs.Returning.{StartsAgain}
+use Rattle.network_moves.proofs.Basics.{◌≡◌, ◌≢◌, ℕ, Bool, true, false, not, ◌&&◌, ◌||◌, ◌≤◌, ◌^◌, [], ◌∷◌, ◌++◌, count_by, nat_eq, nat_lt, drop, refl, ap, sym, ◌∙◌, subst, arith, if◌then◌else◌, ⊎_elim, cases_eq}
+use Rattle.network_moves.proofs.Definitions.{Message, Near, Far, Saying, UserMessage, Order, Answer, Other, one_if, LinkEnd, Line, Node, Network, Shape, Place, line_at, point_at, node_at, Gone, MayOpen, with_wait, with_completion, opened_first, opened_second, with_service, closed_line, OpensFirst, OpensSecond, Enters, Breaks, ReleasesBar, HearsUnreasonableOrder, HearsUnreasonableAnswer}
+use Rattle.network_moves.specs.Returning.{Strays, StartsAgain, restarted, strayed}
+use Rattle.network_moves.specs.Groups.{says_of_group}
+use Rattle.network_moves.specs.Sayings.{is_elsewhere, saying}
 use Rattle.network_moves.specs.Moves as moves
-use Rattle.network_moves.specs.Groups.{KeepsToItself}
+use Rattle.std.proofs.lemmas.Bool.{eqb-true}
 use Rattle.network_moves.proofs.Counts.{count-cons, count-append}
 use Rattle.network_moves.proofs.Lines.{both}
-use Rattle.network_moves.proofs.Masking.{line-set, IsMask, mask-outside}
-use Rattle.network_moves.proofs.Apart.{stays, says-none, IsApart, IsLess, apart-less, apart-line, here, not-within}
+use Rattle.network_moves.proofs.Masking.{line-set, within, within-side, IsLike, IsMask, mask-outside}
+use Rattle.network_moves.proofs.Apart.{stays, says-none, IsApart, IsApartLine, IsLess, frames-append, frames-fewer, apart-at, apart-is, apart-less, apart-line, here, not-within}
 use Rattle.network_moves.proofs.Following.{Follows, breaks, goes}
 use Rattle.network_moves.proofs.FollowedNodes.{left-none}
 use Rattle.network_moves.proofs.FollowedFrames.{follows-quiet}
@@ -79,8 +81,12 @@ module _ (shape : Shape) (read : Message → Saying) (group : ℕ → Bool) (for
   breaking place z n after apart = by (here shape read group for_group place) refl
     where
       by : (b : Bool) → here shape read group for_group place ≡ b → Follows shape read group for_group q k
-      by true e = breaks (point_at shape place) e after.broken
+      by true e = breaks apart (point_at shape place) e after.broken
       by false e = goes apart [] tt (mask-outside shape read group for_group p q k place z after.lines after.others h (not-within shape read group for_group place e) (λ f. both f e))
+
+  at-most : (b : Bool) → one_if b ≤ 1
+  at-most true = omega arith
+  at-most false = omega arith
 
   abbrev gone : Message → Bool
   gone = stays shape read group for_group false
@@ -126,10 +132,91 @@ module _ (shape : Shape) (read : Message → Saying) (group : ℕ → Bool) (for
         left-none shape read group for_group p q k a h (node_at shape p m.place).bag m.rest m.answer m.taken none,
       )) a)
 
-  -- no node outside a group that keeps to itself starts again
-  pub follows-starts_again : KeepsToItself shape read group for_group → StartsAgain shape read p q → Follows shape read group for_group q k
-  follows-starts_again c m = by (group m.point) refl
+  -- ---- a node does as it likes on a link
+
+  -- a word about a link that isn't within is none about one within
+  said-elsewhere : (link : ℕ) → within shape read group for_group link ≡ false → (for_it : Bool) (s : Saying) → one_if (says_of_group shape read group for_group (false && for_it) s) ≤ one_if (is_elsewhere link s)
+  said-elsewhere link out for_it UserMessage = omega arith
+  said-elsewhere link out for_it (Order about maker number) = about-by link out about (not (nat_lt number (2 ^ 24))) (nat_eq about link) refl
+    where
+      about-by : (link : ℕ) → within shape read group for_group link ≡ false → (about : ℕ) (odd b : Bool) → nat_eq about link ≡ b → one_if (within shape read group for_group about) ≤ one_if (not b || odd)
+      about-by link out about odd true e = omega (arith, ap one_if (ap (within shape read group for_group) (eqb-true about link e) ∙ out))
+      about-by link out about odd false e = at-most (within shape read group for_group about)
+  said-elsewhere link out for_it (Answer about maker number) = about-by link out about (not (nat_lt number (2 ^ 24))) (nat_eq about link) refl
+    where
+      about-by : (link : ℕ) → within shape read group for_group link ≡ false → (about : ℕ) (odd b : Bool) → nat_eq about link ≡ b → one_if (within shape read group for_group about) ≤ one_if (not b || odd)
+      about-by link out about odd true e = omega (arith, ap one_if (ap (within shape read group for_group) (eqb-true about link e) ∙ out))
+      about-by link out about odd false e = at-most (within shape read group for_group about)
+  said-elsewhere link out for_it Other = omega arith
+
+  pub follows-strays : Strays shape read p q → Follows shape read group for_group q k
+  follows-strays m =
+      breaking m.place _ _ m.after
+      (apart-line shape read group for_group p q m.place (strayed (line_at p m.place) (m.left ++ m.new) m.told_far m.follows) _ m.after.lines m.after.here m.after.others
+      (λ out l. record {
+        near = refl;
+        far = l.far;
+        to_far =
+            omega (
+              arith,
+              m.own,
+              l.to_far,
+              m.fewer gone,
+              frames-append gone m.left m.new,
+              frames-fewer gone (saying read (is_elsewhere m.place.link)) (λ x. said-elsewhere m.place.link out (for_group x) (read x)) m.new,
+            );
+        to_near = refl;
+      })
+      (λ l none out. none) a)
+
+  -- ---- a node starts again
+
+  restarted-line : (place : Place) (z : Line) → IsApartLine shape read group for_group place z → IsApartLine shape read group for_group place (restarted z)
+  restarted-line place z l = record { near = refl; far = l.far; to_far = l.to_far; to_near = refl }
+
+  line-restarts : (place : Place) → line_at q place ≡ restarted (line_at p place) → within shape read group for_group place.link ≡ false
+      → IsApartLine shape read group for_group (record { link = place.link; side = Near }) (q.line place.link)
+  line-restarts place e out =
+      apart-is shape read group for_group q place
+      (subst (IsApartLine shape read group for_group place) (sym e) (restarted-line place (line_at p place) (apart-at shape read group for_group p place a out)))
+
+  restarted-apart : StartsAgain shape read p q → IsApart shape read group for_group q
+  restarted-apart m = record {
+    bags = λ x out.
+        ⊎_elim
+        (λ (same : x ≡ m.point). subst (λ (i : ℕ). count_by gone (q.node i).bag ≡ 0) (sym same) (ap (count_by gone) m.empty))
+        (λ (d : x ≢ m.point). subst (λ (v : Node). count_by gone v.bag ≡ 0) (sym (m.others x d)) (a.bags x out))
+        (cases_eq x m.point);
+    lines = λ link out.
+        ⊎_elim
+        (λ (near : shape.point link Near ≡ m.point). line-restarts (record { link = link; side = Near }) (m.ends _ near) out)
+        (λ (no : shape.point link Near ≢ m.point).
+        ⊎_elim
+        (λ (far : shape.point link Far ≡ m.point). line-restarts (record { link = link; side = Far }) (m.ends _ far) out)
+        (λ (none : shape.point link Far ≢ m.point).
+        subst (IsApartLine shape read group for_group (record { link = link; side = Near })) (sym (m.lines link no none)) (a.lines link out))
+        (cases_eq (shape.point link Far) m.point))
+        (cases_eq (shape.point link Near) m.point);
+  }
+
+  -- a node outside the group is no end of a line within
+  restarted-mask : (m : StartsAgain shape read p q) → group m.point ≡ false → IsMask shape read group for_group q k
+  restarted-mask m none = record {
+    nodes = λ x inside. subst (λ (v : Node). IsLike shape read group for_group v (k.node x)) (sym (m.others x (apart x inside))) (h.nodes x inside);
+    lines = λ link. h.lines link ∙ by link (within shape read group for_group link) refl;
+    whole = h.whole;
+  }
+    where
+      apart : (x : ℕ) → group x ≡ true → x ≢ m.point
+      apart x inside same = both inside (ap group same ∙ none)
+
+      by : (link : ℕ) (b : Bool) → within shape read group for_group link ≡ b → (if b then p.line link else closed_line) ≡ (if b then q.line link else closed_line)
+      by link true e = sym (m.lines link (apart _ (within-side shape read group for_group link Near e)) (apart _ (within-side shape read group for_group link Far e)))
+      by link false e = refl
+
+  pub follows-starts_again : StartsAgain shape read p q → Follows shape read group for_group q k
+  follows-starts_again m = by (group m.point) refl
     where
       by : (b : Bool) → group m.point ≡ b → Follows shape read group for_group q k
-      by true e = breaks m.point e m.broken
-      by false e = both m.may (c.lasting m.point e)
+      by true e = breaks (restarted-apart m) m.point e m.broken
+      by false e = goes (restarted-apart m) [] tt (restarted-mask m e)

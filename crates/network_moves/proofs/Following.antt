@@ -95,7 +95,7 @@ module _ (shape : Shape) (read : Message → Saying) (group : ℕ → Bool) (for
   -- ---- what follows
 
   pub data Follows (q k : Network) : Type 0 where
-    breaks : (x : ℕ) → group x ≡ true → q.broken x ≡ true → Follows q k
+    breaks : IsApart shape read group for_group q → (x : ℕ) → group x ≡ true → q.broken x ≡ true → Follows q k
     goes : IsApart shape read group for_group q → (networks : List Network) → Moves shape saying_here k networks → IsMask shape read group for_group q (last_of k networks) → Follows q k
 
   -- what the node there becomes, as the group sees it

@@ -2,7 +2,7 @@
 use Rattle.network_moves.proofs.Basics.{◌≡◌, ◌≢◌, ℕ, Bool, true, false, ◌+◌, ◌&&◌, List, [], ◌∷◌, ◌++◌, count_by, nat_eq, refl, ap, sym, ◌∙◌, subst, arith, if◌then◌else◌, ⊎_elim, cases_eq}
 use Rattle.network_moves.proofs.Definitions.{Message, Near, Far, Saying, user, Line, Network, Shape, turned, waiting, given_up, point_at, one_if, Move, Moves, last_of, closed_line, first_network, came_from, sum_at, EndsOnce}
 use Rattle.network_moves.specs.Moves as moves
-use Rattle.network_moves.specs.Groups.{KeepsToItself, sum_within, came_within, users_for, EndsOnceWithin, groups_decide_alone, is_left, IsClear, Begins, NothingIsLeft, groups_begin_anew}
+use Rattle.network_moves.specs.Groups.{KeepsToItself, sum_within, came_within, users_for, EndsOnceWithin, groups_decide_alone, is_left, IsClear, Begins, NothingIsLeft, groups_begin_anew, nothing_leaves_the_group}
 use Rattle.network_moves.specs.Quiet.{AreOthers, IsAtRest, IsIdle, IsQuiet, first_node}
 use Rattle.network_moves.proofs.Counts.{count-cons, sum-alike}
 use Rattle.network_moves.proofs.Lines.{both}
@@ -11,12 +11,12 @@ use Rattle.network_moves.proofs.Sound.{Sound}
 use Rattle.network_moves.proofs.Keeping.{sound-always}
 use Rattle.network_moves.proofs.Concluded.{ends-once}
 use Rattle.network_moves.proofs.Masking.{within, masked, other-saying, users-are, IsLike, IsMask}
-use Rattle.network_moves.proofs.Apart.{IsApart}
+use Rattle.network_moves.proofs.Apart.{IsApart, IsApartLine}
 use Rattle.network_moves.proofs.Following.{last-append, moves-append, Follows, breaks, goes}
 use Rattle.network_moves.proofs.FollowedNodes.{follows-submits, follows-makes, follows-ends, follows-gives_up, follows-discards, follows-places}
 use Rattle.network_moves.proofs.FollowedFrames.{follows-sends_status, follows-sends_message, follows-sends_empty, follows-hears_status, follows-takes_status, follows-doubles_status, follows-drops, follows-takes_empty, follows-takes_message}
 use Rattle.network_moves.proofs.FollowedFailures.{follows-falls, follows-orders, follows-completes_by_order, follows-answers_order, follows-completes_by_answer, follows-ends_wait, follows-completes_by_time}
-use Rattle.network_moves.proofs.FollowedReturns.{follows-opens_first, follows-opens_second, follows-enters, follows-releases_bar, follows-unreasonable_order, follows-unreasonable_answer, follows-starts_again}
+use Rattle.network_moves.proofs.FollowedReturns.{follows-opens_first, follows-opens_second, follows-enters, follows-releases_bar, follows-unreasonable_order, follows-unreasonable_answer, follows-strays, follows-starts_again}
 
 module _ (shape : Shape) (read : Message → Saying) (group : ℕ → Bool) (for_group : Message → Bool) where
   -- ---- one move
@@ -50,7 +50,34 @@ module _ (shape : Shape) (read : Message → Saying) (group : ℕ → Bool) (for
   follows c p q k a h (moves.releases_bar m) = follows-releases_bar shape read group for_group p q k a h m
   follows c p q k a h (moves.hears_unreasonable_order m) = follows-unreasonable_order shape read group for_group p q k a h m
   follows c p q k a h (moves.hears_unreasonable_answer m) = follows-unreasonable_answer shape read group for_group p q k a h m
-  follows c p q k a h (moves.starts_again m) = follows-starts_again shape read group for_group p q k a h c m
+  follows c p q k a h (moves.strays m) = follows-strays shape read group for_group p q k a h m
+  follows c p q k a h (moves.starts_again m) = follows-starts_again shape read group for_group p q k a h m
+
+  -- ---- what concerns the group stays in it, whichever nodes are broken
+
+  abbrev mask_of : Network → Network
+  mask_of p = record { node = p.node; line = λ link. if within shape read group for_group link then p.line link else closed_line; broken = λ x. false }
+
+  is-mask : (p : Network) → IsMask shape read group for_group p (mask_of p)
+  is-mask p = record {
+    nodes = λ x inside. record { bag = λ test. refl; accepted = λ test. refl; ended = λ test. refl; gone = λ test. refl; named = λ test. refl };
+    lines = λ link. refl;
+    whole = λ x. refl;
+  }
+
+  apart-move : KeepsToItself shape read group for_group → (p q : Network) → IsApart shape read group for_group p → Move shape read p q → IsApart shape read group for_group q
+  apart-move c p q a m = by (follows c p q (mask_of p) a (is-mask p) m)
+    where
+      by : Follows shape read group for_group q (mask_of p) → IsApart shape read group for_group q
+      by (breaks apart x inside e) = apart
+      by (goes apart more ns g) = apart
+
+  pub apart-after : KeepsToItself shape read group for_group → (p : Network) (networks : List Network) → Moves shape read p networks → IsApart shape read group for_group p → IsApart shape read group for_group (last_of p networks)
+  apart-after c p [] ms a = a
+  apart-after c p (q ∷ rest) ms a = apart-after c q rest ms.1 (apart-move c p q a ms.0)
+
+  pub apart-first : IsApart shape read group for_group first_network
+  apart-first = record { bags = λ x out. refl; lines = λ link out. record { near = refl; far = refl; to_far = refl; to_near = refl } }
 
   -- ---- a node once broken stays so
 
@@ -91,6 +118,7 @@ module _ (shape : Shape) (read : Message → Saying) (group : ℕ → Bool) (for
   lasts p q (moves.releases_bar m) = still-one p q (point_at shape m.place) m.after.broken m.after.others_broken
   lasts p q (moves.hears_unreasonable_order m) = still-one p q (point_at shape m.place) m.after.broken m.after.others_broken
   lasts p q (moves.hears_unreasonable_answer m) = still-one p q (point_at shape m.place) m.after.broken m.after.others_broken
+  lasts p q (moves.strays m) = still-one p q (point_at shape m.place) m.after.broken m.after.others_broken
   lasts p q (moves.starts_again m) = still-one p q m.point m.broken m.others_broken
 
   -- ---- lists of moves, from where the network is nothing but the group to the group
@@ -105,7 +133,7 @@ module _ (shape : Shape) (read : Message → Saying) (group : ℕ → Bool) (for
   one-more c base p q m (followed a networks ms h) = by (follows c p q (last_of base networks) a h m)
     where
       by : Follows shape read group for_group q (last_of base networks) → IsFollowed base q
-      by (breaks x inside e) = broken x inside e
+      by (breaks apart x inside e) = broken x inside e
       by (goes b more ns g) =
           followed b (networks ++ more) (moves-append shape read group for_group base networks more ms ns)
           (subst (IsMask shape read group for_group q) (sym (last-append shape read group for_group base networks more)) g)
@@ -119,9 +147,7 @@ module _ (shape : Shape) (read : Message → Saying) (group : ℕ → Bool) (for
   closed-if false = refl
 
   first-followed : IsFollowed first_network first_network
-  first-followed = followed
-      (record { bags = λ x out. refl; lines = λ link out. record { near = refl; far = refl; to_far = refl; to_near = refl } })
-      [] tt
+  first-followed = followed apart-first [] tt
       (record {
         nodes = λ x inside. record { bag = λ test. refl; accepted = λ test. refl; ended = λ test. refl; gone = λ test. refl; named = λ test. refl };
         lines = λ link. closed-if (within shape read group for_group link);
@@ -270,6 +296,16 @@ module _ (shape : Shape) (read : Message → Saying) (group : ℕ → Bool) (for
   ends-followed (followed a seen ns h) =
       let sound : Sound shape (masked shape read group for_group) (last_of base seen) = sound-always shape (masked shape read group for_group) base seen quiet ns h.whole in
       ends-within shape read group for_group p (last_of base seen) h point inside (ends-once shape (masked shape read group for_group) (last_of base seen) sound point)
+
+pub nothing-leaves : nothing_leaves_the_group
+nothing-leaves shape read group for_group networks c ms =
+    let a : IsApart shape read group for_group (last_of first_network networks) = apart-after shape read group for_group c first_network networks ms (apart-first shape read group for_group) in
+    record {
+      bags = a.bags;
+      others = λ link out.
+          (let l : IsApartLine shape read group for_group (record { link = link; side = Near }) ((last_of first_network networks).line link) = a.lines link out in
+          record { near = l.near; far = l.far; to_far = l.to_far; to_near = l.to_near });
+    }
 
 pub groups-decide : groups_decide_alone
 groups-decide shape read group for_group networks point closed ms none inside =

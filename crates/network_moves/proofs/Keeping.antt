@@ -51,6 +51,7 @@ module _ (shape : Shape) (read : Message → Saying) where
   kept p q (moves.releases_bar m) = λ h. broken (point_at shape m.place) m.after.broken
   kept p q (moves.hears_unreasonable_order m) = λ h. broken (point_at shape m.place) m.after.broken
   kept p q (moves.hears_unreasonable_answer m) = λ h. broken (point_at shape m.place) m.after.broken
+  kept p q (moves.strays m) = λ h. broken (point_at shape m.place) m.after.broken
   kept p q (moves.starts_again m) = λ h. broken m.point m.broken
 
   -- ---- a list of moves

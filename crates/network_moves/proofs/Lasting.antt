@@ -1,15 +1,17 @@
--- What holds whatever was broken, while no node starts again: the ends of links are sound, and no word has a number that
+-- What holds whatever was broken, and however often nodes start again: the ends of links are sound, and no word has a number that
 -- no end has.
-use Rattle.network_moves.proofs.Basics.{◌≡◌, ◌≢◌, ℕ, Bool, true, false, not, ◌+◌, ◌≤◌, ◌<◌, ◌^◌, ◌||◌, List, [], ◌∷◌, ◌++◌, count_by, drop, nat_lt, refl, ap, sym, ◌∙◌, subst, arith, nat_tests, ⊎_elim, cases_eq, Some, Ok}
-use Rattle.network_moves.proofs.Definitions.{Message, WINDOW, Queue, IsQueue, Sending, last_accepted, last_sent, accept_answer, to_send, sound-appended, sound-first, sound-emptied, Side, Near, Far, Saying, UserMessage, Other, is_user_message, Frame, EmptyFrame, MessageFrame, Phase, Live, Moved, Gone, LinkEnd, Line, Node, Network, Shape, seen, Place, line_at, point_at, node_at, one_if, NodeBecomes, LinesBecome, Becomes, IsTakenFrom, IsEnd, closed_end, first_network, after_answer, appended, emptied, with_failure, with_sent, with_completion, opened_first, Breaks, Move, Moves, last_of}
+use Rattle.network_moves.proofs.Basics.{◌≡◌, ◌≢◌, ℕ, Bool, true, false, not, ◌+◌, ◌≤◌, ◌<◌, ◌^◌, ◌||◌, List, [], ◌∷◌, ◌++◌, count_by, drop, nat_eq, nat_lt, refl, ap, sym, ◌∙◌, subst, arith, nat_tests, ⊎_elim, cases_eq, Some, Ok}
+use Rattle.network_moves.proofs.Definitions.{Message, WINDOW, Queue, IsQueue, Sending, last_accepted, last_sent, accept_answer, to_send, sound-appended, sound-first, sound-emptied, Side, Near, Far, Saying, UserMessage, Order, Answer, Other, is_user_message, saying, Frame, EmptyFrame, MessageFrame, Phase, Live, Moved, Gone, LinkEnd, Line, Node, Network, Shape, seen, Place, line_at, point_at, node_at, one_if, NodeBecomes, LinesBecome, Becomes, IsTakenFrom, IsEnd, closed_end, first_network, after_answer, appended, emptied, with_failure, with_sent, with_completion, opened_first, Breaks, Move, Moves, last_of}
 use Rattle.network_moves.specs.Moves as moves
 use Rattle.network_moves.specs.Lasting.{is_odd, odd, ends_last}
+use Rattle.network_moves.specs.Returning.{StartsAgain, restarted, shut_end}
+use Rattle.network_moves.specs.Sayings.{is_elsewhere}
 use Rattle.network_moves.proofs.Counts.{count-cons, count-append, count-one}
 use Rattle.network_moves.proofs.Lines.{both, true_is_false, false_is_true, busy, is-next, queue-sent}
 use Rattle.network_moves.proofs.LinesTaken.{queue-accepted, end-came}
 use Rattle.network_moves.proofs.LinesChanged.{opened}
 use Rattle.network_moves.proofs.Words.{only-user}
-use Rattle.network_moves.proofs.Apart.{frames_by, frames-empty, frames-message, frames-rest, drop-within}
+use Rattle.network_moves.proofs.Apart.{frames_by, frames-append, frames-empty, frames-fewer, frames-message, frames-rest, drop-within}
 use Rattle.network_moves.proofs.Waiting.{drop-first}
 use Rattle.signalling_types.specs.Numbers.{previous_number}
 
@@ -110,6 +112,34 @@ end-led x gone down complete h = record {
   live_incomplete = λ e. refl;
   idle = λ l e. refl;
 }
+
+shut : (came gone : List Message) → IsEnd (shut_end came gone)
+shut came gone = record {
+  queue = sound-first WINDOW (omega arith);
+  base = refl;
+  serving = λ e. false_is_true e;
+  incomplete = λ e. false_is_true e;
+  awaited = λ e. false_is_true e;
+  live_up = λ e. false_is_true e;
+  live_incomplete = λ e. false_is_true e;
+  idle = λ l e. refl;
+}
+
+or-more : (a b : Bool) → one_if b ≤ one_if (a || b)
+or-more true true = omega arith
+or-more true false = omega arith
+or-more false b = omega arith
+
+seen-twice : (side : Side) (z : Line) → seen side (seen side z) ≡ z
+seen-twice Near z = refl
+seen-twice Far z = refl
+
+-- a word that isn't elsewhere has a number of 24 bits
+odd-elsewhere : (link : ℕ) (s : Saying) → one_if (is_odd s) ≤ one_if (is_elsewhere link s)
+odd-elsewhere link UserMessage = omega arith
+odd-elsewhere link (Order about maker number) = or-more (not (nat_eq about link)) (not (nat_lt number (2 ^ 24)))
+odd-elsewhere link (Answer about maker number) = or-more (not (nat_eq about link)) (not (nat_lt number (2 ^ 24)))
+odd-elsewhere link Other = omega arith
 
 moved-over : Moved ≡ Live → ⊥
 moved-over e = absurd cc
@@ -237,13 +267,40 @@ module _ (shape : Shape) (read : Message → Saying) where
     completed-line place phase awaited over incomplete =
         with-end (line_at p place) _ refl (end-completed (line_at p place).near phase awaited over incomplete (here-line place).near) (here-line place)
 
-    lasts-move : ((point : ℕ) → shape.restarts point ≡ false) → Move shape read p q → Lasts q
-    lasts-move never (moves.submits m) = lasts-node p q m.point _ m.after (cons-plain m.message (p.node m.point).bag (user-plain m.message m.user) (h.bags m.point)) h
-    lasts-move never (moves.makes m) = lasts-node p q m.point _ m.after (cons-plain m.message (p.node m.point).bag (says-plain m.message Other m.other refl) (h.bags m.point)) h
-    lasts-move never (moves.ends m) = lasts-node p q m.point _ m.after (left-plain _ m.rest m.message m.taken (h.bags m.point)).0 h
-    lasts-move never (moves.gives_up m) = lasts-node p q m.point _ m.after (left-plain _ m.rest m.message m.taken (h.bags m.point)).0 h
-    lasts-move never (moves.discards m) = lasts-node p q m.point _ m.after (left-plain _ m.rest m.message m.taken (h.bags m.point)).0 h
-    lasts-move never (moves.places m) =
+    -- a node starts again
+    restarted-line : (z : Line) → LastsLine z → LastsLine (restarted z)
+    restarted-line z l = record { near = shut z.near.came z.near.gone; far = l.far; near_plain = refl; far_plain = l.far_plain; to_far = l.to_far; to_near = refl }
+
+    line-restarts : (place : Place) → line_at q place ≡ restarted (line_at p place) → LastsLine (q.line place.link)
+    line-restarts place e =
+        subst LastsLine (seen-twice place.side (q.line place.link))
+        (lasts-seen place.side (line_at q place) (subst LastsLine (sym e) (restarted-line (line_at p place) (here-line place))))
+
+    starts-again : StartsAgain shape read p q → Lasts q
+    starts-again m = record {
+      bags = λ x.
+          ⊎_elim
+          (λ (same : x ≡ m.point). subst (λ (i : ℕ). count_by (odd read) (q.node i).bag ≡ 0) (sym same) (ap (count_by (odd read)) m.empty))
+          (λ (d : x ≢ m.point). subst (λ (v : Node). count_by (odd read) v.bag ≡ 0) (sym (m.others x d)) (h.bags x))
+          (cases_eq x m.point);
+      lines = λ link.
+          ⊎_elim
+          (λ (near : shape.point link Near ≡ m.point). line-restarts (record { link = link; side = Near }) (m.ends _ near))
+          (λ (no : shape.point link Near ≢ m.point).
+          ⊎_elim
+          (λ (far : shape.point link Far ≡ m.point). line-restarts (record { link = link; side = Far }) (m.ends _ far))
+          (λ (none : shape.point link Far ≢ m.point). subst LastsLine (sym (m.lines link no none)) (h.lines link))
+          (cases_eq (shape.point link Far) m.point))
+          (cases_eq (shape.point link Near) m.point);
+    }
+
+    lasts-move : Move shape read p q → Lasts q
+    lasts-move (moves.submits m) = lasts-node p q m.point _ m.after (cons-plain m.message (p.node m.point).bag (user-plain m.message m.user) (h.bags m.point)) h
+    lasts-move (moves.makes m) = lasts-node p q m.point _ m.after (cons-plain m.message (p.node m.point).bag (says-plain m.message Other m.other refl) (h.bags m.point)) h
+    lasts-move (moves.ends m) = lasts-node p q m.point _ m.after (left-plain _ m.rest m.message m.taken (h.bags m.point)).0 h
+    lasts-move (moves.gives_up m) = lasts-node p q m.point _ m.after (left-plain _ m.rest m.message m.taken (h.bags m.point)).0 h
+    lasts-move (moves.discards m) = lasts-node p q m.point _ m.after (left-plain _ m.rest m.message m.taken (h.bags m.point)).0 h
+    lasts-move (moves.places m) =
         let y : Line = line_at p m.place in
         let l : LastsLine y = here-line m.place in
         let t : (count_by (odd read) m.rest ≡ 0) × (one_if (odd read m.message) ≡ 0) = left-plain (node_at shape p m.place).bag m.rest m.message m.taken (here-bag m.place) in
@@ -257,10 +314,10 @@ module _ (shape : Shape) (read : Message → Saying) where
           to_near = l.to_near;
         })
         t.0
-    lasts-move never (moves.sends_status m) =
+    lasts-move (moves.sends_status m) =
         let l : LastsLine (line_at p m.place) = here-line m.place in
         by-line m.place _ m.after (record { near = l.near; far = l.far; near_plain = l.near_plain; far_plain = l.far_plain; to_far = l.to_far; to_near = l.to_near })
-    lasts-move never (moves.sends_message m) =
+    lasts-move (moves.sends_message m) =
         let y : Line = line_at p m.place in
         let l : LastsLine y = here-line m.place in
         by-line m.place _ m.after
@@ -272,7 +329,7 @@ module _ (shape : Shape) (read : Message → Saying) where
           to_far = omega (arith, frames-message (odd read) m.sending.number (last_accepted y.near.queue) m.sending.message y.to_far, l.to_far, next-stands y.near.queue m.window m.sending m.next, l.near_plain);
           to_near = l.to_near;
         })
-    lasts-move never (moves.sends_empty m) =
+    lasts-move (moves.sends_empty m) =
         let y : Line = line_at p m.place in
         let l : LastsLine y = here-line m.place in
         by-line m.place _ m.after
@@ -284,18 +341,18 @@ module _ (shape : Shape) (read : Message → Saying) where
           to_far = omega (arith, frames-empty (odd read) (last_sent y.near.queue) (last_accepted y.near.queue) y.to_far, l.to_far);
           to_near = l.to_near;
         })
-    lasts-move never (moves.hears_status m) = by-line m.place _ m.after (with-end (line_at p m.place) _ refl (end-heard (line_at p m.place).near (here-line m.place).near) (here-line m.place))
-    lasts-move never (moves.takes_status m) =
+    lasts-move (moves.hears_status m) = by-line m.place _ m.after (with-end (line_at p m.place) _ refl (end-heard (line_at p m.place).near (here-line m.place).near) (here-line m.place))
+    lasts-move (moves.takes_status m) =
         let l : LastsLine (line_at p m.place) = here-line m.place in
         by-line m.place _ m.after (record { near = l.near; far = l.far; near_plain = l.near_plain; far_plain = l.far_plain; to_far = l.to_far; to_near = l.to_near })
-    lasts-move never (moves.doubles_status m) =
+    lasts-move (moves.doubles_status m) =
         let l : LastsLine (line_at p m.place) = here-line m.place in
         by-line m.place _ m.after (record { near = l.near; far = l.far; near_plain = l.near_plain; far_plain = l.far_plain; to_far = l.to_far; to_near = l.to_near })
-    lasts-move never (moves.drops m) =
+    lasts-move (moves.drops m) =
         let l : LastsLine (line_at p m.place) = here-line m.place in
         by-line m.place _ m.after
         (record { near = l.near; far = l.far; near_plain = l.near_plain; far_plain = l.far_plain; to_far = l.to_far; to_near = rest-plain m.frame m.rest _ m.first l.to_near })
-    lasts-move never (moves.takes_empty m) =
+    lasts-move (moves.takes_empty m) =
         let y : Line = line_at p m.place in
         let l : LastsLine y = here-line m.place in
         by-line m.place _ m.after
@@ -307,7 +364,7 @@ module _ (shape : Shape) (read : Message → Saying) where
           to_far = l.to_far;
           to_near = rest-plain (EmptyFrame m.fsn m.bsn) m.rest _ m.first l.to_near;
         })
-    lasts-move never (moves.takes_message m) =
+    lasts-move (moves.takes_message m) =
         let y : Line = line_at p m.place in
         let l : LastsLine y = here-line m.place in
         by-both m.place _ _ m.after
@@ -320,31 +377,31 @@ module _ (shape : Shape) (read : Message → Saying) where
           to_near = rest-plain (MessageFrame m.fsn m.bsn m.message) m.rest _ m.first l.to_near;
         })
         (cons-plain m.message (node_at shape p m.place).bag (omega (arith, ap (frames_by (odd read)) m.first, l.to_near)) (here-bag m.place))
-    lasts-move never (moves.falls m) = by-line m.place _ m.after (with-end (line_at p m.place) _ refl (end-failed (line_at p m.place) m.up (here-line m.place).near) (here-line m.place))
-    lasts-move never (moves.orders m) =
+    lasts-move (moves.falls m) = by-line m.place _ m.after (with-end (line_at p m.place) _ refl (end-failed (line_at p m.place) m.up (here-line m.place).near) (here-line m.place))
+    lasts-move (moves.orders m) =
         let y : Line = line_at p m.place in
         by-both m.place _ _ m.after (with-end y _ refl (end-waits y.near true (λ e. (here-line m.place).near.incomplete m.incomplete) (here-line m.place).near) (here-line m.place))
         (cons-plain m.order (node_at shape p m.place).bag (says-plain m.order _ m.says (word-plain y)) (here-bag m.place))
-    lasts-move never (moves.completes_by_order m) =
+    lasts-move (moves.completes_by_order m) =
         let y : Line = line_at p m.place in
         by-both m.place _ _ m.after (completed-line m.place Moved y.near.awaited moved-over m.incomplete)
         (cons-plain m.answer (drop m.count y.near.queue.all ++ m.rest) (says-plain m.answer _ m.answers (word-plain y))
         (behind-plain m.count y.near.queue.all m.rest (here-line m.place).near_plain (left-plain (node_at shape p m.place).bag m.rest m.order m.taken (here-bag m.place)).0))
-    lasts-move never (moves.answers_order m) =
+    lasts-move (moves.answers_order m) =
         lasts-node p q (point_at shape m.place) _ m.after
         (cons-plain m.answer m.rest (says-plain m.answer _ m.answers (word-plain (line_at p m.place))) (left-plain (node_at shape p m.place).bag m.rest m.order m.taken (here-bag m.place)).0) h
-    lasts-move never (moves.completes_by_answer m) =
+    lasts-move (moves.completes_by_answer m) =
         by-both m.place _ _ m.after (completed-line m.place Moved false moved-over m.incomplete)
         (behind-plain m.count (line_at p m.place).near.queue.all m.rest (here-line m.place).near_plain (left-plain (node_at shape p m.place).bag m.rest m.answer m.taken (here-bag m.place)).0)
-    lasts-move never (moves.ends_wait m) =
+    lasts-move (moves.ends_wait m) =
         let y : Line = line_at p m.place in
         by-both m.place _ _ m.after (with-end y _ refl (end-waits y.near false (λ e. false_is_true e) (here-line m.place).near) (here-line m.place))
         (left-plain (node_at shape p m.place).bag m.rest m.answer m.taken (here-bag m.place)).0
-    lasts-move never (moves.completes_by_time m) =
+    lasts-move (moves.completes_by_time m) =
         let y : Line = line_at p m.place in
         by-both m.place _ _ m.after (completed-line m.place Gone y.near.awaited gone-over m.incomplete)
         (behind-plain y.near.queue.sent y.near.queue.all (node_at shape p m.place).bag (here-line m.place).near_plain (here-bag m.place))
-    lasts-move never (moves.opens_first m) =
+    lasts-move (moves.opens_first m) =
         let y : Line = line_at p m.place in
         by-line m.place _ m.after
         (record {
@@ -355,40 +412,52 @@ module _ (shape : Shape) (read : Message → Saying) where
           to_far = refl;
           to_near = refl;
         })
-    lasts-move never (moves.opens_second m) =
+    lasts-move (moves.opens_second m) =
         let y : Line = line_at p m.place in
         let l : LastsLine y = here-line m.place in
         by-line m.place _ m.after (record { near = opened y.near.came y.near.gone; far = l.far; near_plain = refl; far_plain = l.far_plain; to_far = l.to_far; to_near = l.to_near })
-    lasts-move never (moves.enters m) = by-line m.place _ m.after (with-end (line_at p m.place) _ refl (end-served (line_at p m.place).near m.up (here-line m.place).near) (here-line m.place))
-    lasts-move never (moves.releases_bar m) =
+    lasts-move (moves.enters m) = by-line m.place _ m.after (with-end (line_at p m.place) _ refl (end-served (line_at p m.place).near m.up (here-line m.place).near) (here-line m.place))
+    lasts-move (moves.releases_bar m) =
         let y : Line = line_at p m.place in
         by-break m.place _ _ m.after (with-end y _ refl (end-waits y.near false (λ e. false_is_true e) (here-line m.place).near) (here-line m.place)) (here-bag m.place)
-    lasts-move never (moves.hears_unreasonable_order m) =
+    lasts-move (moves.hears_unreasonable_order m) =
         let y : Line = line_at p m.place in
         by-break m.place _ _ m.after (completed-line m.place Gone y.near.awaited gone-over m.incomplete)
         (behind-plain y.near.queue.sent y.near.queue.all (m.answer ∷ m.rest) (here-line m.place).near_plain
         (cons-plain m.answer m.rest (says-plain m.answer _ m.answers (word-plain y)) (left-plain (node_at shape p m.place).bag m.rest m.order m.taken (here-bag m.place)).0))
-    lasts-move never (moves.hears_unreasonable_answer m) =
+    lasts-move (moves.hears_unreasonable_answer m) =
         let y : Line = line_at p m.place in
         by-break m.place _ _ m.after (completed-line m.place Gone false gone-over m.incomplete)
         (behind-plain y.near.queue.sent y.near.queue.all m.rest (here-line m.place).near_plain (left-plain (node_at shape p m.place).bag m.rest m.answer m.taken (here-bag m.place)).0)
-    lasts-move never (moves.starts_again m) = both m.may (never m.point)
+    lasts-move (moves.strays m) =
+        let y : Line = line_at p m.place in
+        let l : LastsLine y = here-line m.place in
+        by-break m.place _ _ m.after
+        (record {
+          near = shut y.near.came y.near.gone;
+          far = l.far;
+          near_plain = refl;
+          far_plain = l.far_plain;
+          to_far =
+              omega (
+                arith,
+                m.own,
+                l.to_far,
+                m.fewer (odd read),
+                frames-append (odd read) m.left m.new,
+                frames-fewer (odd read) (saying read (is_elsewhere m.place.link)) (λ x. odd-elsewhere m.place.link (read x)) m.new,
+              );
+          to_near = refl;
+        })
+        (here-bag m.place)
+    lasts-move (moves.starts_again m) = starts-again m
 
-  pub lasts-after : ((point : ℕ) → shape.restarts point ≡ false) → (p : Network) (networks : List Network) → Moves shape read p networks → Lasts p → Lasts (last_of p networks)
-  lasts-after never p [] ms h = h
-  lasts-after never p (q ∷ rest) ms h = lasts-after never q rest ms.1 (lasts-move p q h never ms.0)
+  pub lasts-after : (p : Network) (networks : List Network) → Moves shape read p networks → Lasts p → Lasts (last_of p networks)
+  lasts-after p [] ms h = h
+  lasts-after p (q ∷ rest) ms h = lasts-after q rest ms.1 (lasts-move p q h ms.0)
 
   first-end : IsEnd closed_end
-  first-end = record {
-    queue = sound-first WINDOW (omega arith);
-    base = refl;
-    serving = λ e. false_is_true e;
-    incomplete = λ e. false_is_true e;
-    awaited = λ e. false_is_true e;
-    live_up = λ e. false_is_true e;
-    live_incomplete = λ e. false_is_true e;
-    idle = λ l e. refl;
-  }
+  first-end = shut [] []
 
   pub lasts-first : Lasts first_network
   lasts-first = record {
@@ -397,8 +466,8 @@ module _ (shape : Shape) (read : Message → Saying) where
   }
 
 pub ends-last : ends_last
-ends-last shape read networks never ms =
-    let h : Lasts shape read (last_of first_network networks) = lasts-after shape read never first_network networks ms (lasts-first shape read) in
+ends-last shape read networks ms =
+    let h : Lasts shape read (last_of first_network networks) = lasts-after shape read first_network networks ms (lasts-first shape read) in
     record {
       ends = λ place. (lasts-at shape read (last_of first_network networks) place h).near;
       nodes = h.bags;

@@ -84,23 +84,21 @@ is_mate point = nat_eq point 1 || nat_eq point 2
 abbrev pub is_for_mate : Message → Bool
 is_for_mate m = nat_eq (slice_index m.sif 0) 2
 
--- any message may go by any link, and any node may start again
+-- any message may go by any link
 abbrev pub mated_freely : Shape
 mated_freely = record {
   nodes = 3;
   links = 4;
   point = mated_point;
   leads = λ link side message. true;
-  restarts = λ point. true;
 }
 
--- but what concerns the mates goes between them by the cross link alone, and point 0 doesn't start again
+-- but what concerns the mates goes between them by the cross link alone
 abbrev pub mated : Shape
 mated = record mated_freely {
   leads = λ link side m.
       is_within mated_freely read_plainly is_mate is_for_mate link
       || not (concerns mated_freely read_plainly is_mate is_for_mate m);
-  restarts = is_mate;
 }
 
 -- ---- what is done

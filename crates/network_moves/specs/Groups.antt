@@ -3,8 +3,8 @@
 use Rattle.std.specs.Prelude.{◌≡◌, ◌+◌, ◌≤◌, ◌&&◌, ℕ, Bool, true, false, List, [], ◌∷◌, count_by, nat_eq, if◌then◌else◌}
 use Rattle.signalling_types.specs.Message.{Message}
 use Rattle.network_moves.specs.Sayings.{Near, Far, Saying, UserMessage, Order, Answer, Other, user}
-use Rattle.network_moves.specs.Networks.{Frame, EmptyFrame, MessageFrame, Line, Node, Network, Shape, Place, point_at}
-use Rattle.network_moves.specs.Networks.{one_if, sum_of_ends, waiting, given_up}
+use Rattle.network_moves.specs.Networks.{Line, Node, Network, Shape, Place, point_at}
+use Rattle.network_moves.specs.Networks.{frames_by, sum_of_ends, waiting, given_up}
 use Rattle.network_moves.specs.Moves.{Moves, last_of}
 use Rattle.network_moves.specs.Quiet.{IsAtRest, first_network}
 
@@ -23,11 +23,10 @@ module _ (shape : Shape) (read : Message → Saying) (group : ℕ → Bool) (for
   abbrev pub concerns : Message → Bool
   concerns m = says_of_group (for_group m) (read m)
 
-  -- the group keeps to itself: its nodes put what concerns it on no link but those within, and no other node starts again
+  -- the group keeps to itself: its nodes put what concerns it on no link but those within
   pub record KeepsToItself : Type 0 where
     pub stays : (place : Place) (m : Message) → group (point_at shape place) ≡ true →
         shape.leads place.link place.side m ≡ true → concerns m ≡ true → is_within place.link ≡ true
-    pub lasting : (point : ℕ) → group point ≡ false → shape.restarts point ≡ false
 
   -- ---- what became of the messages for the group, at one of its nodes
 
@@ -75,12 +74,6 @@ groups_decide_alone =
 
 -- ---- where nothing of the group is left
 
--- how many messages in User Data in flight pass a test
-abbrev pub frames_by : (Message → Bool) → List Frame → ℕ
-frames_by test [] = 0
-frames_by test (EmptyFrame fsn bsn ∷ frames) = frames_by test frames
-frames_by test (MessageFrame fsn bsn m ∷ frames) = one_if (test m) + frames_by test frames
-
 -- the books of a node begin
 pub record Begins (n : Node) : Type 0 where
   pub submitted : n.submitted ≡ []
@@ -109,7 +102,20 @@ module _ (shape : Shape) (read : Message → Saying) (group : ℕ → Bool) (for
     pub others : (link : ℕ) → is_within shape read group for_group link ≡ false → IsClear link (p.line link)
     pub books : (point : ℕ) → group point ≡ true → Begins (p.node point)
 
--- so the law of groups begins anew from each such network on, whatever was lost before
+  -- what concerns the group stays in it: no word about a link within is at another node; on other links nothing that
+  -- concerns the group is from a node of it, and no such word is on any of them, or in flight there
+  pub record StaysWithin (p : Network) : Type 0 where
+    pub bags : (point : ℕ) → group point ≡ false → count_by (is_left false) (p.node point).bag ≡ 0
+    pub others : (link : ℕ) → is_within shape read group for_group link ≡ false → IsClear link (p.line link)
+
+-- so it is after every list of moves from the first network on, whichever nodes are broken
+abbrev pub nothing_leaves_the_group : Type 0
+nothing_leaves_the_group =
+    (shape : Shape) (read : Message → Saying) (group : ℕ → Bool) (for_group : Message → Bool)
+    (networks : List Network) → KeepsToItself shape read group for_group → Moves shape read first_network networks →
+    StaysWithin shape read group for_group (last_of first_network networks)
+
+-- the law of groups begins anew from each network on in which nothing is left, whatever was lost before
 abbrev pub groups_begin_anew : Type 0
 groups_begin_anew =
     (shape : Shape) (read : Message → Saying) (group : ℕ → Bool) (for_group : Message → Bool) (start : Network)

@@ -1,4 +1,4 @@
--- What holds whatever was broken, while no node starts again.
+-- What holds whatever was broken, and however often nodes start again.
 use Rattle.std.specs.Prelude.{◌≡◌, ◌^◌, ℕ, Bool, false, not, nat_lt, List, count_by}
 use Rattle.signalling_types.specs.Message.{Message}
 use Rattle.network_moves.specs.Sayings.{Saying, UserMessage, Order, Answer, Other, saying}
@@ -27,6 +27,5 @@ module _ (read : Message → Saying) where
 -- so it is after every list of moves from the first network on, whichever nodes are broken
 abbrev pub ends_last : Type 0
 ends_last =
-    (shape : Shape) (read : Message → Saying) (networks : List Network) →
-    ((point : ℕ) → shape.restarts point ≡ false) → Moves shape read first_network networks →
+    (shape : Shape) (read : Message → Saying) (networks : List Network) → Moves shape read first_network networks →
     IsLasting read (last_of first_network networks)

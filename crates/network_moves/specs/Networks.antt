@@ -1,5 +1,6 @@
 -- Nodes, the links between them, and what is on its way.
-use Rattle.std.specs.Prelude.{◌≡◌, ◌≢◌, ℕ, zero, suc, Bool, ◌<◌, ◌+◌, List, [], drop, take, count_by, cond}
+use Rattle.std.specs.Prelude.{◌≡◌, ◌≢◌, ℕ, zero, suc, Bool, ◌<◌, ◌+◌, List, [], ◌∷◌, drop, take, count_by}
+use Rattle.std.specs.Prelude.{cond}
 use Rattle.signalling_types.specs.Message.{Message}
 use Rattle.link.specs.Queue.{Queue}
 use Rattle.network_moves.specs.Sayings.{Side, Near, Far}
@@ -69,14 +70,13 @@ pub record Network : Type 0 where
   -- the nodes after which only laws that say so promise anything
   pub broken : ℕ → Bool
 
--- which nodes and links there are, each by its number; at which nodes the ends of a link are; which messages the node
--- there may put on an end; and which nodes may start again
+-- which nodes and links there are, each by its number; at which nodes the ends of a link are; and which messages the
+-- node there may put on an end
 pub record Shape : Type 0 where
   pub nodes : ℕ
   pub links : ℕ
   pub point : ℕ → Side → ℕ
   pub leads : ℕ → Side → Message → Bool
-  pub restarts : ℕ → Bool
 
 -- ---- a link seen from either end
 
@@ -139,6 +139,12 @@ given_up z = given_up_in z.near.phase z.near.queue z.far.queue.received
 
 abbrev pub one_if : Bool → ℕ
 one_if b = cond b 1 0
+
+-- how many messages in User Data in flight pass a test
+abbrev pub frames_by : (Message → Bool) → List Frame → ℕ
+frames_by test [] = 0
+frames_by test (EmptyFrame fsn bsn ∷ frames) = frames_by test frames
+frames_by test (MessageFrame fsn bsn m ∷ frames) = one_if (test m) + frames_by test frames
 
 -- over this many numbers
 abbrev pub sum_to : (ℕ → ℕ) → ℕ → ℕ

@@ -1,10 +1,11 @@
 -- Moves of a link that opens and enters service (Q.704 §6), and those by which a node breaks.
-use Rattle.std.specs.Prelude.{◌≡◌, ◌≢◌, ℕ, true, false, ◌<◌, [], ◌++◌, ◌∷◌, List, drop, None}
+use Rattle.std.specs.Prelude.{◌≡◌, ◌≢◌, ◌≤◌, ℕ, Bool, true, false, ◌<◌, [], ◌++◌, ◌∷◌, List, drop, None}
 use Rattle.signalling_types.specs.Message.{Message}
 use Rattle.link.specs.Queue.{Queue, first_queue, emptied, named_count}
-use Rattle.network_moves.specs.Sayings.{Near, Far, Saying, Order, Answer, opposite}
-use Rattle.network_moves.specs.Networks.{Live, Gone, LinkEnd, Line, Node, Network, Shape, Place, turned}
-use Rattle.network_moves.specs.Networks.{line_at, node_at, point_at, given_up, LinesBecome, Becomes, IsTakenFrom}
+use Rattle.network_moves.specs.Sayings.{Near, Far, Saying, Order, Answer, opposite, is_elsewhere, saying}
+use Rattle.network_moves.specs.Networks.{Frame, Live, Gone, LinkEnd, Line, Node, Network, Shape, Place, turned}
+use Rattle.network_moves.specs.Networks.{line_at, node_at, point_at, given_up, frames_by, LinesBecome, Becomes}
+use Rattle.network_moves.specs.Networks.{IsTakenFrom}
 use Rattle.network_moves.specs.Failing.{final_number, with_wait, with_completion}
 
 -- an end in a new epoch; what came from it before stays, and what was given up here has gone for good
@@ -42,6 +43,39 @@ opened_first z = record {
 -- a line whose near end follows the far one
 abbrev pub opened_second : Line → Line
 opened_second z = record z { near = opened_end z.near.came z.near.gone; near_may_follow = false }
+
+-- an end as at first, but for what ever came from it, and what was given up here
+abbrev pub shut_end : (came gone : List Message) → LinkEnd
+shut_end came gone = record {
+  queue = first_queue;
+  phase = Live;
+  up = false;
+  serving = false;
+  incomplete = false;
+  awaited = false;
+  heard = false;
+  came = came;
+  gone = gone;
+}
+
+-- a line whose near end is at a node that starts again: nothing is in flight to it any more. What it sent is in flight
+-- yet, and the far end loses the association later, by a move of its own; it may follow if it might
+abbrev pub restarted : Line → Line
+restarted z = record z {
+  near = shut_end z.near.came z.near.gone;
+  to_near = [];
+  told_near = 0;
+  near_may_follow = false;
+}
+
+-- a line whose near end is at a node that does as it likes: so much is in flight to the far end from then on, and that
+-- may follow or not. The near end itself is closed
+abbrev pub strayed : Line → (to_far : List Frame) → (told_far : ℕ) → (follows : Bool) → Line
+strayed z to_far told_far follows = record (restarted z) {
+  to_far = to_far;
+  told_far = told_far;
+  far_may_follow = follows;
+}
 
 -- an end may open again: it is down, its changeover is complete, and no answer is awaited for it
 pub record MayOpen (x : LinkEnd) : Type 0 where
@@ -131,11 +165,27 @@ module _ (shape : Shape) (read : Message → Saying) (p q : Network) where
         (with_completion (line_at p place) Gone false)
         (without_sent (record (node_at shape p place) { bag = rest }) (line_at p place).near.queue named)
 
-  -- a node starts again, if it may: whatever it and the ends of its links become, nothing else changes
+  -- a node does as it likes on a link of it, as one outside the network may: it puts anything in flight, but speaks for
+  -- nobody else, so no order or answer about another link
+  pub record Strays : Type 0 where
+    pub place : Place
+    -- what is left in flight of what was, and what is new
+    pub left : List Frame
+    pub fewer : (test : Message → Bool) → frames_by test left ≤ frames_by test (line_at p place).to_far
+    pub new : List Frame
+    pub own : frames_by (saying read (is_elsewhere place.link)) new ≡ 0
+    pub told_far : ℕ
+    pub follows : Bool
+    pub after : Breaks shape p q place
+        (strayed (line_at p place) (left ++ new) told_far follows)
+        (node_at shape p place)
+
+  -- a node starts again: no message is there, whatever its books say, and its ends of links are as at first
   pub record StartsAgain : Type 0 where
     pub point : ℕ
-    pub may : shape.restarts point ≡ true
+    pub empty : (q.node point).bag ≡ []
     pub others : (other : ℕ) → other ≢ point → q.node other ≡ p.node other
+    pub ends : (place : Place) → point_at shape place ≡ point → line_at q place ≡ restarted (line_at p place)
     pub lines : (link : ℕ) → shape.point link Near ≢ point → shape.point link Far ≢ point → q.line link ≡ p.line link
     pub broken : q.broken point ≡ true
     pub others_broken : (other : ℕ) → other ≢ point → q.broken other ≡ p.broken other

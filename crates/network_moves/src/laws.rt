@@ -1,8 +1,8 @@
-//! What holds after every list of moves from every quiet network on, as the first is, while no node is broken; three
-//! laws ask less of nodes, of which two begin with the first network. A network is quiet (`specs/Quiet.antt`) while all
-//! its links are closed at both ends, its nodes' books begin, and no node has a user message, an order or an answer. It
-//! may have any shape. The moves are those of `specs/Passing.antt` (Q.704 §2), `specs/Carrying.antt` (RFC 4165 §2),
-//! `specs/Failing.antt` (Q.704 §5) and `specs/Returning.antt` (Q.704 §6).
+//! What holds after every list of moves from every quiet network on, as the first is, while no node is broken; four
+//! laws ask less of nodes, of which three begin with the first network. A network is quiet (`specs/Quiet.antt`) while
+//! all its links are closed at both ends, its nodes' books begin, and no node has a user message, an order or an
+//! answer. It may have any shape. The moves are those of `specs/Passing.antt` (Q.704 §2), `specs/Carrying.antt` (RFC
+//! 4165 §2), `specs/Failing.antt` (Q.704 §5) and `specs/Returning.antt` (Q.704 §6).
 
 ghost use Rattle.network_moves.specs.Theorems.{Always, LinesFlow, FirstEndsAreAlone, EndsAreSound, MovedEndsAreAlone};
 ghost use Rattle.network_moves.specs.Theorems.{MessagesComeInOrder};
@@ -12,7 +12,7 @@ ghost use Rattle.network_moves.specs.Theorems.{OrdersMoveWhatIsLacked, AnswersMo
 ghost use Rattle.network_moves.specs.Theorems.{OrdersAreReasonable, AnswersAreReasonable};
 ghost use Rattle.network_moves.specs.Theorems.{EachMessageEntersOnce, EachMessageEndsOnce, EachMessageIsAccountedFor};
 ghost use Rattle.network_moves.specs.Laws.{WordsAreAwaited, WordsAreTrue};
-ghost use Rattle.network_moves.specs.Groups.{groups_begin_anew, groups_decide_alone};
+ghost use Rattle.network_moves.specs.Groups.{groups_begin_anew, groups_decide_alone, nothing_leaves_the_group};
 ghost use Rattle.network_moves.specs.Lasting.{ends_last};
 ghost use Rattle.network_moves.specs.Quiet.{first_networks_are_quiet};
 ghost use Rattle.network_moves.specs.Crossing.{Crosses};
@@ -76,12 +76,21 @@ pub fn each_message_is_accounted_for()
 
 /// The second half of the node law, of a group of nodes that keeps to itself, whatever else the others do. It keeps to
 /// itself if its nodes put what concerns it (user messages for it, and orders and answers about the links between its
-/// nodes) on links between its nodes alone, and no other node starts again. After every list of moves from the first
-/// network on, while no node of the group is broken, though others may be: of any kind of user messages for the group,
-/// as many came in at each of its nodes as ended there; came from it to a node of the group by a link; wait, at the node
-/// or on such a link; or are gone. And no more are gone than its notices of loss name.
+/// nodes) on links between its nodes alone. After every list of moves from the first network on, while no node of the
+/// group is broken, though others may be, start again, and put anything in flight that speaks for nobody else: of any
+/// kind of user messages for the group, as many came in at each of its nodes as ended there; came from it to a node of
+/// the group by a link; wait, at the node or on such a link; or are gone. And no more are gone than its notices of loss
+/// name.
 pub fn groups_decide_alone()
     ensures { groups_decide_alone }
+{}
+
+/// What concerns a group that keeps to itself stays in it, whichever nodes are broken or start again, its own among
+/// them, after every list of moves from the first network on. No order or answer about a link between its nodes is at
+/// another node, on another link, or in flight there; and no user message for the group is on another link from one of
+/// its nodes.
+pub fn nothing_leaves_the_group()
+    ensures { nothing_leaves_the_group }
 {}
 
 /// The law of groups begins anew from each network on in which nothing of the group is left: the links between its nodes
@@ -92,10 +101,11 @@ pub fn groups_begin_anew()
     ensures { groups_begin_anew }
 {}
 
-/// So much holds whichever nodes are broken, while none starts again, after every list of moves from the first network
-/// on. Each end of a link is sound: its counts are in order and within the window, in service it is up, while a
-/// changeover goes on or an answer is awaited it is down, and until its changeover is complete it has a message only in
-/// service or while that goes on. And no order or answer at a node or on an end has a number of more than 24 bits.
+/// So much holds whichever nodes are broken, and however often nodes start again, after every list of moves from the
+/// first network on. Each end of a link is sound: its counts are in order and within the window, in service it is up,
+/// while a changeover goes on or an answer is awaited it is down, and until its changeover is complete it has a message
+/// only in service or while that goes on. And no order or answer at a node or on an end has a number of more than 24
+/// bits.
 pub fn ends_stay_sound()
     ensures { ends_last }
 {}

@@ -5,6 +5,7 @@ use Rattle.node_moves.proofs.Definitions.{Message, Configuration, IsWell, Node, 
 use Rattle.node_moves.proofs.Reading.{IsShape}
 use Rattle.node_moves.proofs.Sets.{end-set}
 use Rattle.node_moves.proofs.Shown.{Books, Mid, Shows, IsShown, IsSized, IsSilent, shown_in, is_heard, place, shown-alike, link-inside, own-inside}
+use Rattle.node_moves.proofs.Grown.{Grown, same-grown, both-grown}
 use Rattle.node_moves.proofs.Going.{IsAt, Arrives, arrives-here, arrives-both, at-last, is_broken}
 use Rattle.node_moves.proofs.Handling.{mid}
 use Rattle.node_moves.proofs.Own.{K, both, stays, either, relinked}
@@ -38,22 +39,22 @@ module _ (shape : Shape) (o : IsShape shape) (c : Configuration) (well : IsWell 
   HeardAt link p = (line_at p (place c link)).near.heard ≡ true
 
   pub record GoesIf (P : Network → Type 0) (v w : Mid) : Type 0 where
-    pub unbroken : is_broken shape w ≡ 0 → is_broken shape v ≡ 0
-    pub goes : (p : Network) → IsAt shape c p → Shows c p v → P p → Arrives shape c p w
+    pub grown : Grown (is_broken shape v) (is_broken shape w)
+    pub goes : (p : Network) → IsAt shape c p → Shows c p v → P p → Arrives shape c (is_broken shape v) p w
 
   pub record KIf (link : ℕ) (n m : Node WholeQueues) : Type 0 where
     pub each : (a l : List Message) (k : Books) → GoesIf (HeardAt link) (mid n a l k) (mid m a l k)
 
   pub if-so : (link : ℕ) (n m : Node WholeQueues) → K shape o c well n m → KIf link n m
-  if-so link n m e = record { each = λ a l k. record { unbroken = (e.each a l k).unbroken; goes = λ p h s heard. (e.each a l k).goes p h s } }
+  if-so link n m e = record { each = λ a l k. record { grown = (e.each a l k).grown; goes = λ p h s heard. (e.each a l k).goes p h s } }
 
   pub if-then : (link : ℕ) (n m q : Node WholeQueues) → KIf link n m → K shape o c well m q → KIf link n q
   if-then link n m q e f = record {
     each = λ a l k. record {
-      unbroken = λ none. (e.each a l k).unbroken ((f.each a l k).unbroken none);
+      grown = both-grown (e.each a l k).grown (f.each a l k).grown;
       goes = λ p h s heard.
-          let first : Arrives shape c p (mid m a l k) = (e.each a l k).goes p h s heard in
-          arrives-both shape c p (mid m a l k) (mid q a l k) (f.each a l k).unbroken first ((f.each a l k).goes _ (at-last shape c p (mid m a l k) first h) first.shows);
+          let first : Arrives shape c n.parts.times_broken p (mid m a l k) = (e.each a l k).goes p h s heard in
+          arrives-both shape c p (mid m a l k) (mid q a l k) (e.each a l k).grown (f.each a l k).grown first ((f.each a l k).goes _ (at-last shape c p (mid m a l k) first h) first.shows);
     };
   }
 
@@ -114,12 +115,12 @@ module _ (shape : Shape) (o : IsShape shape) (c : Configuration) (well : IsWell 
     steps-by : (before after : Bool) → in_service n.parts link ≡ before → is_in_service step.state ≡ after → KIf link n stepping
     steps-by before after f g = record {
       each = λ a l k. record {
-        unbroken = λ none. none;
+        grown = same-grown refl;
         goes = λ p h s heard. by before after f g a l k p h s heard;
       };
     }
       where
-        stay : (a l : List Message) (k : Books) (p : Network) → Shows c p (mid n a l k) → HeardAt link p → in_service n.parts link ≡ is_in_service step.state → Arrives shape c p (mid stepping a l k)
+        stay : (a l : List Message) (k : Books) (p : Network) → Shows c p (mid n a l k) → HeardAt link p → in_service n.parts link ≡ is_in_service step.state → Arrives shape c n.parts.times_broken p (mid stepping a l k)
         stay a l k p s heard same =
             let near : LinkEnd = (line_at p (place c link)).near in
             let x : IsShown n link near = s.ends link (there s.sized) in
@@ -127,7 +128,7 @@ module _ (shape : Shape) (o : IsShape shape) (c : Configuration) (well : IsWell 
             (shown-so near s.sized x near refl refl refl (x.serving ∙ same) refl refl heard))
 
         by : (before after : Bool) → in_service n.parts link ≡ before → is_in_service step.state ≡ after → (a l : List Message) (k : Books) (p : Network) → IsAt shape c p → Shows c p (mid n a l k) → HeardAt link p
-            → Arrives shape c p (mid stepping a l k)
+            → Arrives shape c n.parts.times_broken p (mid stepping a l k)
         by true true f g a l k p h s heard = stay a l k p s heard (f ∙ sym g)
         by false false f g a l k p h s heard = stay a l k p s heard (f ∙ sym g)
         by true false f g a l k p h s heard =
@@ -165,7 +166,7 @@ module _ (shape : Shape) (o : IsShape shape) (c : Configuration) (well : IsWell 
     pub advance-goes : is_heard (link_at n.parts link).alignment ≡ true → K shape o c well n (advance whole c link step n)
     advance-goes heard = record {
       each = λ a l k. record {
-        unbroken = (advance-if.each a l k).unbroken;
+        grown = (advance-if.each a l k).grown;
         goes = λ p h s. (advance-if.each a l k).goes p h s ((s.ends link (there s.sized)).heard heard);
       };
     }

@@ -37,7 +37,7 @@ module _ (c : Configuration) where
     pub made : (test : Message → Bool) → users_that (λ m. not (is_sccp m) && test m) x.made ≡ 0
     pub made_once : users_that (λ m. true) x.made ≤ fates_that (is_for_sccp c) (λ m. true) x.submitted + come_in (is_for_sccp c) (λ m. true) x
 
-  first-in-order : IsInOrder (first_node c)
+  pub first-in-order : IsInOrder (first_node c)
   first-in-order =
       let none : (kind : Fate → Bool) (test : Message → Bool) → come_in kind test (first_node c) ≡ 0 = λ kind test. sum-none (λ link. 0) (length c.links) (λ link. refl) in
       record {
@@ -192,8 +192,8 @@ same-order c x y s h = record {
       );
 }
 
-kept : IsKept IsInOrder
-kept = record {
+pub order-kept : IsKept IsInOrder
+order-kept = record {
   handed = λ c m x h. handed c m x h;
   heard = λ c link text x inside h. heard c link text x inside h;
   happened = λ c what x h.
@@ -204,7 +204,7 @@ kept = record {
 }
 
 pub all-in-order : (settings : (point : ℕ) → Configuration) (steps : List Step) (y : ℕ) → IsInOrder (settings y) ((after_steps settings steps (first_network settings)).node y)
-all-in-order settings = everywhere IsInOrder kept settings first-in-order
+all-in-order settings = everywhere IsInOrder order-kept settings first-in-order
 
 pub takes-each : (settings : (point : ℕ) → Configuration) (w : NetworkState) (point : ℕ) → IsInOrder (settings point) (w.node point) → TakesEachIn settings w point
 takes-each settings w point h = record {

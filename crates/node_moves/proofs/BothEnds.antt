@@ -9,14 +9,14 @@ use Rattle.node_moves.proofs.World.{IsFlown, ShownAt, place_at, rests}
 use Rattle.node_moves.proofs.Relining.{reline, with_line}
 use Rattle.node_moves.proofs.Flights.{IsSameFlight, same-flight}
 use Rattle.node_moves.specs.Networks.{NetworkNode, NetworkState, LinkEnd, IsNode, points, other_end}
-use Rattle.node_moves.specs.Laws.{AreTheirs}
+use Rattle.node_moves.specs.Outside.{ArePlaced}
 use Rattle.exchange_rules.proofs.MadeManagement.{code-fits, adjacent-fits}
 use Rattle.exchange_rules.proofs.NamedLinks.{link-named}
 use Rattle.exchange_rules.specs.Messages.{link_with_code}
 use Rattle.network_moves.specs.Networks as net
 use Rattle.std.specs.Option.{option_map}
 
-module _ (settings : (point : ℕ) → Configuration) (t : AreTheirs settings) (shape : Shape) (o : IsShape shape) where
+module _ (settings : (point : ℕ) → Configuration) (t : ArePlaced settings) (shape : Shape) (o : IsShape shape) where
   -- ---- the other end of a link
 
   pub record IsOther (x link : ℕ) (there : LinkEnd) : Type 0 where

@@ -9,7 +9,8 @@ use Rattle.node_moves.proofs.Handling.{mid, accepts, holds, submits, drops, plac
 use Rattle.node_moves.proofs.Own.{K, stays, either_done, aside, routed, queued, no_route-goes, no_part-goes, test-goes, status-goes, confirmed-other}
 use Rattle.node_moves.proofs.Heard.{here-short, on-short, IsNamed, code-link, named-place, heard-says, never-arrived}
 use Rattle.node_moves.proofs.Entering.{pass_test-goes}
-use Rattle.node_moves.proofs.ChangingOver.{order-goes, answer-goes, order-unbroken, answer-unbroken}
+use Rattle.node_moves.proofs.Grown.{Grown, same-grown}
+use Rattle.node_moves.proofs.ChangingOver.{order-goes, answer-goes, order-grown, answer-grown}
 use Rattle.node_moves.proofs.Tests.{answer-other}
 use Rattle.exchange_rules.proofs.LeavingMessages.{chosen_serves, relay_by-leaves}
 use Rattle.exchange_rules.specs.ChangingBack.{on_changeback_acknowledgement, freed, changeback_acknowledgement}
@@ -214,16 +215,16 @@ module _ (shape : Shape) (o : IsShape shape) (c : Configuration) (well : IsWell 
     answered-by plain slc number reads None e = gone
 
     -- what is never under way
-    never-goes : (left : Node WholeQueues) → (left.parts.times_broken ≡ 0 → n.parts.times_broken ≡ 0) → says_of m ≡ never → from_it left
-    never-goes left f e = record { unbroken = f; goes = λ p h s. absurd (never-arrived shape o c well p n m a l k h s e) }
+    never-goes : (left : Node WholeQueues) → Grown n.parts.times_broken left.parts.times_broken → says_of m ≡ never → from_it left
+    never-goes left f e = record { grown = f; goes = λ p h s. absurd (never-arrived shape o c well p n m a l k h s e) }
 
-    unordered : (link : Option ℕ) → (do_order whole c link None n).left.parts.times_broken ≡ 0 → n.parts.times_broken ≡ 0
-    unordered (Some link) none = order-unbroken shape o c well link None n none
-    unordered None none = none
+    unordered : (link : Option ℕ) → Grown n.parts.times_broken (do_order whole c link None n).left.parts.times_broken
+    unordered (Some link) = order-grown shape o c well link None n
+    unordered None = same-grown refl
 
-    unanswered : (link : Option ℕ) → (do_acknowledgement whole c link None n).left.parts.times_broken ≡ 0 → n.parts.times_broken ≡ 0
-    unanswered (Some link) none = answer-unbroken shape o c well link None n none
-    unanswered None none = none
+    unanswered : (link : Option ℕ) → Grown n.parts.times_broken (do_acknowledgement whole c link None n).left.parts.times_broken
+    unanswered (Some link) = answer-grown shape o c well link None n
+    unanswered None = same-grown refl
 
     managed : (plain : nat_eq (service_indicator m) 1 ≡ false) (r : Result Management MgmtFault) → read_management m.sif ≡ r → from_it (do_management whole c r (opc_of m) n).left
     managed plain (Err fault) e = gone

@@ -1,17 +1,18 @@
 -- The rules of a changeover go by moves: an order that is heard, an answer, a timer, and orders that go out late.
 use Rattle.node_moves.proofs.Basics.{◌≡◌, ℕ, Bool, true, false, not, ◌&&◌, ◌+◌, ◌≤◌, ◌<◌, List, [], ◌∷◌, ◌++◌, length, Option, Some, None, min, refl, ap, sym, subst, ◌∙◌, arith, if◌then◌else◌, get_or-set_same, get_or_past, length-set, slice_index_or, ⊎_elim, cases_lt, is_some}
 use Rattle.std.proofs.lemmas.List.{set-set}
-use Rattle.node_moves.proofs.Machine.{is_user_message, line_at, Shape}
+use Rattle.node_moves.proofs.Machine.{is_user_message, Shape}
 use Rattle.node_moves.proofs.Definitions.{Message, flow_of, is_management, Configuration, IsWell, Node, WholeQueues, Parts, whole, with_parts, answer, queue_at, link_at, links_with, is_link, in_service, down, changeover_of, with_changeover, link_of, no_room, Queue, first_queue, appended, last_accepted, Standing, no_changeover, Link, down_link, is_down}
 use Rattle.node_moves.proofs.Reading.{IsShape, says_of, says-managing, order_at, answer_at, across}
-use Rattle.node_moves.proofs.Shown.{Books, no_books, naming, marks_of, most, place, shown-alike}
-use Rattle.node_moves.proofs.Going.{Goes, goes-none, goes-both, arrives-here, is_broken}
+use Rattle.node_moves.proofs.Shown.{Books, no_books, naming, marks_of, most, place}
+use Rattle.node_moves.proofs.Grown.{Grown, same-grown, both-grown, more-grown}
+use Rattle.node_moves.proofs.Going.{Goes, goes-none, goes-both, arrives-here}
 use Rattle.node_moves.proofs.Handling.{mid, drops}
 use Rattle.node_moves.proofs.Own.{K, Names, named-besides, named-after, both, stays, alike, aside, sends-loose}
 use Rattle.node_moves.proofs.Failures.{answer-says, number-fits, orders, order-says}
 use Rattle.node_moves.proofs.Failing.{HasParts, gone-parts, by_order-goes, standing-but, standing-is}
-use Rattle.node_moves.proofs.Losing.{Leaves, counts-each, concluded-leaves, concluded-lost, concluded-wrong, concluded-right, unless-broken}
-use Rattle.node_moves.proofs.Completing.{HasEnded, answer_of, begun-listed, breaks-by-order, breaks-by-answer, ends-bar, completes-by-order, completes-by-answer, completes-by-time, answers-order, ends-wait}
+use Rattle.node_moves.proofs.Losing.{Leaves, counts-each, concluded-leaves, concluded-lost, concluded-wrong, concluded-grown, grown-if}
+use Rattle.node_moves.proofs.Completing.{HasEnded, raised, raised-shows, answer_of, begun-listed, breaks-by-order, breaks-by-answer, ends-bar, completes-by-order, completes-by-answer, completes-by-time, answers-order, ends-wait}
 use Rattle.exchange_rules.proofs.Steps.{ways_of}
 use Rattle.changeover.specs.Changeover.{is_barred, users_of, managements_of, behind, accepted_count, in_doubt, completed, acknowledged, expired, stays_awaited, with_standing, is_unasked, with_order}
 use Rattle.exchange_rules.proofs.Lists.{alike-at}
@@ -144,17 +145,17 @@ module _ (shape : Shape) (o : IsShape shape) (c : Configuration) (well : IsWell 
           sends-each (managements_of (behind (queue_at n.queues link) (accepted_count (queue_at n.queues link) (Some number)))) done a (answer_of shape o c well link n ∷ l) k
           (are-managing (behind (queue_at n.queues link) (accepted_count (queue_at n.queues link) (Some number))))
 
-      unbroken : is_broken shape (mid done [] [] no_books) ≡ 0 → is_broken shape (mid n [] [] no_books) ≡ 0
-      unbroken none = (concluded-right link (whole.found n.queues link (Some number)) p none).1
+      grows : Grown n.parts.times_broken done.parts.times_broken
+      grows = concluded-grown link (whole.found n.queues link (Some number)) p
 
       by : (x : Option ℕ) → accepted_count (queue_at n.queues link) (Some number) ≡ x → Goes shape c (mid n (word ∷ a) l k) (mid after a (answer_of shape o c well link n ∷ l) k)
       by (Some count) found =
           goes-both shape c _ _ _
-          (completes-by-order shape o c well link n done number count s word (ended-by n (Some number) s p refl refl refl refl) found (same-lost n number count p found refl) unbroken begun a l k says refl)
+          (completes-by-order shape o c well link n done number count s word (ended-by n (Some number) s p refl refl refl refl) found (same-lost n number count p found refl) grows begun a l k says refl)
           rest
       by None found =
           goes-both shape c _ _ _
-          (breaks-by-order shape o c well link n done number s word (ended-by n (Some number) s p refl refl refl refl) found (more-lost n (Some number) p refl)
+          (breaks-by-order shape o c well link n done number s word (ended-by n (Some number) s p refl refl refl refl) found (more-lost n (Some number) p refl) grows
           (concluded-wrong link (whole.found n.queues link (Some number)) p (wrong-so n number found)) begun a l k says refl)
           rest
 
@@ -231,18 +232,18 @@ module _ (shape : Shape) (o : IsShape shape) (c : Configuration) (well : IsWell 
           sends-each (managements_of (behind (queue_at n.queues link) (accepted_count (queue_at n.queues link) (Some number)))) done a l k
           (are-managing (behind (queue_at n.queues link) (accepted_count (queue_at n.queues link) (Some number))))
 
-      unbroken : is_broken shape (mid done [] [] no_books) ≡ 0 → is_broken shape (mid n [] [] no_books) ≡ 0
-      unbroken none = (concluded-right link (whole.found n.queues link (Some number)) (answered_parts n) none).1
+      grows : Grown n.parts.times_broken done.parts.times_broken
+      grows = concluded-grown link (whole.found n.queues link (Some number)) (answered_parts n)
 
       by : (x : Option ℕ) → accepted_count (queue_at n.queues link) (Some number) ≡ x → Goes shape c (mid n (word ∷ a) l k) (mid after a l k)
       by (Some count) found =
           goes-both shape c _ _ _
           (completes-by-answer shape o c well link n done number count s word (ended-by n (Some number) s (answered_parts n) refl refl refl refl) found
-          (same-lost n number count (answered_parts n) found refl) unbroken begun a l k says awaited refl)
+          (same-lost n number count (answered_parts n) found refl) grows begun a l k says awaited refl)
           rest
       by None found =
           goes-both shape c _ _ _
-          (breaks-by-answer shape o c well link n done number s word (ended-by n (Some number) s (answered_parts n) refl refl refl refl) found (more-lost n (Some number) (answered_parts n) refl)
+          (breaks-by-answer shape o c well link n done number s word (ended-by n (Some number) s (answered_parts n) refl refl refl refl) found (more-lost n (Some number) (answered_parts n) refl) grows
           (concluded-wrong link (whole.found n.queues link (Some number)) (answered_parts n) (wrong-so n number found)) begun a l k says awaited refl)
           rest
 
@@ -267,9 +268,9 @@ module _ (shape : Shape) (o : IsShape shape) (c : Configuration) (well : IsWell 
 
   -- without a number
   timed-out : (n : Node WholeQueues) (s : Standing) (p : Parts) → p.links ≡ n.parts.links → p.changeovers ≡ with_standing n.parts.changeovers link s → p.routes ≡ n.parts.routes → p.messages_lost ≡ n.parts.messages_lost
-      → (p.times_broken ≡ 0 → n.parts.times_broken ≡ 0) → (changeover_of n.parts link).incomplete ≡ true → s.incomplete ≡ false → s.awaited ≡ (changeover_of n.parts link).awaited
+      → Grown n.parts.times_broken p.times_broken → (changeover_of n.parts link).incomplete ≡ true → s.incomplete ≡ false → s.awaited ≡ (changeover_of n.parts link).awaited
       → Names shape o c well n (conclude whole c (whole.found n.queues link None) link None (with_parts n p)) (whole.found n.queues link None).lost
-  timed-out n s p links changeovers routes lost broken begun complete waits = record {
+  timed-out n s p links changeovers routes lost grows begun complete waits = record {
     each = λ a l k. goes-both shape c _ _ _
         (completes-by-time shape o c well link n done s a l k (ended-by n None s p links changeovers routes complete) begun waits counts before)
         (every a l (naming k found.lost));
@@ -281,8 +282,8 @@ module _ (shape : Shape) (o : IsShape shape) (c : Configuration) (well : IsWell 
       done : Node WholeQueues
       done = done_by n None p
 
-      before : done.parts.times_broken ≡ 0 → n.parts.times_broken ≡ 0
-      before none = broken (concluded-right link found p none).1
+      before : Grown n.parts.times_broken done.parts.times_broken
+      before = both-grown grows (concluded-grown link found p)
 
       counts : (x : ℕ) → min x most ≤ n.parts.messages_lost → min (length (users_of (in_doubt (queue_at n.queues link) None)) + x) most ≤ done.parts.messages_lost
       counts x h = subst (λ (t : ℕ). min (length found.lost + x) most ≤ t) (sym (concluded-lost link found p)) (counts-each found.lost p x (subst (λ (t : ℕ). min x most ≤ t) (sym lost) h))
@@ -300,40 +301,19 @@ module _ (shape : Shape) (o : IsShape shape) (c : Configuration) (well : IsWell 
   expiring timer n = with_expiry c timer link (barred c link n.parts)
 
   first-by : (begun : Bool) (n : Node WholeQueues) → (changeover_of n.parts link).incomplete ≡ begun → Names shape o c well n (complete_if whole c begun link None (with_parts n (expiring which.T1 n))) (gone_by_completion begun link None n.queues).lost
-  first-by true n e = timed-out n (completed (changeover_of n.parts link)) (expiring which.T1 n) refl refl refl refl (λ none. none) e refl refl
+  first-by true n e = timed-out n (completed (changeover_of n.parts link)) (expiring which.T1 n) refl refl refl refl (same-grown refl) e refl refl
   first-by false n e = named-besides shape o c well n _ [] (timed-aside n (completed (changeover_of n.parts link)) (expiring which.T1 n) refl refl refl refl (complete-same (changeover_of n.parts link) e))
-
-  -- T2 that ends the wait breaks the node
-  stays-so : (n : Node WholeQueues) → (expiring which.T2 n).times_broken ≡ 0 → (stays_awaited (bars c) (changeover_of n.parts link) ≡ true) × (n.parts.times_broken ≡ 0)
-  stays-so n none =
-      let r : (not (stays_awaited (bars c) (changeover_of n.parts link)) ≡ false) × (n.parts.times_broken ≡ 0) =
-      unless-broken (not (stays_awaited (bars c) (changeover_of n.parts link))) n.parts none in
-      (not-false (stays_awaited (bars c) (changeover_of n.parts link)) r.0, r.1)
-    where
-      not-false : (b : Bool) → not b ≡ false → b ≡ true
-      not-false true e = refl
-      not-false false e = absurd cc
 
   second-complete : (b : Bool) (s : Standing) → (if b then completed s else acknowledged s).incomplete ≡ false
   second-complete true s = refl
   second-complete false s = refl
 
   -- the node counts that it is broken
-  abbrev raised : Node WholeQueues → Node WholeQueues
-  raised n = with_parts n (record n.parts { times_broken = once_more n.parts.times_broken })
-
-  raised-none : (n : Node WholeQueues) → (raised n).parts.times_broken ≡ 0 → ⊥
-  raised-none n none = (let again : once_more n.parts.times_broken ≡ 0 = none in absurd (omega (arith, again)))
-
   raises : (n : Node WholeQueues) → K shape o c well n (raised n)
   raises n = record {
     each = λ a l k. record {
-      unbroken = λ none. absurd (raised-none n none);
-      goes = λ p h s. arrives-here shape c p (mid (raised n) a l k) (record {
-        sized = record { links = s.sized.links; queues = s.sized.queues; changeovers = s.sized.changeovers; silent = s.sized.silent; ways = s.sized.ways };
-        ends = λ other there. shown-alike n (raised n) other (line_at p (place c other)).near (record { queue = refl; alignment = refl; standing = refl }) (s.ends other there);
-        booked = record { bag = s.booked.bag; accepted = s.booked.accepted; named = s.booked.named; within = s.booked.within };
-      });
+      grown = more-grown n.parts.times_broken;
+      goes = λ p h s. arrives-here shape c p (mid (raised n) a l k) (raised-shows c p n a l k s);
     };
   }
 
@@ -346,8 +326,7 @@ module _ (shape : Shape) (o : IsShape shape) (c : Configuration) (well : IsWell 
 
   frees-by : (awaited : Bool) (n : Node WholeQueues) (t : Standing) → (changeover_of n.parts link).awaited ≡ awaited → t.incomplete ≡ (changeover_of n.parts link).incomplete → t.awaited ≡ false → K shape o c well n (freed_by n t)
   frees-by true n t e same ended =
-      both shape o c well n (raised n) (freed_by n t) (raises n)
-      (ends-bar shape o c well link (raised n) (freed_by n t) t (record { queues = refl; links = refl; changeovers = refl; lost = refl; marks = refl }) (raised-none n) e same ended)
+      ends-bar shape o c well link n (freed_by n t) t (record { queues = refl; links = refl; changeovers = refl; lost = refl; marks = refl }) e same ended
   frees-by false n t e same ended =
       both shape o c well n (raised n) (freed_by n t) (raises n) (standing-alike (raised n) t (standing-same t (changeover_of n.parts link) same (ended ∙ sym e)))
 
@@ -379,12 +358,12 @@ module _ (shape : Shape) (o : IsShape shape) (c : Configuration) (well : IsWell 
       complete = second-complete (stays_awaited (bars c) was) was
 
       by : (b : Bool) → stays_awaited (bars c) was ≡ b → Names shape o c well n (conclude whole c (whole.found n.queues link None) link None (with_parts n p)) (whole.found n.queues link None).lost
-      by true f = timed-out n s p refl refl refl refl (λ none. (stays-so n none).1) e complete (ap (λ (b : Bool). (expired_by b was).awaited) f)
+      by true f = timed-out n s p refl refl refl refl (grown-if (not (stays_awaited (bars c) was)) n.parts) e complete (ap (λ (b : Bool). (expired_by b was).awaited) f)
       by false f =
           let t : Standing = record { incomplete = was.incomplete; awaited = false } in
           let free : Node WholeQueues = freed_by n t in
-          let ended : p.times_broken ≡ 0 → free.parts.times_broken ≡ 0 =
-          λ none. (let no : true ≡ false = sym (stays-so n none).0 ∙ f in absurd cc) in
+          let ended : Grown free.parts.times_broken p.times_broken =
+          same-grown (ap (λ (b : Bool). if not b then once_more n.parts.times_broken else n.parts.times_broken) f) in
           named-after shape o c well n free _ (whole.found n.queues link None).lost (frees-by was.awaited n t refl refl refl)
           (timed-out free s p refl (sym (set-set n.parts.changeovers link t s)) refl refl ended
           (alike-at (λ (u : Standing). u.incomplete) n.parts.changeovers link link t no_changeover refl ∙ e) complete
@@ -472,26 +451,26 @@ module _ (shape : Shape) (o : IsShape shape) (c : Configuration) (well : IsWell 
 
   -- ---- what was broken stays so
 
-  complete-unbroken : (begun : Bool) (number : Option ℕ) (n : Node WholeQueues) → (complete_if whole c begun link number n).parts.times_broken ≡ 0 → n.parts.times_broken ≡ 0
-  complete-unbroken false number n none = none
-  complete-unbroken true number n none =
+  complete-grown : (begun : Bool) (number : Option ℕ) (n : Node WholeQueues) → Grown n.parts.times_broken (complete_if whole c begun link number n).parts.times_broken
+  complete-grown false number n = same-grown refl
+  complete-grown true number n =
       let found : Found = whole.found n.queues link number in
-      (concluded-right link found n.parts
-      ((sends-each found.queued_anew (done_by n number n.parts) [] [] no_books (are-managing (behind (queue_at n.queues link) (accepted_count (queue_at n.queues link) number)))).unbroken none)).1
+      both-grown (concluded-grown link found n.parts)
+      (sends-each found.queued_anew (done_by n number n.parts) [] [] no_books (are-managing (behind (queue_at n.queues link) (accepted_count (queue_at n.queues link) number)))).grown
 
-  pub order-unbroken : (number : Option ℕ) (n : Node WholeQueues) → (on_changeover_order whole c link number n).left.parts.times_broken ≡ 0 → n.parts.times_broken ≡ 0
-  order-unbroken number n none =
+  pub order-grown : (number : Option ℕ) (n : Node WholeQueues) → Grown n.parts.times_broken (on_changeover_order whole c link number n).left.parts.times_broken
+  order-grown number n =
       let fell : Node WholeQueues = fail_by_order whole c link n in
       let one : Node WholeQueues = bar whole c link fell in
       let s : Standing = completed (changeover_of one.parts link) in
       let two : Node WholeQueues = complete_if whole c (changeover_of one.parts link).incomplete link number (counted one s) in
-      ((by_order-goes shape o c well link n).each [] [] no_books).unbroken
-      (complete-unbroken (changeover_of one.parts link).incomplete number (counted one s) ((acknowledges two two [] [] no_books refl).unbroken none))
+      both-grown ((by_order-goes shape o c well link n).each [] [] no_books).grown
+      (both-grown (complete-grown (changeover_of one.parts link).incomplete number (counted one s)) (acknowledges two two [] [] no_books refl).grown)
 
   answer-by : (awaited : Bool) (number : Option ℕ) (n : Node WholeQueues)
-      → (if awaited then answer Handled (complete_if whole c (changeover_of n.parts link).incomplete link number (with_parts n (answered_parts n))) else answer Ignored n).left.parts.times_broken ≡ 0 → n.parts.times_broken ≡ 0
-  answer-by true number n none = complete-unbroken (changeover_of n.parts link).incomplete number (with_parts n (answered_parts n)) none
-  answer-by false number n none = none
+      → Grown n.parts.times_broken (if awaited then answer Handled (complete_if whole c (changeover_of n.parts link).incomplete link number (with_parts n (answered_parts n))) else answer Ignored n).left.parts.times_broken
+  answer-by true number n = complete-grown (changeover_of n.parts link).incomplete number (with_parts n (answered_parts n))
+  answer-by false number n = same-grown refl
 
-  pub answer-unbroken : (number : Option ℕ) (n : Node WholeQueues) → (on_changeover_acknowledgement whole c link number n).left.parts.times_broken ≡ 0 → n.parts.times_broken ≡ 0
-  answer-unbroken number n none = answer-by (changeover_of n.parts link).awaited number n none
+  pub answer-grown : (number : Option ℕ) (n : Node WholeQueues) → Grown n.parts.times_broken (on_changeover_acknowledgement whole c link number n).left.parts.times_broken
+  answer-grown number n = answer-by (changeover_of n.parts link).awaited number n

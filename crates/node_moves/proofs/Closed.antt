@@ -29,11 +29,11 @@ pub either-true : (a b : Bool) → (a || b) ≡ true → (a ≡ true) ⊎ (b ≡
 either-true true b e = inl refl
 either-true false b e = inr e
 
-both-true : (a b : Bool) → a ≡ true → b ≡ true → (a && b) ≡ true
+pub both-true : (a b : Bool) → a ≡ true → b ≡ true → (a && b) ≡ true
 both-true true b e f = f
 both-true false b e f = absurd cc
 
-each-true : (a b : Bool) → (a && b) ≡ true → (a ≡ true) × (b ≡ true)
+pub each-true : (a b : Bool) → (a && b) ≡ true → (a ≡ true) × (b ≡ true)
 each-true true b e = (refl, e)
 each-true false b e = absurd cc
 
@@ -66,10 +66,10 @@ abbrev pub hop_points : (near far : ℕ) → Shape
 hop_points near far = record all_points { leads = λ link side m. not (is_one_of near far (all_points.point link side) && concerning near far m) || is_between near far link }
 
 pub are-hop : (near far : ℕ) → IsShape (hop_points near far)
-are-hop near far = record { nodes = are-all.nodes; links = are-all.links; points = are-all.points; lasting = are-all.lasting }
+are-hop near far = record { nodes = are-all.nodes; links = are-all.links; points = are-all.points }
 
 -- what concerns the two doesn't depend on where messages may go
-says-same : (near far : ℕ) (for_it : Bool) (s : Saying) → says_of_group (hop_points near far) says_of (is_one_of near far) (for_one_of near far) for_it s ≡ says_of_group all_points says_of (is_one_of near far) (for_one_of near far) for_it s
+pub says-same : (near far : ℕ) (for_it : Bool) (s : Saying) → says_of_group (hop_points near far) says_of (is_one_of near far) (for_one_of near far) for_it s ≡ says_of_group all_points says_of (is_one_of near far) (for_one_of near far) for_it s
 says-same near far for_it UserMessage = refl
 says-same near far for_it (Order link maker number) = refl
 says-same near far for_it (Answer link maker number) = refl
@@ -79,7 +79,6 @@ pub stays-between : (near far : ℕ) → KeepsToItself (hop_points near far) say
 stays-between near far = record {
   stays = λ place m here leads of. within-by (is_one_of near far (point_at all_points place)) (concerning near far m) (is_between near far place.link) here leads
       (sym (says-same near far (for_one_of near far m) (says_of m)) ∙ of);
-  lasting = λ point e. are-all.lasting point;
 }
 
 module _ (near far : ℕ) where

@@ -3,8 +3,9 @@ use Rattle.node_moves.proofs.Basics.{◌≡◌, ◌≢◌, ℕ, Bool, true, fals
 use Rattle.node_moves.proofs.Machine.{Frame, EmptyFrame, MessageFrame, LinkEnd, Live, Line, Network, Shape, Place, line_at, node_at, user}
 use Rattle.node_moves.proofs.Definitions.{Message, Configuration, IsWell, Node, WholeQueues, Parts, whole, link_at, queue_at, in_service, down, changeover_of, Queue, first_queue, Link, down_link, is_down, is_in_service, Alignment}
 use Rattle.node_moves.proofs.Reading.{IsShape, says_of}
-use Rattle.node_moves.proofs.Shown.{Books, no_books, Mid, Shows, IsShown, IsAlike, IsSized, IsSilent, IsBooked, is_heard, shown_in, users_that, any_message, most, link-inside, own-inside}
-use Rattle.node_moves.proofs.Going.{IsAt, is_broken}
+use Rattle.node_moves.proofs.Shown.{Books, Mid, Shows, IsShown, IsAlike, IsSized, IsSilent, IsBooked, is_heard, shown_in, users_that, any_message, most, link-inside, own-inside}
+use Rattle.node_moves.proofs.Grown.{Grown, same-grown}
+use Rattle.node_moves.proofs.Going.{IsAt}
 use Rattle.exchange_rules.proofs.Steps.{ways_of}
 use Rattle.node_moves.proofs.Handling.{mid, same-ends, end-at, live-queue}
 use Rattle.node_moves.proofs.Failures.{node-there}
@@ -12,7 +13,7 @@ use Rattle.node_moves.proofs.World.{IsFlown, AreData, AreStatuses, ShownAt, plac
 use Rattle.node_moves.proofs.Relining.{Leads, leads-one, line-set}
 use Rattle.node_moves.proofs.Flights.{changed-here, updated-here, updated-other, OnlyHere, only-changed, reline-near}
 use Rattle.node_moves.specs.Networks.{Fate, NetworkNode, NetworkState, IsNode, changed, messages_of, updated}
-use Rattle.node_moves.specs.Laws.{AreTheirs}
+use Rattle.node_moves.specs.Outside.{ArePlaced}
 use Rattle.exchange_rules.proofs.Lists.{alike-at, each-set}
 use Rattle.exchange_rules.proofs.Serving.{data-serves, fails-up}
 use Rattle.exchange_rules.proofs.Serving as serving
@@ -64,7 +65,7 @@ pub messages-unseen : (ms : List Message) → messages_of (unseen ms) ≡ ms
 messages-unseen [] = refl
 messages-unseen (m ∷ ms) = ap (λ (ks : List Message). m ∷ ks) (messages-unseen ms)
 
-module _ (settings : (point : ℕ) → Configuration) (t : AreTheirs settings) (shape : Shape) (o : IsShape shape) (w : NetworkState) (x link : ℕ) (fx : IsNode settings x) (inside : link < length (settings x).links) where
+module _ (settings : (point : ℕ) → Configuration) (t : ArePlaced settings) (shape : Shape) (o : IsShape shape) (w : NetworkState) (x link : ℕ) (fx : IsNode settings x) (inside : link < length (settings x).links) where
   abbrev c : Configuration
   c = settings x
 
@@ -116,7 +117,7 @@ module _ (settings : (point : ℕ) → Configuration) (t : AreTheirs settings) (
   -- ---- a link that is down drops it
 
   pub drops-frame : (m : Mid) (p : Network) (frame : Frame) (fs : List Frame) → ShownAt settings t w x m p → (line_at p its).to_near ≡ frame ∷ fs → down m.node.parts link ≡ true
-      → Leads settings t shape o p (there []) x m
+      → Leads settings t shape o m.node.parts.times_broken p (there []) x m
   drops-frame m p frame fs s first gone =
       let y : Line = line_at p its in
       let shown : IsShown m.node link y.near = s.here.ends link inside in
@@ -129,7 +130,7 @@ module _ (settings : (point : ℕ) → Configuration) (t : AreTheirs settings) (
         down = shown.up ∙ ap not gone;
         after = line-set shape p its (with_frames_left y fs) (node_at shape p its) (link-inside shape o c well link) (own-inside shape o c well link);
       }))
-      (λ point. refl)
+      (same-grown refl) (λ point. refl)
       (reline-near settings t shape o w (there []) x link m m p (with_frames_left y fs) (node_at shape p its) fx s (pop-only [])
       (record { to_far = refl; told_far = refl; far_may = refl; near_came = refl; far = λ k l e. e }) inside s.here.sized shown (λ l d. same-ends m.node l) (same-node p m s.here)
       (pop-flown [] y (with_frames_left y fs) frame fs (s.flown x link fx inside) first refl refl refl (λ test. omega arith)))
@@ -205,10 +206,10 @@ module _ (settings : (point : ℕ) → Configuration) (t : AreTheirs settings) (
     pub taken-serves : in_service taken.parts link ≡ true
     taken-serves = ap (λ (y : Alignment). is_in_service y) (owed-link d.message timed_node link) ∙ serves
 
-    pub taken-unbroken : is_broken shape (mid taken [] [] no_books) ≡ 0 → is_broken shape (mid n [] [] no_books) ≡ 0
-    taken-unbroken none = sym (owed-parts d.message timed_node).broken ∙ none
+    pub taken-grown : Grown n.parts.times_broken taken.parts.times_broken
+    taken-grown = same-grown (owed-parts d.message timed_node).broken
 
-    pub takes-frame : (p : Network) (fs : List Frame) → IsAt shape c p → ShownAt settings t w x (mid n [] [] k) p → (line_at p its).to_near ≡ frame_of d ∷ fs → Leads settings t shape o p (there new) x (mid taken new [] k)
+    pub takes-frame : (p : Network) (fs : List Frame) → IsAt shape c p → ShownAt settings t w x (mid n [] [] k) p → (line_at p its).to_near ≡ frame_of d ∷ fs → Leads settings t shape o n.parts.times_broken p (there new) x (mid taken new [] k)
     takes-frame p fs h s first = by d.message refl
       where
         y : Line
@@ -232,7 +233,7 @@ module _ (settings : (point : ℕ) → Configuration) (t : AreTheirs settings) (
         booked : IsBooked (node_at shape p its) (mid n [] [] k)
         booked = same-node p (mid n [] [] k) s.here
 
-        by : (message : Option Message) → d.message ≡ message → Leads settings t shape o p (there new) x (mid taken new [] k)
+        by : (message : Option Message) → d.message ≡ message → Leads settings t shape o n.parts.times_broken p (there new) x (mid taken new [] k)
         by None e =
             let z : Line = with_accepted y fs false confirmed y.far.came in
             let plain : carries d ≡ false = ap (λ (b : Option Message). is_some b) e in
@@ -249,7 +250,7 @@ module _ (settings : (point : ℕ) → Configuration) (t : AreTheirs settings) (
               accepted = ap (λ (q : Queue). accept_answer q d.fsn d.bsn false) same ∙ ap (accept_answer (queue_at n.queues link) d.fsn d.bsn) (sym plain) ∙ right;
               after = line-set shape p its z (node_at shape p its) (link-inside shape o c well link) (own-inside shape o c well link);
             }))
-            (λ point. refl)
+            taken-grown (λ point. refl)
             (reline-near settings t shape o w (there new) x link (mid n [] [] k) (mid taken new [] k) p z (node_at shape p its) fx s (pop-only new)
             (record { to_far = refl; told_far = refl; far_may = refl; near_came = refl; far = λ j l g. record { queue = g.queue; up = g.up; serving = g.serving; incomplete = g.incomplete; awaited = g.awaited; heard = g.heard } })
             inside (taken-sized s.here.sized)
@@ -280,7 +281,7 @@ module _ (settings : (point : ℕ) → Configuration) (t : AreTheirs settings) (
               accepted = ap (λ (q : Queue). accept_answer q d.fsn d.bsn true) same ∙ ap (accept_answer (queue_at n.queues link) d.fsn d.bsn) (sym plain) ∙ right;
               after = line-set shape p its z after (link-inside shape o c well link) (own-inside shape o c well link);
             }))
-            (λ point. refl)
+            taken-grown (λ point. refl)
             (reline-near settings t shape o w (there new) x link (mid n [] [] k) (mid taken new [] k) p z after fx s (pop-only new)
             (record { to_far = refl; told_far = refl; far_may = refl; near_came = refl; far = λ j l g. record { queue = g.queue; up = g.up; serving = g.serving; incomplete = g.incomplete; awaited = g.awaited; heard = g.heard } })
             inside (taken-sized s.here.sized)

@@ -1,11 +1,12 @@
 -- A changeover is completed, and an order is answered: one move each.
 use Rattle.node_moves.proofs.Basics.{◌≡◌, ◌≢◌, ℕ, Bool, true, false, not, ◌+◌, ◌≤◌, ◌<◌, List, [], ◌∷◌, ◌++◌, length, Option, Some, None, drop, count_by, min, refl, ap, sym, subst, ◌∙◌, arith, get_or-set_same, get_or-set_other, get_or_past, length-set, ⊎_elim, cases_lt, slice_index_or}
 use Rattle.node_moves.proofs.Machine.{is_user_message, user, Phase, Live, Moved, Gone, LinkEnd, Network, Shape, Place, line_at, node_at, NodeBecomes, IsTakenFrom}
-use Rattle.node_moves.proofs.Definitions.{Message, Configuration, IsWell, Node, WholeQueues, whole, queue_at, down, changeover_of, Queue, first_queue, emptied, last_accepted, Standing, no_changeover, Link, is_down, is_in_service}
+use Rattle.node_moves.proofs.Definitions.{Message, Configuration, IsWell, Node, WholeQueues, whole, with_parts, queue_at, down, changeover_of, Queue, first_queue, emptied, last_accepted, Standing, no_changeover, Link, is_down, is_in_service}
 use Rattle.node_moves.proofs.Reading.{IsShape, says_of, order_at, answer_at, across}
 use Rattle.node_moves.proofs.Sets.{with_node, node-set, end-set, break-set}
-use Rattle.node_moves.proofs.Shown.{Books, no_books, naming, Mid, Shows, IsShown, IsAlike, IsSized, IsSilent, IsBooked, Marks, shown_in, is_heard, place, users_that, any_message, most, link-inside, own-inside, at-own}
-use Rattle.node_moves.proofs.Going.{IsAt, Goes, by-line, by-break, is_broken}
+use Rattle.node_moves.proofs.Shown.{Books, naming, Mid, Shows, IsShown, IsAlike, IsSized, IsSilent, IsBooked, Marks, shown_in, is_heard, place, users_that, any_message, most, shown-alike, link-inside, own-inside, at-own}
+use Rattle.node_moves.proofs.Grown.{Grown, IsUnraised, same-grown, both-grown, more-grown, raised-not}
+use Rattle.node_moves.proofs.Going.{IsAt, Goes, by-line, by-break}
 use Rattle.node_moves.proofs.Own.{K}
 use Rattle.node_moves.proofs.Handling.{mid, bag_of, count-bag, end-at, taken-arrived, but-none, goes-by-node, live-queue}
 use Rattle.node_moves.proofs.Failures.{booked-alike, node-there, last-same, answer-says, number-fits}
@@ -14,6 +15,7 @@ use Rattle.node_moves.proofs.Losing.{users-among, count-split, users-within, dou
 use Rattle.changeover.specs.Changeover.{users_of, managements_of, behind, accepted_count, in_doubt, lost, with_standing}
 use Rattle.exchange_rules.proofs.Steps.{ways_of}
 use Rattle.exchange_rules.specs.ChangingOver.{changeover_acknowledgement}
+use Rattle.exchange_rules.specs.State.{once_more}
 use Rattle.link.specs.Queue.{named_count}
 use Rattle.network_moves.proofs.Counts.{count-cons, count-append}
 use Rattle.network_moves.proofs.Words.{one-no_user}
@@ -42,6 +44,17 @@ awaited-listed c n link s e =
     let no : true ≡ false = sym e ∙ ap (λ (x : Standing). x.awaited) none in
     absurd cc)
     (cases_lt link (length c.links))
+
+-- a node that has counted a break
+abbrev pub raised : Node WholeQueues → Node WholeQueues
+raised n = with_parts n (record n.parts { times_broken = once_more n.parts.times_broken })
+
+pub raised-shows : (c : Configuration) (p : Network) (n : Node WholeQueues) (a l : List Message) (k : Books) → Shows c p (mid n a l k) → Shows c p (mid (raised n) a l k)
+raised-shows c p n a l k s = record {
+  sized = record { links = s.sized.links; queues = s.sized.queues; changeovers = s.sized.changeovers; silent = s.sized.silent; ways = s.sized.ways };
+  ends = λ other there. shown-alike n (raised n) other (line_at p (place c other)).near (record { queue = refl; alignment = refl; standing = refl }) (s.ends other there);
+  booked = record { bag = s.booked.bag; accepted = s.booked.accepted; named = s.booked.named; within = s.booked.within };
+}
 
 -- ---- what a completion leaves
 
@@ -125,7 +138,7 @@ module _ (shape : Shape) (o : IsShape shape) (c : Configuration) (well : IsWell 
   -- ---- by a word
 
   module _ (n m : Node WholeQueues) (number count : ℕ) (s : Standing) (word : Message) (h : HasEnded n m link (Some number) s) (found : accepted_count (queue_at n.queues link) (Some number) ≡ Some count)
-      (lost : m.parts.messages_lost ≡ n.parts.messages_lost) (broken : is_broken shape (mid m [] [] no_books) ≡ 0 → is_broken shape (mid n [] [] no_books) ≡ 0) (begun : (changeover_of n.parts link).incomplete ≡ true) where
+      (lost : m.parts.messages_lost ≡ n.parts.messages_lost) (grows : Grown n.parts.times_broken m.parts.times_broken) (begun : (changeover_of n.parts link).incomplete ≡ true) where
     abbrev behind_it : List Message
     behind_it = behind (queue_at n.queues link) (accepted_count (queue_at n.queues link) (Some number))
 
@@ -138,7 +151,7 @@ module _ (shape : Shape) (o : IsShape shape) (c : Configuration) (well : IsWell 
     pub completes-by-order : (a l : List Message) (k : Books) → says_of word ≡ order_at (across its) number → s.awaited ≡ (changeover_of n.parts link).awaited
         → Goes shape c (mid n (word ∷ a) l k) (mid m a (managements_of behind_it ++ answer_of n ∷ l) k)
     completes-by-order a l k says waits = record {
-      unbroken = broken;
+      grown = grows;
       goes = λ p at z.
           let near : LinkEnd = (line_at p its).near in
           let inside : link < length c.links = begun-listed c n link z.sized begun in
@@ -193,7 +206,7 @@ module _ (shape : Shape) (o : IsShape shape) (c : Configuration) (well : IsWell 
     pub completes-by-answer : (a l : List Message) (k : Books) → says_of word ≡ answer_at (across its) number → (changeover_of n.parts link).awaited ≡ true → s.awaited ≡ false
         → Goes shape c (mid n (word ∷ a) l k) (mid m a (managements_of behind_it ++ l) k)
     completes-by-answer a l k says awaited ended = record {
-      unbroken = broken;
+      grown = grows;
       goes = λ p at z.
           let near : LinkEnd = (line_at p its).near in
           let inside : link < length c.links = begun-listed c n link z.sized begun in
@@ -245,7 +258,8 @@ module _ (shape : Shape) (o : IsShape shape) (c : Configuration) (well : IsWell 
   -- ---- by a word whose number names nothing: this breaks the node
 
   module _ (n m : Node WholeQueues) (number : ℕ) (s : Standing) (word : Message) (h : HasEnded n m link (Some number) s) (none_such : accepted_count (queue_at n.queues link) (Some number) ≡ None)
-      (lost : (x : ℕ) → min x most ≤ n.parts.messages_lost → min x most ≤ m.parts.messages_lost) (counted : is_broken shape (mid m [] [] no_books) ≡ 0 → ⊥) (begun : (changeover_of n.parts link).incomplete ≡ true) where
+      (lost : (x : ℕ) → min x most ≤ n.parts.messages_lost → min x most ≤ m.parts.messages_lost) (grows : Grown n.parts.times_broken m.parts.times_broken)
+      (counted : IsUnraised n.parts.times_broken m.parts.times_broken → ⊥) (begun : (changeover_of n.parts link).incomplete ≡ true) where
     abbrev unsent : List Message
     unsent = behind (queue_at n.queues link) (accepted_count (queue_at n.queues link) (Some number))
 
@@ -258,7 +272,7 @@ module _ (shape : Shape) (o : IsShape shape) (c : Configuration) (well : IsWell 
     pub breaks-by-order : (a l : List Message) (k : Books) → says_of word ≡ order_at (across its) number → s.awaited ≡ (changeover_of n.parts link).awaited
         → Goes shape c (mid n (word ∷ a) l k) (mid m a (managements_of unsent ++ answer_of n ∷ l) k)
     breaks-by-order a l k says waits = record {
-      unbroken = λ none. absurd (counted none);
+      grown = grows;
       goes = λ p at z.
           let near : LinkEnd = (line_at p its).near in
           let inside : link < length c.links = begun-listed c n link z.sized begun in
@@ -314,7 +328,7 @@ module _ (shape : Shape) (o : IsShape shape) (c : Configuration) (well : IsWell 
     pub breaks-by-answer : (a l : List Message) (k : Books) → says_of word ≡ answer_at (across its) number → (changeover_of n.parts link).awaited ≡ true → s.awaited ≡ false
         → Goes shape c (mid n (word ∷ a) l k) (mid m a (managements_of unsent ++ l) k)
     breaks-by-answer a l k says awaited ended = record {
-      unbroken = λ none. absurd (counted none);
+      grown = grows;
       goes = λ p at z.
           let near : LinkEnd = (line_at p its).near in
           let inside : link < length c.links = begun-listed c n link z.sized begun in
@@ -368,10 +382,10 @@ module _ (shape : Shape) (o : IsShape shape) (c : Configuration) (well : IsWell 
 
   pub completes-by-time : (n m : Node WholeQueues) (s : Standing) (a l : List Message) (k : Books) → HasEnded n m link None s → (changeover_of n.parts link).incomplete ≡ true → s.awaited ≡ (changeover_of n.parts link).awaited
       → ((x : ℕ) → min x most ≤ n.parts.messages_lost → min (length (users_of (in_doubt (queue_at n.queues link) None)) + x) most ≤ m.parts.messages_lost)
-      → (is_broken shape (mid m [] [] no_books) ≡ 0 → is_broken shape (mid n [] [] no_books) ≡ 0)
+      → Grown n.parts.times_broken m.parts.times_broken
       → Goes shape c (mid n a l k) (mid m a (managements_of (behind (queue_at n.queues link) None) ++ l) (naming k (users_of (in_doubt (queue_at n.queues link) None))))
-  completes-by-time n m s a l k h begun waits lost broken = record {
-    unbroken = broken;
+  completes-by-time n m s a l k h begun waits lost grows = record {
+    grown = grows;
     goes = λ p at z.
         let near : LinkEnd = (line_at p its).near in
         let q : Queue = queue_at n.queues link in
@@ -458,22 +472,23 @@ module _ (shape : Shape) (o : IsShape shape) (c : Configuration) (well : IsWell 
         }),
       ))
 
-  -- ---- the wait ends without an answer: this breaks the node, which has counted that
+  -- ---- the wait ends without an answer: this breaks the node, which counts that
 
-  pub ends-bar : (n m : Node WholeQueues) (s : Standing) → HasParts n m n.parts.links (with_standing n.parts.changeovers link s) → (n.parts.times_broken ≡ 0 → ⊥)
+  pub ends-bar : (n m : Node WholeQueues) (s : Standing) → HasParts (raised n) m n.parts.links (with_standing n.parts.changeovers link s)
       → (changeover_of n.parts link).awaited ≡ true → s.incomplete ≡ (changeover_of n.parts link).incomplete → s.awaited ≡ false → K shape o c well n m
-  ends-bar n m s h counted awaited same ended = record {
+  ends-bar n m s h awaited same ended = record {
     each = λ a l k. record {
-      unbroken = λ none. sym (ap (λ (k : Marks). k.broken) h.marks) ∙ none;
-      goes = λ p at z.
+      grown = both-grown (more-grown n.parts.times_broken) (same-grown (ap (λ (k : Marks). k.broken) h.marks));
+      goes = λ p at before.
+          let z : Shows c p (mid (raised n) a l k) = raised-shows c p n a l k before in
           let near : LinkEnd = (line_at p its).near in
-          let inside : link < length c.links = awaited-listed c n link z.sized awaited in
-          let x : IsShown n link near = z.ends link inside in
-          let is : changeover_of m.parts link ≡ s = standing-is c n m link s h z.sized inside in
-          by-break shape o c well p (mid n a l k) (mid m a l k) link (with_wait (line_at p its) false).near (node_at shape p its) z
+          let inside : link < length c.links = awaited-listed c (raised n) link z.sized awaited in
+          let x : IsShown (raised n) link near = z.ends link inside in
+          let is : changeover_of m.parts link ≡ s = standing-is c (raised n) m link s h z.sized inside in
+          by-break shape o c well p (mid (raised n) a l k) (mid m a l k) link (with_wait (line_at p its) false).near (node_at shape p its) z
           (record {
             inside = inside;
-            sized = (standing-but c n m link s h).sized z.sized;
+            sized = (standing-but c (raised n) m link s h).sized z.sized;
             shown = record {
               queue = ap (λ (q : WholeQueues). queue_at q link) h.queues ∙ x.queue;
               up = x.up ∙ ap (λ (xs : List Link). not (is_down (link_in xs link).alignment)) (sym h.links);
@@ -482,11 +497,11 @@ module _ (shape : Shape) (o : IsShape shape) (c : Configuration) (well : IsWell 
               awaited = sym ended ∙ ap (λ (t : Standing). t.awaited) (sym is);
               heard = λ heard. x.heard (ap (λ (xs : List Link). is_heard (link_in xs link).alignment) (sym h.links) ∙ heard);
             };
-            others = (standing-but c n m link s h).others;
+            others = (standing-but c (raised n) m link s h).others;
             came = refl;
-            booked = booked-alike (node_at shape p its) n m a l k (ap (λ (q : WholeQueues). q.held) h.queues) h.lost (booked-there p (mid n a l k) z);
+            booked = booked-alike (node_at shape p its) (raised n) m a l k (ap (λ (q : WholeQueues). q.held) h.queues) h.lost (booked-there p (mid (raised n) a l k) z);
           })
-          (λ none. counted (sym (ap (λ (k : Marks). k.broken) h.marks) ∙ none))
+          (λ none. raised-not n.parts.times_broken (subst (IsUnraised n.parts.times_broken) (ap (λ (k : Marks). k.broken) h.marks) none))
           (moves.releases_bar (record {
             place = its;
             awaited = x.awaited ∙ awaited;
@@ -501,7 +516,7 @@ module _ (shape : Shape) (o : IsShape shape) (c : Configuration) (well : IsWell 
       → s.incomplete ≡ false → s.awaited ≡ false → says_of word ≡ answer_at (across its) number → (changeover_of n.parts link).awaited ≡ true → (changeover_of n.parts link).incomplete ≡ false
       → Goes shape c (mid n (word ∷ a) l k) (mid m a l k)
   ends-wait n m number s word a l k h complete ended says awaited was = record {
-    unbroken = λ none. sym (ap (λ (k : Marks). k.broken) h.marks) ∙ none;
+    grown = same-grown (ap (λ (k : Marks). k.broken) h.marks);
     goes = λ p at z.
         let near : LinkEnd = (line_at p its).near in
         let inside : link < length c.links = awaited-listed c n link z.sized awaited in

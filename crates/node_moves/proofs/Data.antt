@@ -13,9 +13,10 @@ use Rattle.node_moves.proofs.Entries.{data-heard}
 use Rattle.node_moves.proofs.Bringing.{delivered-to, none-more}
 use Rattle.node_moves.proofs.World.{books_of, AreData, IsData, data_of, ShownAt, rests, place_at}
 use Rattle.node_moves.proofs.Relining.{Leads, leads-none, leads-both, leads-at, leads-goes}
-use Rattle.node_moves.proofs.Coming.{frame_of, ignored-down, popped, drops-frame, takes-frame, taken-serves, taken-unbroken}
+use Rattle.node_moves.proofs.Grown.{Grown, same-grown, both-grown}
+use Rattle.node_moves.proofs.Coming.{frame_of, ignored-down, popped, drops-frame, takes-frame, taken-serves, taken-grown}
 use Rattle.node_moves.specs.Networks.{NetworkState, IsNode, changed, state_of}
-use Rattle.node_moves.specs.Laws.{AreTheirs}
+use Rattle.node_moves.specs.Outside.{ArePlaced}
 use Rattle.exchange_rules.proofs.Serving.{data-serves, fails-up}
 use Rattle.exchange_rules.proofs.Serving as serving
 use Rattle.exchange_rules.proofs.SteppingLinks.{advance-serves, failed_if_up-down}
@@ -41,7 +42,7 @@ use Rattle.signalling_types.specs.declared.outcome.Outcome.{Outcome}
 use Rattle.signalling_types.specs.declared.outcome.Outcome.TheVariants.{Ignored, Refused}
 use Rattle.std.specs.Option.{option_to_list}
 
-module _ (settings : (point : ℕ) → Configuration) (t : AreTheirs settings) (shape : Shape) (o : IsShape shape) (w : NetworkState) (x link : ℕ) (fx : IsNode settings x) (inside : link < length (settings x).links) where
+module _ (settings : (point : ℕ) → Configuration) (t : ArePlaced settings) (shape : Shape) (o : IsShape shape) (w : NetworkState) (x link : ℕ) (fx : IsNode settings x) (inside : link < length (settings x).links) where
   abbrev pub c : Configuration
   c = settings x
 
@@ -78,8 +79,8 @@ module _ (settings : (point : ℕ) → Configuration) (t : AreTheirs settings) (
 
     -- what comes of it
     pub record Hears (left : Node WholeQueues) (new brought : List Message) : Type 0 where
-      pub unbroken : left.parts.times_broken ≡ 0 → n.parts.times_broken ≡ 0
-      pub leads : (p : Network) → IsAt shape c p → ShownAt settings t w x (rests settings t (w.node x)) p → Leads settings t shape o p (there new) x (mid left [] [] (accepting k brought))
+      pub grown : Grown n.parts.times_broken left.parts.times_broken
+      pub leads : (p : Network) → IsAt shape c p → ShownAt settings t w x (rests settings t (w.node x)) p → Leads settings t shape o n.parts.times_broken p (there new) x (mid left [] [] (accepting k brought))
 
     abbrev pub Comes : Done WholeQueues → Option Message → Node WholeQueues → Type 0
     Comes r new acc = Hears r.left (option_to_list new) (brought_by new r.outcome c acc)
@@ -87,13 +88,13 @@ module _ (settings : (point : ℕ) → Configuration) (t : AreTheirs settings) (
     -- it is dropped by a link that is down then
     dropped : (left : Node WholeQueues) → K shape o c well n left → down left.parts link ≡ true → Hears left [] []
     dropped left e gone = record {
-      unbroken = (e.each [] [] k).unbroken;
+      grown = (e.each [] [] k).grown;
       leads = λ p h s.
-          let l : Leads settings t shape o p w x (mid left [] [] k) =
+          let l : Leads settings t shape o n.parts.times_broken p w x (mid left [] [] k) =
           leads-goes settings t shape o p w x (rests settings t (w.node x)) (mid left [] [] k) fx h (leads-none settings t shape o p w x (rests settings t (w.node x)) s) (e.each [] [] k) in
           let f : (fs : List Frame) × ((line_at (last_of p l.networks) its).to_near ≡ frame_of d ∷ fs) = first-at (mid left [] [] k) (last_of p l.networks) l.shown in
-          let m : Leads settings t shape o p (there []) x (mid left [] [] k) =
-          leads-both settings t shape o p w (there []) x (mid left [] [] k) (mid left [] [] k) (λ none. none) l
+          let m : Leads settings t shape o n.parts.times_broken p (there []) x (mid left [] [] k) =
+          leads-both settings t shape o p w (there []) x (mid left [] [] k) (mid left [] [] k) l
           (drops-frame settings t shape o w x link fx inside (mid left [] [] k) (last_of p l.networks) (frame_of d) f.0 l.shown f.1 gone) in
           leads-goes settings t shape o p (there []) x (mid left [] [] k) (mid left [] [] (accepting k [])) fx h m (none-more shape o c well (mid left [] [] k) left [] [] k (goes-none shape c (mid left [] [] k)));
     }
@@ -128,14 +129,14 @@ module _ (settings : (point : ℕ) → Configuration) (t : AreTheirs settings) (
         let on : Goes shape c (mid taken (option_to_list d.message) [] k) (mid left [] [] (accepting k brought)) =
         carry-goes d.message taken (taken-serves settings t shape o w x link fx inside next d confirmed k e serves) in
         record {
-          unbroken = λ none. (g.each [] [] k).unbroken (taken-unbroken settings t shape o w x link fx inside next d confirmed k e serves (on.unbroken none));
+          grown = both-grown (g.each [] [] k).grown (both-grown (taken-grown settings t shape o w x link fx inside next d confirmed k e serves) on.grown);
           leads = λ p h s.
-              let l : Leads settings t shape o p w x (mid next [] [] k) =
+              let l : Leads settings t shape o n.parts.times_broken p w x (mid next [] [] k) =
               leads-goes settings t shape o p w x (rests settings t (w.node x)) (mid next [] [] k) fx h (leads-none settings t shape o p w x (rests settings t (w.node x)) s) (g.each [] [] k) in
               let f : (fs : List Frame) × ((line_at (last_of p l.networks) its).to_near ≡ frame_of d ∷ fs) = first-at (mid next [] [] k) (last_of p l.networks) l.shown in
-              let m : Leads settings t shape o p (there (option_to_list d.message)) x (mid taken (option_to_list d.message) [] k) =
+              let m : Leads settings t shape o n.parts.times_broken p (there (option_to_list d.message)) x (mid taken (option_to_list d.message) [] k) =
               leads-both settings t shape o p w (there (option_to_list d.message)) x (mid next [] [] k) (mid taken (option_to_list d.message) [] k)
-              (taken-unbroken settings t shape o w x link fx inside next d confirmed k e serves) l
+              l
               (takes-frame settings t shape o w x link fx inside next d confirmed k e serves (last_of p l.networks) f.0 (leads-at settings t shape o p w x (mid next [] [] k) l h) l.shown f.1) in
               leads-goes settings t shape o p (there (option_to_list d.message)) x (mid taken (option_to_list d.message) [] k) (mid left [] [] (accepting k brought)) fx h m on;
         }
@@ -165,7 +166,7 @@ module _ (settings : (point : ℕ) → Configuration) (t : AreTheirs settings) (
     received-by true true e gone r f = dropped n (record { each = λ a l j. goes-none shape c (mid n a l j) }) gone
     received-by true false e up r f = f up
     received-by false b e gone r f = record {
-      unbroken = λ none. none;
+      grown = same-grown refl;
       leads = λ p h s.
           let known : nat_lt link (length n.parts.links) ≡ true = listed (length n.parts.links) (subst (λ (i : ℕ). link < i) (sym s.here.sized.links) inside) in
           let no : true ≡ false = sym known ∙ e in
@@ -188,17 +189,17 @@ module _ (settings : (point : ℕ) → Configuration) (t : AreTheirs settings) (
   module _ (text : List ℕ) (rest : List (List ℕ)) (flying : (w.node x).user_data link ≡ text ∷ rest) where
     -- what comes of it, whatever it reads as
     pub record Comes_in : Type 0 where
-      pub unbroken : (receive whole c link text n).left.parts.times_broken ≡ 0 → n.parts.times_broken ≡ 0
+      pub grown : Grown n.parts.times_broken (receive whole c link text n).left.parts.times_broken
       pub leads : (p : Network) → IsAt shape c p → ShownAt settings t w x (rests settings t (w.node x)) p
-          → Leads settings t shape o p (there (option_to_list (new_message link text (state_of c (w.node x))))) x
+          → Leads settings t shape o n.parts.times_broken p (there (option_to_list (new_message link text (state_of c (w.node x))))) x
           (mid (receive whole c link text n).left [] []
           (accepting k (brought_by (new_message link text (state_of c (w.node x))) (receive whole c link text n).outcome c (accept_text link (read_frame text) (state_of c (w.node x))))))
 
     pub kind-comes : (value : FrameValue) → read_frame text ≡ Ok value → (frame : Frame) → data_of value ≡ Some frame → Comes_in
     kind-comes (EmptyFrame bsn fsn) e frame f =
         let r : _ = received text rest (EmptyFrame bsn fsn) flying e (empty_data bsn fsn) refl (λ up. acts text rest (EmptyFrame bsn fsn) flying e (empty_data bsn fsn) refl up) in
-        record { unbroken = r.unbroken; leads = r.leads }
+        record { grown = r.grown; leads = r.leads }
     kind-comes (MessageFrame bsn fsn sio sif) e frame f =
         let r : _ = received text rest (MessageFrame bsn fsn sio sif) flying e (message_data bsn fsn sio sif) refl (λ up. acts text rest (MessageFrame bsn fsn sio sif) flying e (message_data bsn fsn sio sif) refl up) in
-        record { unbroken = r.unbroken; leads = r.leads }
+        record { grown = r.grown; leads = r.leads }
     kind-comes (StatusFrame bsn fsn status) e frame f = absurd cc

@@ -1,5 +1,6 @@
 -- What becomes of the user messages for a point, over all nodes: the node law of each, and what each accepts, summed.
 use Rattle.node_moves.proofs.Basics.{◌≡◌, ◌≢◌, ◌≤◌, ◌<◌, ◌+◌, ◌&&◌, ◌||◌, ◌^◌, ℕ, zero, suc, Bool, true, false, not, List, [], ◌∷◌, length, Some, count_by, nat_eq, nat_lt, refl, ap, sym, subst, ◌∙◌, arith, nat_tests, if◌then◌else◌, ⊎_elim, cases_eq, eq-eqb, eqb-true, ne_eqb, true≢false}
+use Rattle.std.specs.Prelude.{is_some}
 use Rattle.node_moves.proofs.Machine.{Side, Near, Far, opposite, Line, Network, Shape, Place, user, seen, turned, one_if, line_at, point_at}
 use Rattle.node_moves.proofs.Definitions.{Message, Configuration, dpc_of}
 use Rattle.node_moves.proofs.Reading.{IsShape, says_of}
@@ -10,10 +11,11 @@ use Rattle.node_moves.proofs.BothEnds.{IsOther, is-other}
 use Rattle.node_moves.proofs.FateCounts.{count-fate}
 use Rattle.node_moves.proofs.Booking.{all-in-order, takes-each}
 use Rattle.node_moves.proofs.Running.{all_points, are-all, all-led, point_by, reached}
-use Rattle.node_moves.proofs.Ending.{came, ends, fates-same, same-or, sum-ends, the-other, twice}
+use Rattle.node_moves.proofs.Ending.{came, ends, placed, fates-same, same-or, sum-ends, the-other, twice}
 use Rattle.node_moves.specs.EndToEnd.{ComeFromEndToEnd, IsAccounted, each_message_is_accounted_for, messages_come_from_end_to_end, for_user_parts, to_point, to_user_parts, total}
 use Rattle.node_moves.specs.Fates.{TakesEachIn, came_to, goes_on, has_part, is_delivered, is_handled, is_local, is_refused, sccp_takes, is_sccp, is_taken_on, made_at, met_at, submitted_at}
-use Rattle.node_moves.specs.Laws.{AreTheirs, EndsOnce, any_fate, came_from, fates_that, gone_at, is_user, users_that, waits_at}
+use Rattle.node_moves.specs.Laws.{EndsOnce, any_fate, came_from, fates_that, gone_at, is_user, users_that, waits_at}
+use Rattle.node_moves.specs.Outside.{ArePlaced}
 use Rattle.node_moves.specs.Networks.{Fate, NetworkState, LinkEnd, IsNode, is_here, is_node, other_end, points, after_steps, first_network}
 use Rattle.network_moves.proofs.Concluded.{came-across}
 use Rattle.network_moves.proofs.Counts.{sum-alike, sum-none, sum-one}
@@ -92,9 +94,9 @@ without-sums handed made there refused waits gone e f = omega (arith, e, f)
 
 -- ---- what came from all nodes came to all
 
-module _ (settings : (point : ℕ) → Configuration) (t : AreTheirs settings) (shape : Shape) (o : IsShape shape) where
+module _ (settings : (point : ℕ) → Configuration) (t : ArePlaced settings) (all_joined : (x link : ℕ) → IsNode settings x → link < length (settings x).links → is_some (other_end settings x link) ≡ true) (shape : Shape) (o : IsShape shape) where
   -- a line of the machine at a point without a node is no link
-  no-node : (x k : ℕ) (side : Side) → is_node settings x ≡ false → shape.point k side ≡ x → IsUnused settings t k
+  pub no-node : (x k : ℕ) (side : Side) → is_node settings x ≡ false → shape.point k side ≡ x → IsUnused settings t k
   no-node x k side none e y l fy inside same =
       let its : Place = place_at settings t y l in
       ⊎_elim
@@ -102,7 +104,7 @@ module _ (settings : (point : ℕ) → Configuration) (t : AreTheirs settings) (
       let is : y ≡ x = sym (t.own y fy) ∙ sym (at-own shape o (settings y) (t.well y fy) l) ∙ ap (λ (j : ℕ). shape.point j its.side) same ∙ ap (shape.point k) near ∙ e in
       true≢false (sym fy ∙ ap (is_node settings) is ∙ none))
       (λ (far : its.side ≡ opposite side).
-      let other : (there : LinkEnd) × (other_end settings y l ≡ Some there) = the-other (other_end settings y l) (t.joined y l fy inside) in
+      let other : (there : LinkEnd) × (other_end settings y l ≡ Some there) = the-other (other_end settings y l) (all_joined y l fy inside) in
       let h : IsOther settings t shape o y l other.0 = is-other settings t shape o y l other.0 fy inside other.1 in
       let is : other.0.point ≡ x =
       sym (t.own other.0.point h.within) ∙ sym (at-own shape o (settings other.0.point) (t.well other.0.point h.within) other.0.link) ∙ ap (point_at shape) h.place
@@ -130,7 +132,7 @@ module _ (settings : (point : ℕ) → Configuration) (t : AreTheirs settings) (
 
       from-is : (x : ℕ) (b : Bool) → is_node settings x ≡ b → (if b then came_from settings w test x else 0) ≡ law.came_from shape users p x
       from-is x true fx =
-          sym (came settings t shape o w p s x fx test) ∙ sym (sum-ends settings t shape o x fx p s.idle (λ z. count_by users z.near.came) refl)
+          sym (came settings t shape o w p s x fx (λ link inside. all_joined x link fx inside) test) ∙ sym (sum-ends settings t shape o x fx p s.idle (λ z. count_by users z.near.came) refl)
       from-is x false none = sym (none-there (λ z. count_by users z.near.came) refl x none)
 
       to-is : (x : ℕ) (b : Bool) → is_node settings x ≡ b → (if b then came_to settings w any_fate test x else 0) ≡ law.came_to shape users p x
@@ -140,7 +142,7 @@ module _ (settings : (point : ℕ) → Configuration) (t : AreTheirs settings) (
           ∙ sym (sum-ends settings t shape o x fx p s.idle (λ z. count_by users z.far.came) refl)
       to-is x false none = sym (none-there (λ z. count_by users z.far.came) refl x none)
 
-      across : IsJoined shape → shape.nodes ≡ points → total settings w (came_from settings w test) ≡ total settings w (came_to settings w any_fate test)
+      pub across : IsJoined shape → shape.nodes ≡ points → total settings w (came_from settings w test) ≡ total settings w (came_to settings w any_fate test)
       across joined e =
           sum-alike (law.came_from shape users p) (λ x. if is_node settings x then came_from settings w test x else 0) points (λ x l. from-is x (is_node settings x) refl)
           ∙ subst (λ (n : ℕ). sum_to (law.came_from shape users p) n ≡ sum_to (law.came_to shape users p) n) e (came-across shape joined users p)
@@ -177,7 +179,7 @@ and-last : (u a : Bool) → a ≡ false → (u && a) ≡ false
 and-last true a e = e
 and-last false a e = refl
 
-module _ (settings : (point : ℕ) → Configuration) (t : AreTheirs settings) (w : NetworkState) (ends_once : (x : ℕ) → IsNode settings x → EndsOnce settings w x)
+module _ (settings : (point : ℕ) → Configuration) (t : ArePlaced settings) (w : NetworkState) (ends_once : (x : ℕ) → IsNode settings x → EndsOnce settings w x)
     (takes : (x : ℕ) → TakesEachIn settings w x) (across_all : (test : Message → Bool) → total settings w (came_from settings w test) ≡ total settings w (came_to settings w any_fate test)) where
   -- of a kind there is none at a node
   none-met : (kind : Fate → Bool) (test : Message → Bool) (x : ℕ) → ((f : Fate) → (kind f && test f.message) ≡ false) → met_at settings w kind test x ≡ 0
@@ -244,7 +246,7 @@ module _ (settings : (point : ℕ) → Configuration) (t : AreTheirs settings) (
       (λ f. relayed-sccp (is_here (settings x) f.message) (is_sccp f.message) (is_taken_on f.outcome || is_handled f.outcome) (test f.message))) points
 
   -- of the whole network
-  accounted : IsAccounted settings w
+  pub accounted : IsAccounted settings w
   accounted = record {
     once = λ test. with-none (for_user_parts test) (delivered (for_user_parts test)) refl (none-relayed test) (none-made test);
     with_sccp = λ test. with-both test (delivered test) (relayed test) refl refl;
@@ -290,7 +292,7 @@ module _ (settings : (point : ℕ) → Configuration) (t : AreTheirs settings) (
           (delivered-there (to_user_parts point test) (λ m e. and-last (not (is_sccp m)) (to_point point test m) (to-point m e)))
           (none-relayed (to_point point test)) (none-made (to_point point test))
 
-    end-to-end : ComeFromEndToEnd settings w point
+    pub end-to-end : ComeFromEndToEnd settings w point
     end-to-end = record {
       once = λ test. once test;
       with_sccp = λ test. with-sccp test;
@@ -300,7 +302,7 @@ module _ (settings : (point : ℕ) → Configuration) (t : AreTheirs settings) (
 
 -- ---- after every list of steps
 
-are-joined : IsJoined all_points
+pub are-joined : IsJoined all_points
 unfolding all_points
 are-joined = record { inside = λ link side l. within link side l }
   where
@@ -308,21 +310,23 @@ are-joined = record { inside = λ link side l. within link side l }
     within link Near l = omega (arith, l)
     within link Far l = omega (arith, l)
 
-all-nodes : all_points.nodes ≡ points
+pub all-nodes : all_points.nodes ≡ points
 unfolding all_points
 all-nodes = refl
 
 pub come-end-to-end : messages_come_from_end_to_end
-come-end-to-end settings steps point t fx none =
+come-end-to-end settings steps point its fx none =
+    let t : ArePlaced settings = placed settings its in
     let w : NetworkState = after_steps settings steps (first_network settings) in
     let r : (p : Network) × Sound all_points says_of p × Shown settings t w p = reached settings t all_points are-all (λ x fx. all-led (settings x)) steps none in
     let inside : point < points = (let l : nat_lt point points ≡ true = and-first (nat_lt point points) _ fx in grind (arith, nat_tests, l)) in
-    end-to-end settings t w (λ x fy. ends settings t all_points are-all w r.0 r.2 x fy r.1) (λ x. takes-each settings w x (all-in-order settings steps x))
-    (λ test. across settings t all_points are-all w r.0 r.1 r.2 test are-joined all-nodes) point fx inside
+    end-to-end settings t w (λ x fy. ends settings t all_points are-all w r.0 r.2 x fy (λ link inside. its.joined x link fy inside) r.1) (λ x. takes-each settings w x (all-in-order settings steps x))
+    (λ test. across settings t its.joined all_points are-all w r.0 r.1 r.2 test are-joined all-nodes) point fx inside
 
 pub all-accounted : each_message_is_accounted_for
-all-accounted settings steps t none =
+all-accounted settings steps its none =
+    let t : ArePlaced settings = placed settings its in
     let w : NetworkState = after_steps settings steps (first_network settings) in
     let r : (p : Network) × Sound all_points says_of p × Shown settings t w p = reached settings t all_points are-all (λ x fx. all-led (settings x)) steps none in
-    accounted settings t w (λ x fy. ends settings t all_points are-all w r.0 r.2 x fy r.1) (λ x. takes-each settings w x (all-in-order settings steps x))
-    (λ test. across settings t all_points are-all w r.0 r.1 r.2 test are-joined all-nodes)
+    accounted settings t w (λ x fy. ends settings t all_points are-all w r.0 r.2 x fy (λ link inside. its.joined x link fy inside) r.1) (λ x. takes-each settings w x (all-in-order settings steps x))
+    (λ test. across settings t its.joined all_points are-all w r.0 r.1 r.2 test are-joined all-nodes)

@@ -12,6 +12,7 @@ use Rattle.node_moves.proofs.FateCounts.{counted-messages}
 use Rattle.node_moves.proofs.Running.{all_points, are-all, all-led, reached}
 use Rattle.node_moves.specs.Networks.{Fate, NetworkState, LinkEnd, IsNode, other_end, after_steps, first_network, messages_of}
 use Rattle.node_moves.specs.Laws.{AreTheirs, is_user, came_by, received_by, waiting_on, came_from, waits_at, accepted_at, fates_that, any_fate, EndsOnce, each_message_ends_once}
+use Rattle.node_moves.specs.Outside.{ArePlaced}
 use Rattle.node_moves.specs.Laws as law
 use Rattle.exchange_rules.proofs.MadeManagement.{code-fits, adjacent-fits}
 use Rattle.network_moves.proofs.Counts.{count-cons, sum-alike, sum-but, sum-none, sum-added, if-true, if-false}
@@ -60,7 +61,14 @@ pub the-other : (q : Option LinkEnd) → is_some q ≡ true → (there : LinkEnd
 the-other (Some there) e = (there, refl)
 the-other None e = absurd cc
 
-module _ (settings : (point : ℕ) → Configuration) (t : AreTheirs settings) (shape : Shape) (o : IsShape shape) where
+module _ (settings : (point : ℕ) → Configuration) (t : ArePlaced settings) (shape : Shape) (o : IsShape shape) where
+  -- the other end of a line is at the point to which the link leads
+  pub peer-at : (y l : ℕ) → IsNode settings y → shape.point (place_at settings t y l).link (opposite (place_at settings t y l).side) ≡ peer_of (settings y) l
+  peer-at y l fy =
+      let c : Configuration = settings y in
+      let there : place_of (peer_of c l) c.own (entry_of c l).slc ≡ across (place_at settings t y l) = other-place c.own (peer_of c l) (entry_of c l).slc (own-apart c (t.well y fy) l) in
+      ap (point_at shape) (sym there) ∙ o.points (peer_of c l) c.own (entry_of c l).slc (adjacent-fits c (t.well y fy) (set_of c l)) (t.well y fy).own (code-fits c (t.well y fy) l)
+
   module _ (x : ℕ) (fx : IsNode settings x) (p : Network) (idle : (link : ℕ) → IsUnused settings t link → p.line link ≡ closed_line) where
     -- at the other end of a link is another node
     far-apart : (link : ℕ) → point_at shape (across (place_at settings t x link)) ≢ x
@@ -72,7 +80,7 @@ module _ (settings : (point : ℕ) → Configuration) (t : AreTheirs settings) (
         own-apart c (t.well x fx) link (t.own x fx ∙ sym same ∙ peer)
 
     -- a line at this node that is none of its links is no link of any node
-    no-link : (k : ℕ) (side : Side) → ((i : ℕ) → i < length (settings x).links → (place_at settings t x i).link ≢ k) → shape.point k side ≡ x → IsUnused settings t k
+    pub no-link : (k : ℕ) (side : Side) → ((i : ℕ) → i < length (settings x).links → (place_at settings t x i).link ≢ k) → shape.point k side ≡ x → IsUnused settings t k
     no-link k side none e y l fy inside same =
         let its : Place = place_at settings t y l in
         ⊎_elim
@@ -80,7 +88,9 @@ module _ (settings : (point : ℕ) → Configuration) (t : AreTheirs settings) (
         let is : y ≡ x = sym (t.own y fy) ∙ sym (at-own shape o (settings y) (t.well y fy) l) ∙ ap (λ (j : ℕ). shape.point j its.side) same ∙ ap (shape.point k) near ∙ e in
         none l (subst (λ (i : ℕ). l < length (settings i).links) is inside) (ap (λ (i : ℕ). (place_at settings t i l).link) (sym is) ∙ same))
         (λ (far : its.side ≡ opposite side).
-        let other : (there : LinkEnd) × (other_end settings y l ≡ Some there) = the-other (other_end settings y l) (t.joined y l fy inside) in
+        let to : peer_of (settings y) l ≡ x =
+        sym (peer-at y l fy) ∙ ap (λ (j : ℕ). shape.point j (opposite its.side)) same ∙ ap (λ (s : Side). shape.point k (opposite s)) far ∙ ap (shape.point k) (twice side) ∙ e in
+        let other : (there : LinkEnd) × (other_end settings y l ≡ Some there) = the-other (other_end settings y l) (t.joined y l fy inside (subst (IsNode settings) (sym to) fx)) in
         let h : IsOther settings t shape o y l other.0 = is-other settings t shape o y l other.0 fy inside other.1 in
         let is : other.0.point ≡ x =
         sym (t.own other.0.point h.within) ∙ sym (at-own shape o (settings other.0.point) (t.well other.0.point h.within) other.0.link) ∙ ap (point_at shape) h.place
@@ -169,7 +179,7 @@ waits-in Live q received = refl
 waits-in Moved q received = drop-nothing received
 waits-in Gone q received = drop-nothing received
 
-module _ (settings : (point : ℕ) → Configuration) (t : AreTheirs settings) (shape : Shape) (o : IsShape shape) (w : NetworkState) (p : Network) (s : Shown settings t w p) (x : ℕ) (fx : IsNode settings x) where
+module _ (settings : (point : ℕ) → Configuration) (t : ArePlaced settings) (shape : Shape) (o : IsShape shape) (w : NetworkState) (p : Network) (s : Shown settings t w p) (x : ℕ) (fx : IsNode settings x) where
   abbrev line_on : (link : ℕ) → Line
   line_on link = line_at p (place_at settings t x link)
 
@@ -183,18 +193,18 @@ module _ (settings : (point : ℕ) → Configuration) (t : AreTheirs settings) (
       let other : IsOther settings t shape o x link there = is-other settings t shape o x link there fx inside e in
       record { other = other; line = ap (line_at p) other.place ∙ across-line p (place_at settings t x link) }
 
-  pub came-by : (test : Message → Bool) (link : ℕ) → link < length (settings x).links
+  pub came-by : (test : Message → Bool) (link : ℕ) → link < length (settings x).links → is_some (other_end settings x link) ≡ true
       → count_by test (line_on link).near.came ≡ count_by test (messages_of (came_by settings w (other_end settings x link)))
-  came-by test link inside =
-      let found : (there : LinkEnd) × (other_end settings x link ≡ Some there) = the-other (other_end settings x link) (t.joined x link fx inside) in
+  came-by test link inside joined =
+      let found : (there : LinkEnd) × (other_end settings x link ≡ Some there) = the-other (other_end settings x link) joined in
       let f : IsFar link found.0 = far-end link found.0 inside found.1 in
       let there : LinkEnd = found.0 in
       let flown : IsFlown (w.node there.point) there.link (line_at p (place_at settings t there.point there.link)) = s.flown there.point there.link f.other.within f.other.inside in
       ap (λ (z : Line). count_by test z.far.came) (sym f.line) ∙ flown.came test ∙ ap (λ (q : Option LinkEnd). count_by test (messages_of (came_by settings w q))) (sym found.1)
 
-  pub waits-by : (link : ℕ) → link < length (settings x).links → waiting_on settings w x link ≡ waiting (line_on link)
-  waits-by link inside =
-      let found : (there : LinkEnd) × (other_end settings x link ≡ Some there) = the-other (other_end settings x link) (t.joined x link fx inside) in
+  pub waits-by : (link : ℕ) → link < length (settings x).links → is_some (other_end settings x link) ≡ true → waiting_on settings w x link ≡ waiting (line_on link)
+  waits-by link inside joined =
+      let found : (there : LinkEnd) × (other_end settings x link ≡ Some there) = the-other (other_end settings x link) joined in
       let there : LinkEnd = found.0 in
       let f : IsFar link there = far-end link there inside found.1 in
       let z : Line = line_on link in
@@ -209,72 +219,78 @@ module _ (settings : (point : ℕ) → Configuration) (t : AreTheirs settings) (
       ∙ ap (λ (q : Queue). drop z.far.queue.received q.all) here.queue
       ∙ waits-in z.near.phase z.near.queue z.far.queue.received
 
-  module _ (test : Message → Bool) where
-    abbrev users : Message → Bool
-    users = user says_of test
-
-    abbrev lines : ℕ
-    lines = length (settings x).links
-
-    pub came : sum_to (λ link. count_by users (line_on link).near.came) lines ≡ came_from settings w test x
-    came =
-        sum-alike (λ link. fates_that any_fate test (came_by settings w (other_end settings x link))) (λ link. count_by users (line_on link).near.came) lines
-        (λ link inside. came-by users link inside ∙ sym (fates-same test (came_by settings w (other_end settings x link))))
-
-    waits : sum_to (λ link. count_by users (waiting (line_on link))) lines ≡ sum_to (λ link. law.users_that test (waiting_on settings w x link)) lines
-    waits =
-        sum-alike (λ link. law.users_that test (waiting_on settings w x link)) (λ link. count_by users (waiting (line_on link))) lines
-        (λ link inside. ap (count_by users) (sym (waits-by link inside)) ∙ sym (users-same test (waiting_on settings w x link)))
-
-    -- all messages that went onto the links
-    all : sum_at shape x (booked users) p
-        ≡ came_from settings w test x + sum_to (λ link. law.users_that test (waiting_on settings w x link)) lines + sum_at shape x (lost users) p
-    all =
-        let on : sum_at shape x (booked users) p ≡ sum_to (λ link. booked users (line_on link)) lines = sum-ends settings t shape o x fx p s.idle (booked users) refl in
-        let off : sum_at shape x (lost users) p ≡ sum_to (λ link. lost users (line_on link)) lines = sum-ends settings t shape o x fx p s.idle (lost users) refl in
-        let parts : sum_to (λ link. booked users (line_on link)) lines
-        ≡ sum_to (λ link. count_by users (line_on link).near.came + count_by users (waiting (line_on link))) lines + sum_to (λ link. lost users (line_on link)) lines =
-        sum-added (λ link. booked users (line_on link)) (λ link. count_by users (line_on link).near.came + count_by users (waiting (line_on link))) (λ link. lost users (line_on link)) lines (λ link. omega arith) in
-        let both : sum_to (λ link. count_by users (line_on link).near.came + count_by users (waiting (line_on link))) lines
-        ≡ sum_to (λ link. count_by users (line_on link).near.came) lines + sum_to (λ link. count_by users (waiting (line_on link))) lines =
-        sum-added (λ link. count_by users (line_on link).near.came + count_by users (waiting (line_on link))) (λ link. count_by users (line_on link).near.came) (λ link. count_by users (waiting (line_on link))) lines
-        (λ link. refl) in
-        omega (arith, on, off, parts, both, came, waits)
-
   -- the books of the node's exchange
   pub node_books : IsBooked (p.node x) (rests settings t (w.node x))
   node_books = subst (λ (i : ℕ). IsBooked (p.node i) (rests settings t (w.node x))) (t.own x fx) (s.nodes x fx).booked
 
-  -- and what is gone of what it accepted
-  abbrev gone_of : (test : Message → Bool) → ℕ
-  gone_of test = users_that test (p.node x).gone + sum_at shape x (lost (user says_of test)) p
+  -- where each of its links has its other end
+  module _ (all_joined : (link : ℕ) → link < length (settings x).links → is_some (other_end settings x link) ≡ true) where
+    module _ (test : Message → Bool) where
+      abbrev users : Message → Bool
+      users = user says_of test
 
-  whole : Sound shape says_of p → (test : Message → Bool) → accepted_at settings w test x ≡ came_from settings w test x + waits_at settings w test x + gone_of test
-  whole h test =
-      let balances : Balances shape says_of p x = h.books x in
-      omega (
-        arith,
-        balances.each test,
-        node_books.bag (user says_of test),
-        node_books.accepted test,
-        all test,
-        users-same test (w.node x).accepted,
-        users-same test (w.node x).node.queues.held,
-      )
+      abbrev lines : ℕ
+      lines = length (settings x).links
 
-  few : Sound shape says_of p → (test : Message → Bool) → gone_of test ≤ users_that any_message (p.node x).named
-  few h test =
-      let balances : Balances shape says_of p x = h.books x in
-      omega (arith, balances.named test, fewer (user says_of test) (user says_of any_message) (p.node x).named (λ m. any-by (is_user_message (says_of m)) (test m)))
+      pub came : sum_to (λ link. count_by users (line_on link).near.came) lines ≡ came_from settings w test x
+      came =
+          sum-alike (λ link. fates_that any_fate test (came_by settings w (other_end settings x link))) (λ link. count_by users (line_on link).near.came) lines
+          (λ link inside. came-by users link inside (all_joined link inside) ∙ sym (fates-same test (came_by settings w (other_end settings x link))))
 
-  pub ends : Sound shape says_of p → EndsOnce settings w x
-  ends h = record {
-    once = λ test. omega (arith, whole h test);
-    named = λ test. omega (arith, whole h test, (h.books x).named test, node_books.within test, users-same test (w.node x).named);
-    counted = λ test. omega (arith, whole h test, few h test, node_books.named);
-  }
+      waits : sum_to (λ link. count_by users (waiting (line_on link))) lines ≡ sum_to (λ link. law.users_that test (waiting_on settings w x link)) lines
+      waits =
+          sum-alike (λ link. law.users_that test (waiting_on settings w x link)) (λ link. count_by users (waiting (line_on link))) lines
+          (λ link inside. ap (count_by users) (sym (waits-by link inside (all_joined link inside))) ∙ sym (users-same test (waiting_on settings w x link)))
+
+      -- all messages that went onto the links
+      all : sum_at shape x (booked users) p
+          ≡ came_from settings w test x + sum_to (λ link. law.users_that test (waiting_on settings w x link)) lines + sum_at shape x (lost users) p
+      all =
+          let on : sum_at shape x (booked users) p ≡ sum_to (λ link. booked users (line_on link)) lines = sum-ends settings t shape o x fx p s.idle (booked users) refl in
+          let off : sum_at shape x (lost users) p ≡ sum_to (λ link. lost users (line_on link)) lines = sum-ends settings t shape o x fx p s.idle (lost users) refl in
+          let parts : sum_to (λ link. booked users (line_on link)) lines
+          ≡ sum_to (λ link. count_by users (line_on link).near.came + count_by users (waiting (line_on link))) lines + sum_to (λ link. lost users (line_on link)) lines =
+          sum-added (λ link. booked users (line_on link)) (λ link. count_by users (line_on link).near.came + count_by users (waiting (line_on link))) (λ link. lost users (line_on link)) lines (λ link. omega arith) in
+          let both : sum_to (λ link. count_by users (line_on link).near.came + count_by users (waiting (line_on link))) lines
+          ≡ sum_to (λ link. count_by users (line_on link).near.came) lines + sum_to (λ link. count_by users (waiting (line_on link))) lines =
+          sum-added (λ link. count_by users (line_on link).near.came + count_by users (waiting (line_on link))) (λ link. count_by users (line_on link).near.came) (λ link. count_by users (waiting (line_on link))) lines
+          (λ link. refl) in
+          omega (arith, on, off, parts, both, came, waits)
+
+    -- and what is gone of what it accepted
+    abbrev gone_of : (test : Message → Bool) → ℕ
+    gone_of test = users_that test (p.node x).gone + sum_at shape x (lost (user says_of test)) p
+
+    whole : Sound shape says_of p → (test : Message → Bool) → accepted_at settings w test x ≡ came_from settings w test x + waits_at settings w test x + gone_of test
+    whole h test =
+        let balances : Balances shape says_of p x = h.books x in
+        omega (
+          arith,
+          balances.each test,
+          node_books.bag (user says_of test),
+          node_books.accepted test,
+          all test,
+          users-same test (w.node x).accepted,
+          users-same test (w.node x).node.queues.held,
+        )
+
+    few : Sound shape says_of p → (test : Message → Bool) → gone_of test ≤ users_that any_message (p.node x).named
+    few h test =
+        let balances : Balances shape says_of p x = h.books x in
+        omega (arith, balances.named test, fewer (user says_of test) (user says_of any_message) (p.node x).named (λ m. any-by (is_user_message (says_of m)) (test m)))
+
+    pub ends : Sound shape says_of p → EndsOnce settings w x
+    ends h = record {
+      once = λ test. omega (arith, whole h test);
+      named = λ test. omega (arith, whole h test, (h.books x).named test, node_books.within test, users-same test (w.node x).named);
+      counted = λ test. omega (arith, whole h test, few h test, node_books.named);
+    }
+
+pub placed : (settings : (point : ℕ) → Configuration) → AreTheirs settings → ArePlaced settings
+placed settings t = record { own = t.own; well = t.well; joined = λ point link f inside there. t.joined point link f inside }
 
 pub ends-once : each_message_ends_once
-ends-once settings steps x t fx none =
+ends-once settings steps x its fx none =
+    let t : ArePlaced settings = placed settings its in
     let r : (p : Network) × Sound all_points says_of p × Shown settings t (after_steps settings steps (first_network settings)) p = reached settings t all_points are-all (λ x fx. all-led (settings x)) steps none in
-    ends settings t all_points are-all (after_steps settings steps (first_network settings)) r.0 r.2 x fx r.1
+    ends settings t all_points are-all (after_steps settings steps (first_network settings)) r.0 r.2 x fx (λ link inside. its.joined x link fx inside) r.1

@@ -67,30 +67,30 @@ module _ (P : Configuration → NetworkNode → Type 0) (kept : IsKept P) where
       kept.flown c (happens c (CameUp link) x) (come_up c link x) (record { node = refl; submitted = refl; came = refl; accepted = refl; made = refl; named = refl })
       (kept.happened c (CameUp link) x h)
 
-  -- ---- in a network
+  -- ---- in a network, at one of its nodes
 
-  module _ (settings : (point : ℕ) → Configuration) where
-    abbrev All : NetworkState → Type 0
-    All w = (y : ℕ) → P (settings y) (w.node y)
+  module _ (settings : (point : ℕ) → Configuration) (y : ℕ) where
+    abbrev Holds : NetworkState → Type 0
+    Holds w = P (settings y) (w.node y)
 
-    by-change : (point : ℕ) (f : Configuration → NetworkNode → NetworkNode) (w : NetworkState) → ((c : Configuration) (x : NetworkNode) → P c x → P c (f c x)) → All w → All (changed point (f (settings point)) w)
-    by-change point f w keeps h y = by (nat_eq y point) refl
+    by-change : (point : ℕ) (f : Configuration → NetworkNode → NetworkNode) (w : NetworkState) → ((c : Configuration) (x : NetworkNode) → P c x → P c (f c x)) → Holds w → Holds (changed point (f (settings point)) w)
+    by-change point f w keeps h = by (nat_eq y point) refl
       where
         by : (b : Bool) → nat_eq y point ≡ b → P (settings y) (if b then f (settings point) (w.node y) else w.node y)
-        by true e = subst (λ (p : ℕ). P (settings y) (f (settings p) (w.node y))) (eqb-true y point e) (keeps (settings y) (w.node y) (h y))
-        by false e = h y
+        by true e = subst (λ (p : ℕ). P (settings y) (f (settings p) (w.node y))) (eqb-true y point e) (keeps (settings y) (w.node y) h)
+        by false e = h
 
-    flown : (frame : FrameValue) (there : Option LinkEnd) (w : NetworkState) → All w → All (flies frame there w)
+    flown : (frame : FrameValue) (there : Option LinkEnd) (w : NetworkState) → Holds w → Holds (flies frame there w)
     flown frame None w h = h
     flown frame (Some there) w h = by-change there.point (λ c x. reach frame there.link x) w (λ c x k. kept.flown c x (reach frame there.link x) (reached frame there.link x) k) h
 
-    fetched : (next : Option FrameValue) (point link : ℕ) (w : NetworkState) → All w → All (fetch settings next point link w)
+    fetched : (next : Option FrameValue) (point link : ℕ) (w : NetworkState) → Holds w → Holds (fetch settings next point link w)
     fetched None point link w h = h
     fetched (Some frame) point link w h =
         flown frame (other_end settings point link) (of_nodes.sent settings point link w)
         (by-change point (λ c x. record x { node = after_take whole c link x.node }) w (λ c x k. kept.taken c link x k) h)
 
-    opened : (wants : Wants) (may : Bool) (point link : ℕ) (there : Option LinkEnd) (w : NetworkState) → All w → All (open_first settings wants may point link there w)
+    opened : (wants : Wants) (may : Bool) (point link : ℕ) (there : Option LinkEnd) (w : NetworkState) → Holds w → Holds (open_first settings wants may point link there w)
     opened Open true point link (Some there) w h =
         by-change there.point (λ c x. be_led there.link x) (changed point (come_up (settings point) link) w)
         (λ c x k. kept.flown c x (be_led there.link x) (record { node = refl; submitted = refl; came = refl; accepted = refl; made = refl; named = refl }) k)
@@ -100,7 +100,7 @@ module _ (P : Configuration → NetworkNode → Type 0) (kept : IsKept P) where
     opened Nothing may point link there w h = h
     opened Close may point link there w h = h
 
-    did-keeps : (what : Doing) (point : ℕ) (w : NetworkState) → All w → All (did settings what point w)
+    did-keeps : (what : Doing) (point : ℕ) (w : NetworkState) → Holds w → Holds (did settings what point w)
     did-keeps (of_nodes.Submits m) point w h = by-change point (λ c x. hand_over c m x) w (λ c x k. kept.handed c m x k) h
     did-keeps (of_nodes.Takes link) point w h = fetched (frame_taken whole (settings point) link (w.node point).node) point link w h
     did-keeps (of_nodes.Delivers link) point w h = by-change point (λ c x. did_here (of_nodes.Delivers link) c x) w (λ c x k. next-heard c link x (next_in c link (x.user_data link)) refl k) h
@@ -121,16 +121,16 @@ module _ (P : Configuration → NetworkNode → Type 0) (kept : IsKept P) where
     did-keeps (of_nodes.OpensSecond link) point w h =
         by-change point (λ c x. did_here (of_nodes.OpensSecond link) c x) w (λ c x k. followed c (wanted x.node.parts link) (x.follows link) link x k) h
 
-    step-keeps : (step : Step) (w : NetworkState) → All w → All (after_step settings step w)
-    step-keeps step w h = by (is_node settings step.point)
+    pub one-step : (step : Step) (w : NetworkState) → Holds w → Holds (after_step settings step w)
+    one-step step w h = by (is_node settings step.point)
       where
-        by : (b : Bool) → All (if b then did settings step.what step.point w else w)
+        by : (b : Bool) → Holds (if b then did settings step.what step.point w else w)
         by true = did-keeps step.what step.point w h
         by false = h
 
-    steps-keep : (steps : List Step) (w : NetworkState) → All w → All (after_steps settings steps w)
+    pub steps-keep : (steps : List Step) (w : NetworkState) → Holds w → Holds (after_steps settings steps w)
     steps-keep [] w h = h
-    steps-keep (step ∷ steps) w h = steps-keep steps (after_step settings step w) (step-keeps step w h)
+    steps-keep (step ∷ steps) w h = steps-keep steps (after_step settings step w) (one-step step w h)
 
-    pub everywhere : ((c : Configuration) → P c (first_node c)) → (steps : List Step) (y : ℕ) → P (settings y) ((after_steps settings steps (first_network settings)).node y)
-    everywhere first steps = steps-keep steps (first_network settings) (λ y. first (settings y))
+  pub everywhere : (settings : (point : ℕ) → Configuration) → ((c : Configuration) → P c (first_node c)) → (steps : List Step) (y : ℕ) → P (settings y) ((after_steps settings steps (first_network settings)).node y)
+  everywhere settings first steps y = steps-keep settings y steps (first_network settings) (first (settings y))

@@ -5,6 +5,7 @@ use Rattle.node_moves.proofs.Definitions.{Message, dpc_of, Configuration, IsWell
 use Rattle.node_moves.proofs.Reading.{IsShape, says_of, order_at, answer_at, read_says}
 use Rattle.node_moves.proofs.Sets.{with_end, end-set}
 use Rattle.node_moves.proofs.Shown.{Books, Shows, IsShown, IsAlike, IsSized, IsBooked, Marks, marks_of, shown_in, is_heard, place, users_that, any_message, most, link-inside, own-inside, at-own}
+use Rattle.node_moves.proofs.Grown.{same-grown}
 use Rattle.node_moves.proofs.Going.{IsAt, Arrives, Goes, by-line}
 use Rattle.node_moves.proofs.Handling.{mid, end-at}
 use Rattle.node_moves.proofs.Own.{K, made-read}
@@ -97,8 +98,8 @@ module _ (shape : Shape) (o : IsShape shape) (c : Configuration) (well : IsWell 
     pub shown : IsShown m link end
     pub move : Move shape says_of p (with_end shape p (place c link) end x)
 
-  pub arrives-by-end : (p : Network) (n m : Node WholeQueues) (link : ℕ) (a l : List Message) (k : Books) → Shows c p (mid n a l k) → IsAlikeBut c n m link → link < length c.links
-      → Changes p m link (node_at shape p (place c link)) → Arrives shape c p (mid m a l k)
+  pub arrives-by-end : {times : ℕ} (p : Network) (n m : Node WholeQueues) (link : ℕ) (a l : List Message) (k : Books) → Shows c p (mid n a l k) → IsAlikeBut c n m link → link < length c.links
+      → Changes p m link (node_at shape p (place c link)) → Arrives shape c times p (mid m a l k)
   arrives-by-end p n m link a l k s e inside h =
       by-line shape o c well p (mid n a l k) (mid m a l k) link h.end (node_at shape p (place c link)) s
       (record {
@@ -115,7 +116,7 @@ module _ (shape : Shape) (o : IsShape shape) (c : Configuration) (well : IsWell 
       → ((p : Network) → IsAt shape c p → IsSized c n → link < length c.links → IsShown n link (line_at p (place c link)).near → Changes p m link (node_at shape p (place c link))) → K shape o c well n m
   goes-by-end n m link e inside f = record {
     each = λ a l k. record {
-      unbroken = λ none. sym (ap (λ (k : Marks). k.broken) e.marks) ∙ none;
+      grown = same-grown (ap (λ (k : Marks). k.broken) e.marks);
       goes = λ p h s. arrives-by-end p n m link a l k s e (inside s.sized) (f p h s.sized (inside s.sized) (s.ends link (inside s.sized)));
     };
   }
@@ -165,7 +166,7 @@ module _ (shape : Shape) (o : IsShape shape) (c : Configuration) (well : IsWell 
   pub orders : (n m : Node WholeQueues) (link : ℕ) (a l : List Message) (k : Books) → IsAlikeBut c n m link → (IsSized c n → link < length c.links) → (IsSized c n → link < length c.links → HasAsked n m link)
       → Goes shape c (mid n a l k) (mid m a (changeover_order c link (last_accepted (queue_at n.queues link)) ∷ l) k)
   orders n m link a l k e listed f = record {
-    unbroken = λ none. sym (ap (λ (k : Marks). k.broken) e.marks) ∙ none;
+    grown = same-grown (ap (λ (k : Marks). k.broken) e.marks);
     goes = λ p h s.
         let its : Place = place c link in
         let near : LinkEnd = (line_at p its).near in

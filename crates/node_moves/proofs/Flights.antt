@@ -9,7 +9,7 @@ use Rattle.node_moves.proofs.Failures.{node-there}
 use Rattle.node_moves.proofs.World.{IsFlown, AreData, AreStatuses, ShownAt, place_at, rests}
 use Rattle.node_moves.proofs.Relining.{reline, with_line}
 use Rattle.node_moves.specs.Networks.{Fate, NetworkNode, NetworkState, IsNode, changed, messages_of, updated}
-use Rattle.node_moves.specs.Laws.{AreTheirs}
+use Rattle.node_moves.specs.Outside.{ArePlaced}
 use Rattle.network_moves.specs.Carrying.{with_statuses_left}
 use Rattle.network_moves.specs.Networks as net
 
@@ -66,7 +66,7 @@ far-flown e l y z k h = record {
   came = λ test. ap (count_by test) k.near_came ∙ h.came test;
 }
 
-module _ (settings : (point : ℕ) → Configuration) (t : AreTheirs settings) (shape : Shape) (o : IsShape shape) where
+module _ (settings : (point : ℕ) → Configuration) (t : ArePlaced settings) (shape : Shape) (o : IsShape shape) where
   abbrev at_place : (x link : ℕ) → Place
   at_place x link = place_at settings t x link
 

@@ -2,6 +2,7 @@
 use Rattle.node_moves.proofs.Basics.{◌≡◌, ◌≢◌, ℕ, Bool, true, false, ◌<◌, List, [], ◌∷◌, ◌++◌, length, Some, refl, ap, sym, subst, ◌∙◌, ⊎_elim, cases_eq, ne_eqb, eq-eqb, if◌then◌else◌}
 use Rattle.node_moves.proofs.Machine.{Other, seen, LinkEnd, Line, Network, Shape, Place, line_at, point_at, Move, Moves, last_of}
 use Rattle.node_moves.proofs.Definitions.{Message, flow_of, Configuration, IsWell, Parts, link_of}
+use Rattle.node_moves.proofs.Grown.{Grown, IsUnraised, same-grown, both-grown, unraised-first, unraised-then}
 use Rattle.node_moves.proofs.Reading.{IsShape, says_of}
 use Rattle.node_moves.proofs.Sets.{StaysAround, around-none, around-both, around-node, around-end, around-broken, with_end, with_broken, with_node, with_near, line-here, line-other, node-here}
 use Rattle.node_moves.proofs.Shown.{Mid, Shows, IsShown, IsAlike, IsSized, HasWays, IsBooked, shown-alike, place, links-apart, at-own}
@@ -29,9 +30,8 @@ module _ (shape : Shape) where
         → shape.leads (place c link).link (place c link).side m ≡ true
     pub others : (m : Message) (link : ℕ) → says_of m ≡ Other → shape.leads (place c link).link (place c link).side m ≡ true
 
-  -- no node may start again, and what then holds whatever was broken does; and messages may go where the settings lead
+  -- what holds whatever was broken does; and messages may go where the settings lead
   pub record IsAt (c : Configuration) (p : Network) : Type 0 where
-    pub lasting : (point : ℕ) → shape.restarts point ≡ false
     pub lasts : Lasts shape says_of p
     pub led : IsLed c
 
@@ -42,52 +42,53 @@ module _ (shape : Shape) where
   abbrev pub is_broken : Mid → ℕ
   is_broken v = v.node.parts.times_broken
 
-  -- moves that break the node lead only to where it counted that
-  pub record Arrives (c : Configuration) (p : Network) (v : Mid) : Type 0 where
+  -- moves lead there; those that break the node, only where it has counted more than so often
+  pub record Arrives (c : Configuration) (times : ℕ) (p : Network) (v : Mid) : Type 0 where
     pub networks : List Network
     pub moves : Moves shape says_of p networks
-    pub broken : is_broken v ≡ 0 → (last_of p networks).broken c.own ≡ p.broken c.own
+    pub broken : IsUnraised times (is_broken v) → (last_of p networks).broken c.own ≡ p.broken c.own
     pub around : StaysAround shape c.own p (last_of p networks)
     pub idle : (link : ℕ) → IsNoneOf c link → (last_of p networks).line link ≡ p.line link
     pub shows : Shows c (last_of p networks) v
 
   pub record Goes (c : Configuration) (v w : Mid) : Type 0 where
-    pub unbroken : is_broken w ≡ 0 → is_broken v ≡ 0
-    pub goes : (p : Network) → IsAt c p → Shows c p v → Arrives c p w
+    pub grown : Grown (is_broken v) (is_broken w)
+    pub goes : (p : Network) → IsAt c p → Shows c p v → Arrives c (is_broken v) p w
 
-  pub at-last : (c : Configuration) (p : Network) (v : Mid) (a : Arrives c p v) → IsAt c p → IsAt c (last_of p a.networks)
-  at-last c p v a h = record { lasting = h.lasting; lasts = lasts-after shape says_of h.lasting p a.networks a.moves h.lasts; led = h.led }
+  pub at-last : {times : ℕ} (c : Configuration) (p : Network) (v : Mid) (a : Arrives c times p v) → IsAt c p → IsAt c (last_of p a.networks)
+  at-last c p v a h = record { lasts = lasts-after shape says_of p a.networks a.moves h.lasts; led = h.led }
 
-  pub arrives-both : (c : Configuration) (p : Network) (v w : Mid) → (is_broken w ≡ 0 → is_broken v ≡ 0) → (a : Arrives c p v) → Arrives c (last_of p a.networks) w → Arrives c p w
-  arrives-both c p v w f a b = record {
+  pub arrives-both : {times : ℕ} (c : Configuration) (p : Network) (v w : Mid) → Grown times (is_broken v) → Grown (is_broken v) (is_broken w) → (a : Arrives c times p v) → Arrives c (is_broken v) (last_of p a.networks) w
+      → Arrives c times p w
+  arrives-both c p v w e f a b = record {
     networks = a.networks ++ b.networks;
     moves = moves-append p a.networks b.networks a.moves b.moves;
-    broken = λ none. ap (λ (q : Network). q.broken c.own) (last-append p a.networks b.networks) ∙ b.broken none ∙ a.broken (f none);
+    broken = λ none. ap (λ (q : Network). q.broken c.own) (last-append p a.networks b.networks) ∙ b.broken (unraised-then e f none) ∙ a.broken (unraised-first e f none);
     around = subst (StaysAround shape c.own p) (sym (last-append p a.networks b.networks)) (around-both shape c.own p (last_of p a.networks) (last_of (last_of p a.networks) b.networks) a.around b.around);
     idle = λ link h. ap (λ (q : Network). q.line link) (last-append p a.networks b.networks) ∙ b.idle link h ∙ a.idle link h;
     shows = subst (λ (q : Network). Shows c q w) (sym (last-append p a.networks b.networks)) b.shows;
   }
 
-  pub arrives-here : (c : Configuration) (p : Network) (v : Mid) → Shows c p v → Arrives c p v
+  pub arrives-here : {times : ℕ} (c : Configuration) (p : Network) (v : Mid) → Shows c p v → Arrives c times p v
   arrives-here c p v s = record { networks = []; moves = tt; broken = λ none. refl; around = around-none shape c.own p; idle = λ link h. refl; shows = s }
 
-  pub arrives-one : (c : Configuration) (p q : Network) (v : Mid) → Move shape says_of p q → (is_broken v ≡ 0 → q.broken c.own ≡ p.broken c.own) → StaysAround shape c.own p q → ((link : ℕ) → IsNoneOf c link → q.line link ≡ p.line link) → Shows c q v → Arrives c p v
+  pub arrives-one : {times : ℕ} (c : Configuration) (p q : Network) (v : Mid) → Move shape says_of p q → (IsUnraised times (is_broken v) → q.broken c.own ≡ p.broken c.own) → StaysAround shape c.own p q → ((link : ℕ) → IsNoneOf c link → q.line link ≡ p.line link) → Shows c q v → Arrives c times p v
   arrives-one c p q v m b s i h = record { networks = q ∷ []; moves = (m, tt); broken = b; around = s; idle = i; shows = h }
 
   pub goes-none : (c : Configuration) (v : Mid) → Goes c v v
-  goes-none c v = record { unbroken = λ e. e; goes = λ p h s. arrives-here c p v s }
+  goes-none c v = record { grown = same-grown refl; goes = λ p h s. arrives-here c p v s }
 
   pub goes-both : (c : Configuration) (u v w : Mid) → Goes c u v → Goes c v w → Goes c u w
   goes-both c u v w f g = record {
-    unbroken = λ e. f.unbroken (g.unbroken e);
+    grown = both-grown f.grown g.grown;
     goes = λ p h s.
-        let a : Arrives c p v = f.goes p h s in
-        arrives-both c p v w g.unbroken a (g.goes (last_of p a.networks) (at-last c p v a h) a.shows);
+        let a : Arrives c (is_broken u) p v = f.goes p h s in
+        arrives-both c p v w f.grown g.grown a (g.goes (last_of p a.networks) (at-last c p v a h) a.shows);
   }
 
   -- what a network that shows it says, may be asked
-  pub goes-asking : (c : Configuration) (v w : Mid) → (is_broken w ≡ 0 → is_broken v ≡ 0) → ((p : Network) → IsAt c p → Shows c p v → Goes c v w) → Goes c v w
-  goes-asking c v w f g = record { unbroken = f; goes = λ p h s. (g p h s).goes p h s }
+  pub goes-asking : (c : Configuration) (v w : Mid) → Grown (is_broken v) (is_broken w) → ((p : Network) → IsAt c p → Shows c p v → Goes c v w) → Goes c v w
+  goes-asking c v w f g = record { grown = f; goes = λ p h s. (g p h s).goes p h s }
 
 -- ---- one move
 
@@ -127,8 +128,8 @@ module _ (shape : Shape) (o : IsShape shape) (c : Configuration) (well : IsWell 
         booked = subst (λ (k : ℕ). IsBooked (q.node k) w) (at-own shape o c well link) (subst (λ (y : net.Node). IsBooked y w) (sym (node-here shape p its e x)) i.booked);
       }
 
-  pub by-line : (p : Network) (v w : Mid) (link : ℕ) (e : LinkEnd) (x : net.Node) → Shows c p v → IsStep p v w link e x
-      → Move shape says_of p (with_end shape p (place c link) e x) → Arrives shape c p w
+  pub by-line : {times : ℕ} (p : Network) (v w : Mid) (link : ℕ) (e : LinkEnd) (x : net.Node) → Shows c p v → IsStep p v w link e x
+      → Move shape says_of p (with_end shape p (place c link) e x) → Arrives shape c times p w
   by-line p v w link e x s i m =
       arrives-one shape c p (with_end shape p (place c link) e x) w m (λ none. refl) (step-around p v w link e x i) (step-idle p v w link e x i) (step-shows p v w link e x s i)
 
@@ -136,8 +137,8 @@ module _ (shape : Shape) (o : IsShape shape) (c : Configuration) (well : IsWell 
   abbrev pub breaking_end : (p : Network) (link : ℕ) → LinkEnd → net.Node → Network
   breaking_end p link e x = with_broken (with_end shape p (place c link) e x) (point_at shape (place c link))
 
-  pub by-break : (p : Network) (v w : Mid) (link : ℕ) (e : LinkEnd) (x : net.Node) → Shows c p v → IsStep p v w link e x → (is_broken shape w ≡ 0 → ⊥)
-      → Move shape says_of p (breaking_end p link e x) → Arrives shape c p w
+  pub by-break : {times : ℕ} (p : Network) (v w : Mid) (link : ℕ) (e : LinkEnd) (x : net.Node) → Shows c p v → IsStep p v w link e x → (IsUnraised times (is_broken shape w) → ⊥)
+      → Move shape says_of p (breaking_end p link e x) → Arrives shape c times p w
   by-break p v w link e x s i counted m =
       let q : Network = with_end shape p (place c link) e x in
       let shows : Shows c q w = step-shows p v w link e x s i in
@@ -146,8 +147,8 @@ module _ (shape : Shape) (o : IsShape shape) (c : Configuration) (well : IsWell 
       (step-idle p v w link e x i) (record { sized = shows.sized; ends = shows.ends; booked = shows.booked })
 
   -- only the node is another
-  pub by-node : (p : Network) (v w : Mid) (x : net.Node) → Shows c p v → IsSized c w.node → ((link : ℕ) → IsAlike v.node w.node link) → IsBooked x w
-      → Move shape says_of p (with_node p c.own x) → Arrives shape c p w
+  pub by-node : {times : ℕ} (p : Network) (v w : Mid) (x : net.Node) → Shows c p v → IsSized c w.node → ((link : ℕ) → IsAlike v.node w.node link) → IsBooked x w
+      → Move shape says_of p (with_node p c.own x) → Arrives shape c times p w
   by-node p v w x s sized alike booked m =
       arrives-one shape c p (with_node p c.own x) w m (λ none. refl) (around-node shape c.own p x) (λ link h. refl)
       (record {

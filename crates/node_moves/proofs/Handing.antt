@@ -11,13 +11,14 @@ use Rattle.node_moves.proofs.Failing.{fail-goes}
 use Rattle.node_moves.proofs.Aligning.{HeardAt, link_status-if}
 use Rattle.node_moves.proofs.Events.{late_by-goes}
 use Rattle.node_moves.proofs.World.{IsFlown, books_of, AreData, data_of, IsStatus, AreStatuses, ShownAt, Shown, rests, place_at, at-work}
+use Rattle.node_moves.proofs.Grown.{Grown, same-grown, both-grown}
 use Rattle.node_moves.proofs.Relining.{Leads, leads-one, leads-both, leads-at, leads-goes, leads-arrives, with_line, line-set, here-line}
 use Rattle.node_moves.proofs.Flights.{IsSameFlight, came-alike, changed-here, changed-other, updated-here, updated-other, OnlyHere, only-changed, statuses-changed, reline-near}
-use Rattle.node_moves.proofs.Steps.{StepGoes, finish, broken-before, event-settles, outcome-same, statuses-step}
+use Rattle.node_moves.proofs.Steps.{StepGoes, finish, grown-before, event-settles, outcome-same, statuses-step}
 use Rattle.node_moves.proofs.Coming.{popped, unseen, messages-append, messages-unseen}
 use Rattle.node_moves.proofs.Data.{there, Comes_in, kind-comes}
 use Rattle.node_moves.specs.Networks.{Fate, NetworkNode, NetworkState, IsNode, changed, updated, fates, hear_data, hear_status, with_statuses, state_of, messages_of}
-use Rattle.node_moves.specs.Laws.{AreTheirs}
+use Rattle.node_moves.specs.Outside.{ArePlaced}
 use Rattle.exchange_rules.specs.Conserving.{brought_by}
 use Rattle.exchange_rules.specs.Conserving as of_rules
 unfoldable use Rattle.exchange_rules.specs.Exchange.{apply}
@@ -53,7 +54,7 @@ changed-alike x f g w same = λ i. record { node = λ other. each other i }
         ap (λ (b : Bool). if b then f (w.node other) else w.node other) (ne_eqb other x d) ∙ ap (λ (b : Bool). if b then g (w.node other) else w.node other) (sym (ne_eqb other x d)))
         (cases_eq other x)
 
-module _ (settings : (point : ℕ) → Configuration) (t : AreTheirs settings) (shape : Shape) (o : IsShape shape) (w : NetworkState) (x link : ℕ) (fx : IsNode settings x) (inside : link < length (settings x).links) where
+module _ (settings : (point : ℕ) → Configuration) (t : ArePlaced settings) (shape : Shape) (o : IsShape shape) (w : NetworkState) (x link : ℕ) (fx : IsNode settings x) (inside : link < length (settings x).links) where
   abbrev c : Configuration
   c = settings x
 
@@ -71,11 +72,11 @@ module _ (settings : (point : ℕ) → Configuration) (t : AreTheirs settings) (
 
   -- ---- what was broken stays so, whatever comes
 
-  aside-unbroken : (fault : FrameFault) → down n.parts link ≡ false → (leave_aside whole c link fault n).left.parts.times_broken ≡ 0 → n.parts.times_broken ≡ 0
-  aside-unbroken faults.Length up none = ((fail-goes shape o c well link n reasons.Length up).each [] [] no_books).unbroken none
-  aside-unbroken faults.Short up none = none
-  aside-unbroken faults.Version up none = none
-  aside-unbroken faults.Unknown up none = none
+  aside-grown : (fault : FrameFault) → down n.parts link ≡ false → Grown n.parts.times_broken (leave_aside whole c link fault n).left.parts.times_broken
+  aside-grown faults.Length up = ((fail-goes shape o c well link n reasons.Length up).each [] [] no_books).grown
+  aside-grown faults.Short up = same-grown refl
+  aside-grown faults.Version up = same-grown refl
+  aside-grown faults.Unknown up = same-grown refl
 
   read-is : (text : List ℕ) (value : FrameValue) → read_frame text ≡ Ok value → is_link n.parts link ≡ true → down n.parts link ≡ false → receive whole c link text n ≡ read whole c link (Ok value) n
   read-is text value e listed up =
@@ -83,24 +84,27 @@ module _ (settings : (point : ℕ) → Configuration) (t : AreTheirs settings) (
       ∙ ap (λ (b : Bool). if b then answer Ignored n else read whole c link (read_frame text) n) up
       ∙ ap (λ (r : Result FrameValue FrameFault). read whole c link r n) e
 
-  read-unbroken : (text : List ℕ) (r : Result FrameValue FrameFault) → read_frame text ≡ r → is_link n.parts link ≡ true → down n.parts link ≡ false → (read whole c link r n).left.parts.times_broken ≡ 0 → n.parts.times_broken ≡ 0
-  read-unbroken text (Err fault) e there up none = aside-unbroken fault up none
-  read-unbroken text (Ok (StatusFrame bsn fsn status)) e there up none = ((link_status-if shape o c well link status n).each [] [] no_books).unbroken none
-  read-unbroken text (Ok (EmptyFrame bsn fsn)) e listed up none =
-      (kind-comes settings t shape o (record { node = λ y. record (w.node y) { user_data = λ l. text ∷ [] } }) x link fx inside text [] refl (EmptyFrame bsn fsn) e _ refl).unbroken
-      (subst (λ (d : Done WholeQueues). d.left.parts.times_broken ≡ 0) (sym (read-is text (EmptyFrame bsn fsn) e listed up)) none)
-  read-unbroken text (Ok (MessageFrame bsn fsn sio sif)) e listed up none =
-      (kind-comes settings t shape o (record { node = λ y. record (w.node y) { user_data = λ l. text ∷ [] } }) x link fx inside text [] refl (MessageFrame bsn fsn sio sif) e _ refl).unbroken
-      (subst (λ (d : Done WholeQueues). d.left.parts.times_broken ≡ 0) (sym (read-is text (MessageFrame bsn fsn sio sif) e listed up)) none)
+  abbrev grows_to : Done WholeQueues → Type 0
+  grows_to d = Grown n.parts.times_broken d.left.parts.times_broken
 
-  received-unbroken : (text : List ℕ) (l b : Bool) → is_link n.parts link ≡ l → down n.parts link ≡ b
-      → (if l then (if b then answer Ignored n else read whole c link (read_frame text) n) else refuse causes.NoSuchName n).left.parts.times_broken ≡ 0 → n.parts.times_broken ≡ 0
-  received-unbroken text true true e f none = none
-  received-unbroken text true false e f none = read-unbroken text (read_frame text) refl e f none
-  received-unbroken text false b e f none = none
+  read-grown : (text : List ℕ) (r : Result FrameValue FrameFault) → read_frame text ≡ r → is_link n.parts link ≡ true → down n.parts link ≡ false → grows_to (read whole c link r n)
+  read-grown text (Err fault) e there up = aside-grown fault up
+  read-grown text (Ok (StatusFrame bsn fsn status)) e there up = ((link_status-if shape o c well link status n).each [] [] no_books).grown
+  read-grown text (Ok (EmptyFrame bsn fsn)) e listed up =
+      subst grows_to (read-is text (EmptyFrame bsn fsn) e listed up)
+      (kind-comes settings t shape o (record { node = λ y. record (w.node y) { user_data = λ l. text ∷ [] } }) x link fx inside text [] refl (EmptyFrame bsn fsn) e _ refl).grown
+  read-grown text (Ok (MessageFrame bsn fsn sio sif)) e listed up =
+      subst grows_to (read-is text (MessageFrame bsn fsn sio sif) e listed up)
+      (kind-comes settings t shape o (record { node = λ y. record (w.node y) { user_data = λ l. text ∷ [] } }) x link fx inside text [] refl (MessageFrame bsn fsn sio sif) e _ refl).grown
 
-  pub frame-unbroken : (text : List ℕ) → (receive whole c link text n).left.parts.times_broken ≡ 0 → n.parts.times_broken ≡ 0
-  frame-unbroken text none = received-unbroken text (is_link n.parts link) (down n.parts link) refl refl none
+  received-grown : (text : List ℕ) (l b : Bool) → is_link n.parts link ≡ l → down n.parts link ≡ b
+      → grows_to (if l then (if b then answer Ignored n else read whole c link (read_frame text) n) else refuse causes.NoSuchName n)
+  received-grown text true true e f = same-grown refl
+  received-grown text true false e f = read-grown text (read_frame text) refl e f
+  received-grown text false b e f = same-grown refl
+
+  pub frame-grown : (text : List ℕ) → grows_to (receive whole c link text n)
+  frame-grown text = received-grown text (is_link n.parts link) (down n.parts link) refl refl
 
   -- the end of a frame's event
   abbrev lost_by : (text : List ℕ) → List Message
@@ -134,16 +138,16 @@ module _ (settings : (point : ℕ) → Configuration) (t : AreTheirs settings) (
       let is : v.node x ≡ f (w.node x) = changed-here x f w in
       let new : List Message = option_to_list (new_message link text (state_of c (w.node x))) in
       record {
-        unbroken = broken-before settings t shape o w v x fx (λ y d. changed-other x f w y d)
-            (λ none. frame-unbroken text ((after-frame text no_books).unbroken (ap (λ (e : NetworkNode). e.node.parts.times_broken) (sym is) ∙ none)));
+        grown = grown-before settings t shape o w v x fx (λ y d. changed-other x f w y d)
+            (both-grown (frame-grown text) (both-grown (after-frame text no_books).grown (same-grown (ap (λ (e : NetworkNode). e.node.parts.times_broken) is))));
         goes = λ p h s.
             let came : Comes_in settings t shape o w x link fx inside text rest flying = comes text rest flying p s in
             let j : Books = accepting k (brought_by (new_message link text (state_of c (w.node x))) (receive whole c link text n).outcome c (accept_text link (read_frame text) (state_of c (w.node x)))) in
-            let l : Leads settings t shape o p (changed x (popped link new) w) x (mid (receive whole c link text n).left [] [] j) =
+            let l : Leads settings t shape o n.parts.times_broken p (changed x (popped link new) w) x (mid (receive whole c link text n).left [] [] j) =
             came.leads p (h x fx) (at-work settings t w x p fx s) in
-            let m : Leads settings t shape o p (changed x (popped link new) w) x (mid (apply whole c (FrameCame link text) n).left [] [] (naming j (lost_by text))) =
+            let m : Leads settings t shape o n.parts.times_broken p (changed x (popped link new) w) x (mid (apply whole c (FrameCame link text) n).left [] [] (naming j (lost_by text))) =
             leads-goes settings t shape o p (changed x (popped link new) w) x (mid (receive whole c link text n).left [] [] j) (mid (apply whole c (FrameCame link text) n).left [] [] (naming j (lost_by text))) fx (h x fx) l (after-frame text j) in
-            finish settings t shape o p (changed x (popped link new) w) v x fx (mid (apply whole c (FrameCame link text) n).left [] [] (naming j (lost_by text))) m
+            finish settings t shape o w p (changed x (popped link new) w) v x fx (mid (apply whole c (FrameCame link text) n).left [] [] (naming j (lost_by text))) m
             (ap (λ (r : Outcome). mid (apply whole c (FrameCame link text) n).left [] []
             (naming (accepting k (brought_by (new_message link text (state_of c (w.node x))) r c (accept_text link (read_frame text) (state_of c (w.node x))))) (lost_by text))) (sym (outcome-same c (FrameCame link text) n))
             ∙ ap (rests settings t) (sym is))
@@ -187,7 +191,7 @@ module _ (settings : (point : ℕ) → Configuration) (t : AreTheirs settings) (
 
   -- the first status is in flight no more
   takes-status : (m : Mid) (q : Network) (text : List ℕ) (rest : List (List ℕ)) → (w.node x).statuses link ≡ text ∷ rest → ShownAt settings t w x m q
-      → (l : Leads settings t shape o q (changed x (left_with rest) w) x m) × ((line_at (last_of q l.networks) its).near ≡ (line_at q its).near)
+      → (l : Leads settings t shape o m.node.parts.times_broken q (changed x (left_with rest) w) x m) × ((line_at (last_of q l.networks) its).near ≡ (line_at q its).near)
   takes-status m q text rest flying s =
       let it : (left : ℕ) × IsStatus text × AreStatuses rest left × ((line_at q its).told_near ≡ suc left) = told-at text rest flying m q s in
       let z : Line = with_statuses_left (line_at q its) it.0 in (
@@ -198,13 +202,13 @@ module _ (settings : (point : ℕ) → Configuration) (t : AreTheirs settings) (
               some = it.3;
               after = line-set shape q its z (node_at shape q its) (link-inside shape o c well link) (own-inside shape o c well link);
             }))
-            (λ point. refl) (left-shown m q rest it.0 s it.2),
+            (same-grown refl) (λ point. refl) (left-shown m q rest it.0 s it.2),
         ap (λ (y : Line). y.near) (here-line shape q its z (node_at shape q its)),
       )
 
   -- an end that is up hears it
   hears-status : (m : Mid) (q : Network) (left : ℕ) → ShownAt settings t w x m q → (line_at q its).told_near ≡ suc left → down m.node.parts link ≡ false
-      → (l : Leads settings t shape o q w x m) × ((line_at (last_of q l.networks) its).near.heard ≡ true)
+      → (l : Leads settings t shape o m.node.parts.times_broken q w x m) × ((line_at (last_of q l.networks) its).near.heard ≡ true)
   hears-status m q left s told up =
       let y : Line = line_at q its in
       let z : Line = with_heard y in
@@ -218,7 +222,7 @@ module _ (settings : (point : ℕ) → Configuration) (t : AreTheirs settings) (
               some = told;
               after = line-set shape q its z (node_at shape q its) (link-inside shape o c well link) (own-inside shape o c well link);
             }))
-            (λ point. refl)
+            (same-grown refl) (λ point. refl)
             (reline-near settings t shape o w w x link m m q z (node_at shape q its) fx s
             (record { nodes = λ y d. refl; others = λ l d. record { user_data = refl; statuses = refl; follows = refl; came = refl } })
             (record { to_far = refl; told_far = refl; far_may = refl; near_came = refl; far = λ j l g. g }) inside s.here.sized
@@ -231,7 +235,7 @@ module _ (settings : (point : ℕ) → Configuration) (t : AreTheirs settings) (
 
   -- what comes of it
   status-comes : (text : List ℕ) (rest : List (List ℕ)) → (w.node x).statuses link ≡ text ∷ rest → (p : Network) → IsAt shape c p → Shown settings t w p
-      → Leads settings t shape o p (changed x (left_with rest) w) x (mid (receive whole c link text n).left [] [] k)
+      → Leads settings t shape o n.parts.times_broken p (changed x (left_with rest) w) x (mid (receive whole c link text n).left [] [] k)
   status-comes text rest flying p h s =
       let it : (left : ℕ) × IsStatus text × AreStatuses rest left × ((line_at p its).told_near ≡ suc left) = told-at text rest flying (rests settings t (w.node x)) p (at-work settings t w x p fx s) in
       by (is_link n.parts link) (down n.parts link) refl refl it.0 it.3 it.1.value it.1.reads it.1.status
@@ -249,27 +253,27 @@ module _ (settings : (point : ℕ) → Configuration) (t : AreTheirs settings) (
       listed many l = grind (arith, nat_tests, l)
 
       heard-by : (left : ℕ) → (line_at p its).told_near ≡ suc left → down n.parts link ≡ false → (value : FrameValue) → read_frame text ≡ Ok value → data_of value ≡ None
-          → Leads settings t shape o p v x (mid (read whole c link (read_frame text) n).left [] [] k)
+          → Leads settings t shape o n.parts.times_broken p v x (mid (read whole c link (read_frame text) n).left [] [] k)
       heard-by left told up (EmptyFrame bsn fsn) e f = absurd cc
       heard-by left told up (MessageFrame bsn fsn sio sif) e f = absurd cc
       heard-by left told up (StatusFrame bsn fsn status) e f =
-          let a : (l : Leads settings t shape o p w x u) × ((line_at (last_of p l.networks) its).near.heard ≡ true) = hears-status u p left start told up in
+          let a : (l : Leads settings t shape o n.parts.times_broken p w x u) × ((line_at (last_of p l.networks) its).near.heard ≡ true) = hears-status u p left start told up in
           let q : Network = last_of p a.0.networks in
-          let b : (l : Leads settings t shape o q v x u) × ((line_at (last_of q l.networks) its).near ≡ (line_at q its).near) = takes-status u q text rest flying a.0.shown in
+          let b : (l : Leads settings t shape o n.parts.times_broken q v x u) × ((line_at (last_of q l.networks) its).near ≡ (line_at q its).near) = takes-status u q text rest flying a.0.shown in
           let r : Network = last_of q b.0.networks in
           let left_node : Node WholeQueues = (on_link_status whole c link status n).left in
           let same : (read whole c link (read_frame text) n).left ≡ left_node = ap (λ (g : Result FrameValue FrameFault). (read whole c link g n).left) e in
           let at_q : IsAt shape c q = leads-at settings t shape o p w x u a.0 h in
           let heard : HeardAt shape o c well link r = ap (λ g. g.heard) b.1 ∙ a.1 in
-          let d : Arrives shape c r (mid left_node [] [] k) =
+          let d : Arrives shape c n.parts.times_broken r (mid left_node [] [] k) =
           ((link_status-if shape o c well link status n).each [] [] k).goes r (leads-at settings t shape o q v x u b.0 at_q) b.0.shown.here heard in
-          subst (λ (g : Node WholeQueues). Leads settings t shape o p v x (mid g [] [] k)) (sym same)
-          (leads-both settings t shape o p w v x u (mid left_node [] [] k) ((link_status-if shape o c well link status n).each [] [] k).unbroken a.0
-          (leads-both settings t shape o q v v x u (mid left_node [] [] k) ((link_status-if shape o c well link status n).each [] [] k).unbroken b.0
-          (leads-arrives settings t shape o r v x u (mid left_node [] [] k) fx b.0.shown d)))
+          subst (λ (g : Node WholeQueues). Leads settings t shape o n.parts.times_broken p v x (mid g [] [] k)) (sym same)
+          (leads-both settings t shape o p w v x u (mid left_node [] [] k) a.0
+          (leads-both settings t shape o q v v x u (mid left_node [] [] k) b.0
+          (leads-arrives settings t shape o r v x u (mid left_node [] [] k) fx b.0.shown ((link_status-if shape o c well link status n).each [] [] k).grown d)))
 
       by : (l b : Bool) → is_link n.parts link ≡ l → down n.parts link ≡ b → (left : ℕ) → (line_at p its).told_near ≡ suc left → (value : FrameValue) → read_frame text ≡ Ok value → data_of value ≡ None
-          → Leads settings t shape o p v x (mid (if l then (if b then answer Ignored n else read whole c link (read_frame text) n) else refuse causes.NoSuchName n).left [] [] k)
+          → Leads settings t shape o n.parts.times_broken p v x (mid (if l then (if b then answer Ignored n else read whole c link (read_frame text) n) else refuse causes.NoSuchName n).left [] [] k)
       by true true e f left told value g i = (takes-status u p text rest flying start).0
       by true false e f left told value g i = heard-by left told f value g i
       by false b e f left told value g i =
@@ -284,13 +288,13 @@ module _ (settings : (point : ℕ) → Configuration) (t : AreTheirs settings) (
       let is : v.node x ≡ f (w.node x) = changed-here x f w in
       let tail : drop 1 ((w.node x).statuses link) ≡ rest = ap (drop 1) flying in
       record {
-        unbroken = broken-before settings t shape o w v x fx (λ y d. changed-other x f w y d)
-            (λ none. frame-unbroken text ((after-frame text no_books).unbroken (ap (λ (e : NetworkNode). e.node.parts.times_broken) (sym is) ∙ none)));
+        grown = grown-before settings t shape o w v x fx (λ y d. changed-other x f w y d)
+            (both-grown (frame-grown text) (both-grown (after-frame text no_books).grown (same-grown (ap (λ (e : NetworkNode). e.node.parts.times_broken) is))));
         goes = λ p h s.
-            let l : Leads settings t shape o p (changed x (left_with rest) w) x (mid (receive whole c link text n).left [] [] k) = status-comes text rest flying p (h x fx) s in
-            let m : Leads settings t shape o p (changed x (left_with rest) w) x (mid (apply whole c (FrameCame link text) n).left [] [] (naming k (lost_by text))) =
+            let l : Leads settings t shape o n.parts.times_broken p (changed x (left_with rest) w) x (mid (receive whole c link text n).left [] [] k) = status-comes text rest flying p (h x fx) s in
+            let m : Leads settings t shape o n.parts.times_broken p (changed x (left_with rest) w) x (mid (apply whole c (FrameCame link text) n).left [] [] (naming k (lost_by text))) =
             leads-goes settings t shape o p (changed x (left_with rest) w) x (mid (receive whole c link text n).left [] [] k) (mid (apply whole c (FrameCame link text) n).left [] [] (naming k (lost_by text))) fx (h x fx) l (after-frame text k) in
-            finish settings t shape o p (changed x (left_with rest) w) v x fx (mid (apply whole c (FrameCame link text) n).left [] [] (naming k (lost_by text))) m (ap (rests settings t) (sym is))
+            finish settings t shape o w p (changed x (left_with rest) w) v x fx (mid (apply whole c (FrameCame link text) n).left [] [] (naming k (lost_by text))) m (ap (rests settings t) (sym is))
             (λ y d. changed-other x f w y d ∙ sym (changed-other x (left_with rest) w y d))
             (λ l. subst (λ (e : NetworkNode). IsSameFlight e (v.node x) l) (sym (changed-here x (left_with rest) w))
             (subst (λ (e : NetworkNode). IsSameFlight (left_with rest (w.node x)) e l) (sym is)

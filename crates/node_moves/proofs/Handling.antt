@@ -5,6 +5,7 @@ use Rattle.node_moves.proofs.Definitions.{Message, flow_of, Configuration, IsWel
 use Rattle.node_moves.proofs.Reading.{IsShape, says_of}
 use Rattle.node_moves.proofs.Sets.{with_node, node-set, end-set}
 use Rattle.node_moves.proofs.Shown.{Books, accepting, naming, Mid, Shows, IsShown, IsAlike, IsSized, IsSilent, HasWays, Marks, marks_of, IsBooked, shown_in, shown-alike, place, users_that, any_message, most, link-inside, own-inside, at-own}
+use Rattle.node_moves.proofs.Grown.{same-grown}
 use Rattle.node_moves.proofs.Going.{IsAt, Goes, goes-both, arrives-here, by-line, by-node}
 use Rattle.exchange_rules.proofs.Moves.{serving-there}
 use Rattle.exchange_rules.specs.ChangingOver.{lose}
@@ -43,7 +44,7 @@ same-ends n link = record { queue = refl; alignment = refl; standing = refl }
 module _ (shape : Shape) (o : IsShape shape) (c : Configuration) (well : IsWell c) where
   pub goes-alike : (n m : Node WholeQueues) (a l : List Message) (k : Books) → AreAlike c n m → Goes shape c (mid n a l k) (mid m a l k)
   goes-alike n m a l k e = record {
-    unbroken = λ none. sym (ap (λ (k : Marks). k.broken) e.marks) ∙ none;
+    grown = same-grown (ap (λ (k : Marks). k.broken) e.marks);
     goes = λ p h s. arrives-here shape c p (mid m a l k) (record {
       sized = e.sized s.sized;
       ends = λ link there. shown-alike n m link (line_at p (place c link)).near (e.ends link) (s.ends link there);
@@ -59,7 +60,7 @@ module _ (shape : Shape) (o : IsShape shape) (c : Configuration) (well : IsWell 
   -- only where the messages of the node stand changes
   pub goes-relabelled : (v w : Mid) → w.node.parts ≡ v.node.parts → w.node.queues.links ≡ v.node.queues.links → ((x : net.Node) → IsBooked x v → IsBooked x w) → Goes shape c v w
   goes-relabelled v w same links booked = record {
-    unbroken = λ none. ap (λ (p : Parts). p.times_broken) (sym same) ∙ none;
+    grown = same-grown (ap (λ (p : Parts). p.times_broken) same);
     goes = λ p h s. arrives-here shape c p w (record {
       sized = record {
         links = ap (λ (x : Parts). length x.links) same ∙ s.sized.links;
@@ -130,7 +131,7 @@ module _ (shape : Shape) (o : IsShape shape) (c : Configuration) (well : IsWell 
   pub goes-by-node : (v w : Mid) → AreAlikeBut v.node w.node
       → ((p : Network) → IsAt shape c p → Shows c p v → (x : net.Node) × IsBooked x w × Move shape says_of p (with_node p c.own x)) → Goes shape c v w
   goes-by-node v w e f = record {
-    unbroken = λ none. sym e.broken ∙ none;
+    grown = same-grown e.broken;
     goes = λ p h s.
         let it : (x : net.Node) × IsBooked x w × Move shape says_of p (with_node p c.own x) = f p h s in
         by-node shape o c well p v w it.0 s (e.sized s.sized) e.ends it.1 it.2;
@@ -305,7 +306,7 @@ module _ (shape : Shape) (o : IsShape shape) (c : Configuration) (well : IsWell 
   pub places : (n : Node WholeQueues) (link : ℕ) (m : Message) (a l : List Message) (k : Books) → in_service n.parts link ≡ true → MayGo n m link
       → Goes shape c (mid n a (m ∷ l) k) (mid (queue_on whole c link m n) a l k)
   places n link m a l k serves way = record {
-    unbroken = λ none. none;
+    grown = same-grown refl;
     goes = λ p h s.
         let inside : link < length c.links = there n link s.sized serves in
         let its : Place = place c link in

@@ -6,7 +6,9 @@ use Rattle.node_moves.proofs.Mated.{mated-theirs}
 use Rattle.node_moves.proofs.MatedRun.{first_four, served-is, served_from}
 use Rattle.node_moves.proofs.Offering.{GoesOut, submits-on, submitting}
 use Rattle.node_moves.proofs.Unheld.{Free, free-none, none-held}
+use Rattle.node_moves.specs.Hops.{IsHop}
 use Rattle.node_moves.specs.HopRun.{MatesAreAHop, breaking, come_over, message_three}
+use Rattle.node_moves.specs.MatedPair.{mated}
 use Rattle.node_moves.specs.MatedRun.{cross, delivered, sends, served, users, users_in}
 use Rattle.node_moves.specs.Networks.{Fate, NetworkState}
 unfoldable use Rattle.exchange_rules.specs.Exchange.{apply}
@@ -21,19 +23,19 @@ unfoldable use Rattle.m2pa_codec.specs.Frames.{status_of}
 unfoldable use Rattle.changeback.specs.Rerouting.{rerouted}
 unfoldable use Rattle.changeback.specs.Return.{changes_of, changes}
 
-three-out : GoesOut message_three
+pub three-out : GoesOut message_three
 unfolding apply
 three-out = record { handles = λ n. refl; submits = λ n. refl; enters = λ o n. refl }
 
-free : Free 2 0 (served_from first_four).one.node.parts.holds
+pub three-free : Free 2 0 (served_from first_four).one.node.parts.holds
 unfolding apply tell_owed first_sets links_below status_of set_timer clear_timer start_unless_running clear_set due_name after_due due_count names_of choice_among link_by changes_of changes take_back_each owes_nothing any_flow flows rerouted order_each
-free = free-none 2 0 3 3 3
+three-free = free-none 2 0 3 3 3
 
 abbrev come_from : Four → Four
 come_from t = run (breaking ++ sends cross) (submitting message_three (served_from t))
 
 come-is : come_over ≡ network_of (come_from first_four)
-come-is = submits-on served (served_from first_four) served-is message_three three-out (none-held 2 0 (served_from first_four).one.node.parts.holds free) (breaking ++ sends cross)
+come-is = submits-on served (served_from first_four) served-is message_three three-out (none-held 2 0 (served_from first_four).one.node.parts.holds three-free) (breaking ++ sends cross)
 
 -- ---- what it shows
 
@@ -63,15 +65,18 @@ its-shown = refl
 is-shown : shown come_over ≡ seen_so
 is-shown = ap shown come-is ∙ its-shown
 
+pub pair-hop : IsHop mated 1 2
+pair-hop = record {
+  near_set = 2;
+  far_set = 2;
+  near_leads = record { adjacent = refl; only = refl };
+  far_leads = record { adjacent = refl; only = refl };
+}
+
 pub mates-hop : MatesAreAHop
 mates-hop = record {
   theirs = mated-theirs;
-  hop = record {
-    near_set = 2;
-    far_set = 2;
-    near_leads = record { adjacent = refl; only = refl };
-    far_leads = record { adjacent = refl; only = refl };
-  };
+  hop = pair-hop;
   whole = record { near_whole = ap (λ (s : Shown). s.near) is-shown; far_whole = ap (λ (s : Shown). s.mate) is-shown };
   broken = ap (λ (s : Shown). s.third) is-shown;
   accepted = ap (λ (s : Shown). s.accepted) is-shown;

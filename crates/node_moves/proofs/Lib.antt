@@ -2,6 +2,7 @@ pub mod Basics
 pub mod Machine
 pub mod Sets
 pub mod Definitions
+pub mod Grown
 pub mod Reading
 pub mod Shown
 pub mod Going
@@ -52,4 +53,12 @@ pub mod Codes
 pub mod Routed
 pub mod Closed
 pub mod Hops
+pub mod StartedAgain
+pub mod FromOutside
+pub mod Changes
+pub mod CountedSince
+pub mod Begun
+pub mod Anew
+pub mod NetworkAnew
 pub mod HopRun
+pub mod AnewRun

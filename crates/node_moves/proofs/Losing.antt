@@ -2,6 +2,7 @@
 use Rattle.node_moves.proofs.Basics.{◌≡◌, ℕ, zero, suc, Bool, true, false, not, ◌&&◌, ◌+◌, ◌-◌, ◌≤◌, List, [], ◌∷◌, length, drop, take, count_by, min, refl, ap, sym, subst, ◌∙◌, arith, if◌then◌else◌}
 use Rattle.node_moves.proofs.Machine.{one_if, user}
 use Rattle.node_moves.proofs.Definitions.{Message, is_management, Parts, Queue}
+use Rattle.node_moves.proofs.Grown.{Grown, IsUnraised, same-grown, both-grown, more-grown, raised-not}
 use Rattle.node_moves.proofs.Reading.{says_of, says-managing}
 use Rattle.node_moves.proofs.Shown.{users_that, any_message, most}
 use Rattle.changeover.specs.Changeover.{users_of, managements_of}
@@ -115,23 +116,22 @@ concluded-leaves link found p =
 pub concluded-lost : (link : ℕ) (found : Found) (p : Parts) → (concluded link found p).messages_lost ≡ (lose_each found.lost p).messages_lost
 concluded-lost link found p = judged-lost found.is_reasonable (lose_each found.lost p)
 
--- a node isn't broken by a completion whose number is right
-raised-by : (b : Bool) (t : ℕ) → (if b then once_more t else t) ≡ 0 → (b ≡ false) × (t ≡ 0)
-raised-by true t e = absurd (omega (arith, e))
-raised-by false t e = (refl, e)
+-- a completion takes no break back
+pub grown-if : (b : Bool) (p : Parts) → Grown p.times_broken (broken_if b p).times_broken
+grown-if b p = by b p.times_broken
+  where
+    by : (b : Bool) (t : ℕ) → Grown t (if b then once_more t else t)
+    by true t = more-grown t
+    by false t = same-grown refl
 
-pub unless-broken : (b : Bool) (p : Parts) → (broken_if b p).times_broken ≡ 0 → (b ≡ false) × (p.times_broken ≡ 0)
-unless-broken b p e = raised-by b p.times_broken e
+-- one whose number is wrong is counted
+pub concluded-wrong : (link : ℕ) (found : Found) (p : Parts) → found.is_wrong ≡ true → IsUnraised p.times_broken (concluded link found p).times_broken → ⊥
+concluded-wrong link found p wrong h =
+    let same : (judged found.is_reasonable (lose_each found.lost p)).times_broken ≡ p.times_broken = (judged-by found.is_reasonable p (lose_each found.lost p) (each-loses found.lost p)).broken in
+    let is : (concluded link found p).times_broken ≡ once_more p.times_broken =
+    ap (λ (b : Bool). if b then once_more (judged found.is_reasonable (lose_each found.lost p)).times_broken else (judged found.is_reasonable (lose_each found.lost p)).times_broken) wrong ∙ ap once_more same in
+    raised-not p.times_broken (subst (IsUnraised p.times_broken) is h)
 
--- it is by one whose number is wrong
-pub concluded-wrong : (link : ℕ) (found : Found) (p : Parts) → found.is_wrong ≡ true → (concluded link found p).times_broken ≡ 0 → ⊥
-concluded-wrong link found p wrong e =
-    let right : found.is_wrong ≡ false = (unless-broken found.is_wrong (judged found.is_reasonable (lose_each found.lost p)) e).0 in
-    let no : true ≡ false = sym wrong ∙ right in
-    absurd cc
-
-pub concluded-right : (link : ℕ) (found : Found) (p : Parts) → (concluded link found p).times_broken ≡ 0 → (found.is_wrong ≡ false) × (p.times_broken ≡ 0)
-concluded-right link found p e =
-    let r : (found.is_wrong ≡ false) × ((judged found.is_reasonable (lose_each found.lost p)).times_broken ≡ 0) =
-    unless-broken found.is_wrong (judged found.is_reasonable (lose_each found.lost p)) e in
-    (r.0, sym (judged-by found.is_reasonable p (lose_each found.lost p) (each-loses found.lost p)).broken ∙ r.1)
+pub concluded-grown : (link : ℕ) (found : Found) (p : Parts) → Grown p.times_broken (concluded link found p).times_broken
+concluded-grown link found p =
+    both-grown (same-grown (judged-by found.is_reasonable p (lose_each found.lost p) (each-loses found.lost p)).broken) (grown-if found.is_wrong (judged found.is_reasonable (lose_each found.lost p)))

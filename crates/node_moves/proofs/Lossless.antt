@@ -52,7 +52,7 @@ wrong-few true given = omega arith
 wrong-few false true = omega arith
 wrong-few false false = omega arith
 
-abbrev FewWrong : Gone → Type 0
+abbrev pub FewWrong : Gone → Type 0
 FewWrong g = g.wrong ≤ g.doubts
 
 none-wrong : FewWrong nothing_gone
@@ -151,7 +151,7 @@ by-few (Released link) a = none-wrong
 by-few (TitleAdded row is_memory_refused) a = none-wrong
 by-few (TitleRemoved key digits) a = none-wrong
 
-gone-few : (what : Happening) (a : Abstract) → FewWrong (gone what a)
+pub gone-few : (what : Happening) (a : Abstract) → FewWrong (gone what a)
 gone-few what a = (let released : Gone = gone_by_release a.settings (handle_event whole a.settings what a.node).left in both-few (gone_by what a) released (by-few what a) (omega arith))
 
 -- ---- so whatever happens, the flag tells of it

@@ -8,13 +8,14 @@ use Rattle.node_moves.proofs.Going.{Goes, goes-none}
 use Rattle.node_moves.proofs.Handling.{mid}
 use Rattle.node_moves.proofs.Failures.{booked-alike, node-there}
 use Rattle.node_moves.proofs.World.{books_of, IsFlown, AreData, AreStatuses, ShownAt, rests, place_at, at-work}
+use Rattle.node_moves.proofs.Grown.{Grown, same-grown, both-grown}
 use Rattle.node_moves.proofs.Relining.{Leads, leads-one, leads-goes, with_line, line-set, across-line}
 use Rattle.node_moves.proofs.Flights.{IsSameFlight, changed-here, changed-other, updated-here, updated-other, only-changed, reline-near}
 use Rattle.node_moves.proofs.BothEnds.{IsOther, OnlyBoth, reline-both}
-use Rattle.node_moves.proofs.Steps.{StepGoes, finish, broken-before, event-settles}
+use Rattle.node_moves.proofs.Steps.{StepGoes, finish, grown-before, event-settles}
 use Rattle.node_moves.specs.Networks.{NetworkNode, NetworkState, IsNode, changed, updated, happens, come_up, be_led, state_of}
 use Rattle.node_moves.specs.Networks as of_nodes
-use Rattle.node_moves.specs.Laws.{AreTheirs}
+use Rattle.node_moves.specs.Outside.{ArePlaced}
 use Rattle.changeover.specs.Changeover.{may_restart}
 use Rattle.exchange_rules.proofs.Lists.{each-set}
 use Rattle.exchange_rules.specs.Conserving as of_rules
@@ -143,7 +144,7 @@ module _ (c : Configuration) (n : Node WholeQueues) (link : ℕ) (m : MayComeUp 
     ways = z.ways;
   }
 
-module _ (settings : (point : ℕ) → Configuration) (t : AreTheirs settings) (shape : Shape) (o : IsShape shape) (w : NetworkState) (x link : ℕ) (fx : IsNode settings x) (inside : link < length (settings x).links)
+module _ (settings : (point : ℕ) → Configuration) (t : ArePlaced settings) (shape : Shape) (o : IsShape shape) (w : NetworkState) (x link : ℕ) (fx : IsNode settings x) (inside : link < length (settings x).links)
     (m : MayComeUp (w.node x).node.parts link) where
   abbrev c : Configuration
   c = settings x
@@ -191,15 +192,15 @@ module _ (settings : (point : ℕ) → Configuration) (t : AreTheirs settings) (
       let is : v.node x ≡ follows_up (w.node x) = changed-here x follows_up w in
       let led : one.node x ≡ followed (w.node x) = changed-here x followed w in
       record {
-        unbroken = broken-before settings t shape o w v x fx (λ y d. changed-other x follows_up w y d)
-            (λ none. (after-opening no_books).unbroken (ap (λ (e : NetworkNode). e.node.parts.times_broken) (sym is) ∙ none));
+        grown = grown-before settings t shape o w v x fx (λ y d. changed-other x follows_up w y d)
+            (both-grown (after-opening no_books).grown (same-grown (ap (λ (e : NetworkNode). e.node.parts.times_broken) is)));
         goes = λ p h s.
             let start : ShownAt settings t w x (rests settings t (w.node x)) p = at-work settings t w x p fx s in
             let y : Line = line_at p its in
             let z : Line = opened_second y in
             let shown : IsShown n link y.near = start.here.ends link inside in
             let flown : IsFlown (w.node x) link y = start.flown x link fx inside in
-            let l : Leads settings t shape o p one x (mid now [] [] k) =
+            let l : Leads settings t shape o n.parts.times_broken p one x (mid now [] [] k) =
             leads-one settings t shape o p (with_line shape p its z (node_at shape p its)) one x (mid now [] [] k)
             (moves.opens_second (record {
               place = its;
@@ -207,14 +208,14 @@ module _ (settings : (point : ℕ) → Configuration) (t : AreTheirs settings) (
               near_may = may-shown n link y.near shown m.gone m.restarts;
               after = line-set shape p its z (node_at shape p its) (link-inside shape o c well link) (own-inside shape o c well link);
             }))
-            (λ point. refl)
+            (same-grown refl) (λ point. refl)
             (reline-near settings t shape o w one x link (rests settings t (w.node x)) (mid now [] [] k) p z (node_at shape p its) fx start
             (only-changed settings t shape o w x link followed (λ i d. record { user_data = refl; statuses = refl; follows = updated-other (w.node x).follows link false i d; came = refl }))
             (record { to_far = refl; told_far = refl; far_may = refl; near_came = refl; far = λ j i e. e }) inside (opened-sized c n link m start.here.sized)
             (opened-shown c n link m y.near.came y.near.gone start.here.sized inside) (opened-others c n link m) (now-booked p start)
             (subst (λ (e : NetworkNode). IsFlown e link z) (sym led)
             (record { user_data = flown.user_data; statuses = flown.statuses; follows = updated-here (w.node x).follows link false; came = flown.came }))) in
-            finish settings t shape o p one v x fx (mid (apply whole c (CameUp link) n).left [] [] (naming k lost))
+            finish settings t shape o w p one v x fx (mid (apply whole c (CameUp link) n).left [] [] (naming k lost))
             (leads-goes settings t shape o p one x (mid now [] [] k) (mid (apply whole c (CameUp link) n).left [] [] (naming k lost)) fx (h x fx) l (after-opening k))
             (ap (rests settings t) (sym is)) (λ i d. changed-other x follows_up w i d ∙ sym (changed-other x followed w i d))
             (λ i. subst (λ (e : NetworkNode). IsSameFlight e (v.node x) i) (sym led) (subst (λ (e : NetworkNode). IsSameFlight (followed (w.node x)) e i) (sym is) (record { user_data = refl; statuses = refl; follows = refl; came = refl })));
@@ -266,15 +267,16 @@ module _ (settings : (point : ℕ) → Configuration) (t : AreTheirs settings) (
         let one : NetworkState = both_by cleared in
         let is : v.node x ≡ come_up c link (w.node x) = at-x (come_up c link) in
         record {
-          unbroken = λ i fi none.
+          grown = λ i fi.
               ⊎_elim
               (λ (same : i ≡ x).
-              subst (λ (j : ℕ). (w.node j).node.parts.times_broken ≡ 0) (sym same) ((after-opening no_books).unbroken (ap (λ (e : NetworkNode). e.node.parts.times_broken) (sym is) ∙ subst (λ (j : ℕ). (v.node j).node.parts.times_broken ≡ 0) same none)))
+              subst (λ (j : ℕ). Grown (w.node j).node.parts.times_broken (v.node j).node.parts.times_broken) (sym same)
+              (both-grown (after-opening no_books).grown (same-grown (ap (λ (e : NetworkNode). e.node.parts.times_broken) is))))
               (λ (d : i ≢ x).
               ⊎_elim
               (λ (same : i ≡ there.point).
-              subst (λ (j : ℕ). (w.node j).node.parts.times_broken ≡ 0) (sym same) (ap (λ (e : NetworkNode). e.node.parts.times_broken) (sym (at-there (come_up c link))) ∙ subst (λ (j : ℕ). (v.node j).node.parts.times_broken ≡ 0) same none))
-              (λ (e : i ≢ there.point). ap (λ (g : NetworkNode). g.node.parts.times_broken) (sym (at-others (come_up c link) i d e)) ∙ none)
+              subst (λ (j : ℕ). Grown (w.node j).node.parts.times_broken (v.node j).node.parts.times_broken) (sym same) (same-grown (ap (λ (e : NetworkNode). e.node.parts.times_broken) (at-there (come_up c link)))))
+              (λ (e : i ≢ there.point). same-grown (ap (λ (g : NetworkNode). g.node.parts.times_broken) (at-others (come_up c link) i d e)))
               (cases_eq i there.point))
               (cases_eq i x);
           goes = λ p h s.
@@ -289,7 +291,7 @@ module _ (settings : (point : ℕ) → Configuration) (t : AreTheirs settings) (
               two-true (down (w.node there.point).node.parts there.link) (may_restart (changeover_of (w.node there.point).node.parts there.link)) may in
               let far_may : MayOpen y.far = may-shown (w.node there.point).node there.link y.far far_shown parts.0 parts.1 in
               let line : LastsLine shape says_of y = lasts-at shape says_of p its (h x fx).lasts in
-              let l : Leads settings t shape o p one x (mid now [] [] k) =
+              let l : Leads settings t shape o n.parts.times_broken p one x (mid now [] [] k) =
               leads-one settings t shape o p (with_line shape p its z (node_at shape p its)) one x (mid now [] [] k)
               (moves.opens_first (record {
                 place = its;
@@ -297,7 +299,7 @@ module _ (settings : (point : ℕ) → Configuration) (t : AreTheirs settings) (
                 far_may = far_may;
                 after = line-set shape p its z (node_at shape p its) (link-inside shape o c well link) (own-inside shape o c well link);
               }))
-              (λ point. refl)
+              (same-grown refl) (λ point. refl)
               (reline-both settings t shape o w one x link there (rests settings t (w.node x)) (mid now [] [] k) p z (node_at shape p its) fx start other both-only
               (λ j i e. record { queue = e.queue ∙ closed-queue y.far line.far far_may; up = e.up; serving = e.serving; incomplete = e.incomplete; awaited = e.awaited; heard = e.heard })
               inside (opened-sized c n link m start.here.sized) (opened-shown c n link m y.near.came (given_up y ++ y.near.gone) start.here.sized inside) (opened-others c n link m) (now-booked p start)
@@ -313,7 +315,7 @@ module _ (settings : (point : ℕ) → Configuration) (t : AreTheirs settings) (
                 follows = updated-here (w.node there.point).follows there.link true;
                 came = before.came;
               }))) in
-              finish settings t shape o p one v x fx (mid (apply whole c (CameUp link) n).left [] [] (naming k lost))
+              finish settings t shape o w p one v x fx (mid (apply whole c (CameUp link) n).left [] [] (naming k lost))
               (leads-goes settings t shape o p one x (mid now [] [] k) (mid (apply whole c (CameUp link) n).left [] [] (naming k lost)) fx (h x fx) l (after-opening k))
               (ap (rests settings t) (sym is))
               (λ i d. ap (λ (e : NetworkNode). if nat_eq i there.point then led e else e) (changed-other x (come_up c link) w i d ∙ sym (changed-other x cleared w i d)))

@@ -20,7 +20,6 @@ pub record IsShape (shape : Shape) : Type 0 where
   pub nodes : (point : ℕ) → point < 2 ^ 14 → point < shape.nodes
   pub links : (own other slc : ℕ) → own < 2 ^ 14 → other < 2 ^ 14 → slc < 2 ^ 4 → (place_of own other slc).link < shape.links
   pub points : (own other slc : ℕ) → own < 2 ^ 14 → other < 2 ^ 14 → slc < 2 ^ 4 → point_at shape (place_of own other slc) ≡ own
-  pub lasting : (point : ℕ) → shape.restarts point ≡ false
 
 same-link : (first second : Bool) (own one other slc code : ℕ) → nat_lt own one ≡ first → nat_lt own other ≡ second → own < 2 ^ 14 → one < 2 ^ 14 → other < 2 ^ 14 → slc < 2 ^ 4 → code < 2 ^ 4
     → (place_by first own one slc).link ≡ (place_by second own other code).link → (one ≡ other) × (slc ≡ code)

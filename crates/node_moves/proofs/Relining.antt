@@ -2,12 +2,13 @@
 use Rattle.node_moves.proofs.Basics.{◌≡◌, ◌≢◌, ℕ, Bool, ◌<◌, List, [], ◌∷◌, ◌++◌, length, nat_eq, refl, ap, sym, subst, ◌∙◌, if◌then◌else◌, ⊎_elim, cases_eq, ne_eqb, eq-eqb}
 use Rattle.node_moves.proofs.Machine.{Side, Near, Far, opposite, Line, Network, Shape, turned, seen, Place, line_at, point_at, Becomes, Move, Moves, last_of}
 use Rattle.node_moves.proofs.Definitions.{Configuration, Node, WholeQueues}
+use Rattle.node_moves.proofs.Grown.{Grown, IsUnraised, same-grown, both-grown, unraised-first, unraised-then}
 use Rattle.node_moves.proofs.Reading.{IsShape, says_of, across}
 use Rattle.node_moves.proofs.Shown.{Mid, Shows, IsShown, IsAlike, IsSized, IsBooked, shown-alike, links-apart, at-own}
 use Rattle.node_moves.proofs.Going.{IsAt, Arrives, Goes, is_broken, last-append, moves-append}
 use Rattle.node_moves.proofs.World.{IsFlown, ShownAt, place_at, rests, same-line, goes-on}
 use Rattle.node_moves.specs.Networks.{NetworkState, IsNode}
-use Rattle.node_moves.specs.Laws.{AreTheirs}
+use Rattle.node_moves.specs.Outside.{ArePlaced}
 use Rattle.network_moves.proofs.Lasting.{lasts-after}
 use Rattle.network_moves.specs.Networks as net
 
@@ -64,7 +65,7 @@ module _ (shape : Shape) (p : Network) (place : Place) (z : Line) (n : net.Node)
   pub other-node : (other : ℕ) → other ≢ point_at shape place → after.node other ≡ p.node other
   other-node other d = ap (λ (b : Bool). if b then n else p.node other) (ne_eqb other (point_at shape place) d)
 
-module _ (settings : (point : ℕ) → Configuration) (t : AreTheirs settings) (shape : Shape) (o : IsShape shape) where
+module _ (settings : (point : ℕ) → Configuration) (t : ArePlaced settings) (shape : Shape) (o : IsShape shape) where
   pub record Relines (w v : NetworkState) (x link : ℕ) (m u : Mid) (y z : Line) (n : net.Node) : Type 0 where
     pub inside : link < length (settings x).links
     pub sized : IsSized (settings x) u.node
@@ -137,33 +138,38 @@ module _ (settings : (point : ℕ) → Configuration) (t : AreTheirs settings) (
 
   -- ---- where moves lead the whole network
 
-  pub record Leads (p : Network) (w : NetworkState) (x : ℕ) (u : Mid) : Type 0 where
+  -- (the node had counted so many breaks)
+  pub record Leads (times : ℕ) (p : Network) (w : NetworkState) (x : ℕ) (u : Mid) : Type 0 where
     pub networks : List Network
     pub moves : Moves shape says_of p networks
-    pub broken : (point : ℕ) → (point ≡ (settings x).own → is_broken shape u ≡ 0) → (last_of p networks).broken point ≡ p.broken point
+    pub grown : Grown times (is_broken shape u)
+    pub broken : (point : ℕ) → (point ≡ (settings x).own → IsUnraised times (is_broken shape u)) → (last_of p networks).broken point ≡ p.broken point
     pub shown : ShownAt settings t w x u (last_of p networks)
 
-  pub leads-at : (p : Network) (w : NetworkState) (x : ℕ) (u : Mid) (l : Leads p w x u) → IsAt shape (settings x) p → IsAt shape (settings x) (last_of p l.networks)
-  leads-at p w x u l h = record { lasting = h.lasting; lasts = lasts-after shape says_of h.lasting p l.networks l.moves h.lasts; led = h.led }
+  pub leads-at : {times : ℕ} (p : Network) (w : NetworkState) (x : ℕ) (u : Mid) (l : Leads times p w x u) → IsAt shape (settings x) p → IsAt shape (settings x) (last_of p l.networks)
+  leads-at p w x u l h = record { lasts = lasts-after shape says_of p l.networks l.moves h.lasts; led = h.led }
 
-  pub leads-both : (p : Network) (w v : NetworkState) (x : ℕ) (u g : Mid) → (is_broken shape g ≡ 0 → is_broken shape u ≡ 0) → (l : Leads p w x u) → Leads (last_of p l.networks) v x g → Leads p v x g
-  leads-both p w v x u g f l m = record {
+  pub leads-both : {times : ℕ} (p : Network) (w v : NetworkState) (x : ℕ) (u g : Mid) → (l : Leads times p w x u) → Leads (is_broken shape u) (last_of p l.networks) v x g → Leads times p v x g
+  leads-both p w v x u g l m = record {
     networks = l.networks ++ m.networks;
     moves = moves-append shape p l.networks m.networks l.moves m.moves;
-    broken = λ point none. ap (λ (q : Network). q.broken point) (last-append shape p l.networks m.networks) ∙ m.broken point none ∙ l.broken point (λ same. f (none same));
+    grown = both-grown l.grown m.grown;
+    broken = λ point none. ap (λ (q : Network). q.broken point) (last-append shape p l.networks m.networks) ∙ m.broken point (λ same. unraised-then l.grown m.grown (none same)) ∙ l.broken point (λ same. unraised-first l.grown m.grown (none same));
     shown = subst (ShownAt settings t v x g) (sym (last-append shape p l.networks m.networks)) m.shown;
   }
 
-  pub leads-none : (p : Network) (w : NetworkState) (x : ℕ) (u : Mid) → ShownAt settings t w x u p → Leads p w x u
-  leads-none p w x u s = record { networks = []; moves = tt; broken = λ point none. refl; shown = s }
+  pub leads-none : (p : Network) (w : NetworkState) (x : ℕ) (u : Mid) → ShownAt settings t w x u p → Leads (is_broken shape u) p w x u
+  leads-none p w x u s = record { networks = []; moves = tt; grown = same-grown refl; broken = λ point none. refl; shown = s }
 
-  abbrev pub leads-one : (p q : Network) (w : NetworkState) (x : ℕ) (u : Mid) → Move shape says_of p q → ((point : ℕ) → q.broken point ≡ p.broken point) → ShownAt settings t w x u q → Leads p w x u
-  leads-one p q w x u m b s = record { networks = q ∷ []; moves = (m, tt); broken = λ point none. b point; shown = s }
+  abbrev pub leads-one : {times : ℕ} (p q : Network) (w : NetworkState) (x : ℕ) (u : Mid) → Move shape says_of p q → Grown times (is_broken shape u) → ((point : ℕ) → q.broken point ≡ p.broken point) → ShownAt settings t w x u q
+      → Leads times p w x u
+  leads-one p q w x u m g b s = record { networks = q ∷ []; moves = (m, tt); grown = g; broken = λ point none. b point; shown = s }
 
-  pub leads-arrives : (p : Network) (w : NetworkState) (x : ℕ) (v u : Mid) → IsNode settings x → ShownAt settings t w x v p → Arrives shape (settings x) p u → Leads p w x u
-  leads-arrives p w x v u fx s a = record {
+  pub leads-arrives : {times : ℕ} (p : Network) (w : NetworkState) (x : ℕ) (v u : Mid) → IsNode settings x → ShownAt settings t w x v p → Grown times (is_broken shape u) → Arrives shape (settings x) times p u → Leads times p w x u
+  leads-arrives p w x v u fx s g a = record {
     networks = a.networks;
     moves = a.moves;
+    grown = g;
     broken = λ point none.
         ⊎_elim
         (λ (same : point ≡ (settings x).own). subst (λ (i : ℕ). (last_of p a.networks).broken i ≡ p.broken i) (sym same) (a.broken (none same)))
@@ -173,7 +179,7 @@ module _ (settings : (point : ℕ) → Configuration) (t : AreTheirs settings) (
   }
 
   -- on from there, by what the node does
-  pub leads-goes : (p : Network) (w : NetworkState) (x : ℕ) (v u : Mid) → IsNode settings x → IsAt shape (settings x) p → (l : Leads p w x v) → Goes shape (settings x) v u → Leads p w x u
+  pub leads-goes : {times : ℕ} (p : Network) (w : NetworkState) (x : ℕ) (v u : Mid) → IsNode settings x → IsAt shape (settings x) p → (l : Leads times p w x v) → Goes shape (settings x) v u → Leads times p w x u
   leads-goes p w x v u fx h l g =
       let q : Network = last_of p l.networks in
-      leads-both p w w x v u g.unbroken l (leads-arrives q w x v u fx l.shown (g.goes q (leads-at p w x v l h) l.shown.here))
+      leads-both p w w x v u l (leads-arrives q w x v u fx l.shown g.grown (g.goes q (leads-at p w x v l h) l.shown.here))

@@ -4,18 +4,20 @@ use Rattle.node_moves.proofs.Machine.{Side, Near, Far, LinkEnd, Network, Shape, 
 use Rattle.node_moves.proofs.Definitions.{Configuration, Node, WholeQueues, whole, answer, refuse, is_link, link_at, changeover_of, first_queue, Link, down_link, Standing, no_changeover, is_down, is_in_service}
 use Rattle.node_moves.proofs.Reading.{IsShape, says_of, place_by}
 use Rattle.node_moves.proofs.Shown.{no_books, IsShown, IsSilent, is_heard}
+use Rattle.node_moves.proofs.Grown.{Grown, same-grown, both-grown, unraised-first, unraised-then, never-raised}
 use Rattle.node_moves.proofs.Going.{IsLed, goes-none, last-append, moves-append}
 use Rattle.node_moves.proofs.Handling.{mid}
 use Rattle.node_moves.proofs.World.{IsFlown, Shown, rests, place_at}
 use Rattle.node_moves.proofs.Flights.{changed-here, changed-other}
 use Rattle.node_moves.proofs.BothEnds.{is-other}
-use Rattle.node_moves.proofs.Steps.{StepGoes, Reaches, step-none, step-by-goes, broken-before, event-settles, submits-step, loses-step, ticks-step, activates-step, deactivates-step, releases-step, adds-step, removes-step}
+use Rattle.node_moves.proofs.Steps.{StepGoes, Reaches, step-none, step-by-goes, grown-before, event-settles, submits-step, loses-step, ticks-step, activates-step, deactivates-step, releases-step, adds-step, removes-step}
 use Rattle.node_moves.proofs.Handing.{changed-alike, data-step, status-step, lost-step, doubled-step}
 use Rattle.node_moves.proofs.Opening.{MayComeUp, wants-open, second-step, first-step}
 use Rattle.node_moves.proofs.Sending.{takes-step}
 use Rattle.node_moves.specs.Networks.{NetworkNode, NetworkState, Doing, Step, IsNode, is_node, changed, updated, next_in, happens, hear_data, hear_status, with_statuses, follow, come_up, be_led, open_first, may_open_at, other_end, did, did_here, after_step, after_steps, first_network}
 use Rattle.node_moves.specs.Networks as of_nodes
-use Rattle.node_moves.specs.Laws.{AreTheirs, IsUnbroken}
+use Rattle.node_moves.specs.Laws.{IsUnbroken}
+use Rattle.node_moves.specs.Outside.{ArePlaced}
 unfoldable use Rattle.exchange_rules.specs.Exchange.{apply}
 use Rattle.exchange_rules.specs.Exchange.{handle_event}
 use Rattle.exchange_rules.specs.Opening.{may_open, wanted, open_link, association_up}
@@ -39,7 +41,7 @@ point_by Near link = link / 2 ^ 18
 point_by Far link = link / 2 ^ 4 % 2 ^ 14
 
 unfoldable pub all_points : Shape
-all_points = record { nodes = 2 ^ 14; links = 2 ^ 32; point = λ link side. point_by side link; leads = λ link side m. true; restarts = λ point. false }
+all_points = record { nodes = 2 ^ 14; links = 2 ^ 32; point = λ link side. point_by side link; leads = λ link side m. true }
 
 line-within : (first : Bool) (own other slc : ℕ) → own < 2 ^ 14 → other < 2 ^ 14 → slc < 2 ^ 4 → (place_by first own other slc).link < 2 ^ 32
 line-within true own other slc a b d = omega (arith, a, b, d)
@@ -60,7 +62,6 @@ are-all = record {
   nodes = λ point l. l;
   links = λ own other slc a b d. line-within (nat_lt own other) own other slc a b d;
   points = λ own other slc a b d. point-back (nat_lt own other) own other slc a b d;
-  lasting = λ point. refl;
 }
 
 -- ---- the next text in flight
@@ -80,7 +81,7 @@ next-is c link texts text e = by (nat_lt link (length c.links)) refl e
     by true f g = record { inside = grind (arith, nat_tests, f); flying = first-text texts text g }
     by false f g = absurd cc
 
-module _ (settings : (point : ℕ) → Configuration) (t : AreTheirs settings) (shape : Shape) (o : IsShape shape) where
+module _ (settings : (point : ℕ) → Configuration) (t : ArePlaced settings) (shape : Shape) (o : IsShape shape) where
   abbrev pub Goes_on : NetworkState → NetworkState → Type 0
   Goes_on w v = StepGoes settings t shape o w v
 
@@ -144,11 +145,11 @@ module _ (settings : (point : ℕ) → Configuration) (t : AreTheirs settings) (
       by true false d = refl
       by false b d = refl
 
-  up-unbroken : (x link : ℕ) (fx : IsNode settings x) (n : Node WholeQueues) → (apply whole (settings x) (CameUp link) n).left.parts.times_broken ≡ 0 → n.parts.times_broken ≡ 0
-  up-unbroken x link fx n none =
+  up-grown : (x link : ℕ) (fx : IsNode settings x) (n : Node WholeQueues) → Grown n.parts.times_broken (apply whole (settings x) (CameUp link) n).left.parts.times_broken
+  up-grown x link fx n =
       let left : Node WholeQueues = (handle_event whole (settings x) (CameUp link) n).left in
-      sym (up-broken (settings x) link n)
-      ∙ (event-settles shape o (settings x) (t.well x fx) (CameUp link) (mid left [] [] no_books) n no_books (goes-none shape (settings x) (mid left [] [] no_books))).unbroken none
+      both-grown (same-grown (up-broken (settings x) link n))
+      (event-settles shape o (settings x) (t.well x fx) (CameUp link) (mid left [] [] no_books) n no_books (goes-none shape (settings x) (mid left [] [] no_books))).grown
 
   -- a link that isn't there doesn't want to open
   nowhere : {A : Type 0} (w : NetworkState) (x link : ℕ) (p : Network) → IsNode settings x → Shown settings t w p → MayComeUp (w.node x).node.parts link → nat_lt link (length (settings x).links) ≡ false → A
@@ -177,8 +178,8 @@ module _ (settings : (point : ℕ) → Configuration) (t : AreTheirs settings) (
       by : (b : Bool) → nat_lt link (length (settings x).links) ≡ b → Goes_on w (changed x up w)
       by true h = second-step settings t shape o w x link fx (grind (arith, nat_tests, h)) m f
       by false h = record {
-        unbroken = broken-before settings t shape o w (changed x up w) x fx (λ y d. changed-other x up w y d)
-            (λ none. up-unbroken x link fx (w.node x).node (ap (λ (q : NetworkNode). q.node.parts.times_broken) (sym (changed-here x up w)) ∙ none));
+        grown = grown-before settings t shape o w (changed x up w) x fx (λ y d. changed-other x up w y d)
+            (both-grown (up-grown x link fx (w.node x).node) (same-grown (ap (λ (q : NetworkNode). q.node.parts.times_broken) (changed-here x up w))));
         goes = λ p at s. nowhere w x link p fx s m h;
       }
 
@@ -208,9 +209,10 @@ module _ (settings : (point : ℕ) → Configuration) (t : AreTheirs settings) (
           let inside : link < length (settings x).links = grind (arith, nat_tests, h) in
           first-step settings t shape o w x link fx inside m there (is-other settings t shape o x link there fx inside g) f
       by false h = record {
-        unbroken = λ i fi none. broken-before settings t shape o w one x fx (λ y d. changed-other x (come_up (settings x) link) w y d)
-            (λ here. up-unbroken x link fx (w.node x).node (ap (λ (q : NetworkNode). q.node.parts.times_broken) (sym (changed-here x (come_up (settings x) link) w)) ∙ here))
-            i fi (sym (led-broken one there.point there.link i) ∙ none);
+        grown = λ i fi. both-grown
+            (grown-before settings t shape o w one x fx (λ y d. changed-other x (come_up (settings x) link) w y d)
+            (both-grown (up-grown x link fx (w.node x).node) (same-grown (ap (λ (q : NetworkNode). q.node.parts.times_broken) (changed-here x (come_up (settings x) link) w)))) i fi)
+            (same-grown (led-broken one there.point there.link i));
         goes = λ p at s. nowhere w x link p fx s m h;
       }
 
@@ -238,16 +240,17 @@ module _ (settings : (point : ℕ) → Configuration) (t : AreTheirs settings) (
 
   both-steps : (w v u : NetworkState) → Goes_on w v → Goes_on v u → Goes_on w u
   both-steps w v u f g = record {
-    unbroken = λ i fi none. f.unbroken i fi (g.unbroken i fi none);
+    grown = λ i fi. both-grown (f.grown i fi) (g.grown i fi);
     goes = λ p h s.
-        let a : Reaches settings t shape o p v = f.goes p h s in
-        let b : Reaches settings t shape o (last_of p a.networks) u =
+        let a : Reaches settings t shape o w p v = f.goes p h s in
+        let b : Reaches settings t shape o v (last_of p a.networks) u =
         g.goes (last_of p a.networks)
-        (λ x fx. record { lasting = (h x fx).lasting; lasts = lasts-after shape says_of (h x fx).lasting p a.networks a.moves (h x fx).lasts; led = (h x fx).led }) a.shown in
+        (λ x fx. record { lasts = lasts-after shape says_of p a.networks a.moves (h x fx).lasts; led = (h x fx).led }) a.shown in
         record {
           networks = a.networks ++ b.networks;
           moves = moves-append shape p a.networks b.networks a.moves b.moves;
-          broken = λ point none. ap (λ (q : Network). q.broken point) (last-append shape p a.networks b.networks) ∙ b.broken point none ∙ a.broken point (λ fx. g.unbroken point fx (none fx));
+          broken = λ point none. ap (λ (q : Network). q.broken point) (last-append shape p a.networks b.networks) ∙ b.broken point (λ fx. unraised-then (f.grown point fx) (g.grown point fx) (none fx))
+              ∙ a.broken point (λ fx. unraised-first (f.grown point fx) (g.grown point fx) (none fx));
           shown = subst (Shown settings t u) (sym (last-append shape p a.networks b.networks)) b.shown;
         };
   }
@@ -307,16 +310,16 @@ module _ (settings : (point : ℕ) → Configuration) (t : AreTheirs settings) (
 
   module _ (led : (x : ℕ) → IsNode settings x → IsLed shape (settings x)) where
     -- so each network that steps reach shows as one that moves reach
-    pub reaches : (steps : List Step) → Reaches settings t shape o quiet.first_network (after_steps settings steps (first_network settings))
+    pub reaches : (steps : List Step) → Reaches settings t shape o (first_network settings) quiet.first_network (after_steps settings steps (first_network settings))
     reaches steps =
-        (all-steps steps (first_network settings)).goes quiet.first_network (λ x fx. record { lasting = o.lasting; lasts = lasts-first shape says_of; led = led x fx }) first-shown
+        (all-steps steps (first_network settings)).goes quiet.first_network (λ x fx. record { lasts = lasts-first shape says_of; led = led x fx }) first-shown
 
     -- and while no node is broken all laws of moves hold there
     pub reached : (steps : List Step) → IsUnbroken settings (after_steps settings steps (first_network settings))
         → (p : Network) × Sound shape says_of p × Shown settings t (after_steps settings steps (first_network settings)) p
     reached steps none =
-        let r : Reaches settings t shape o quiet.first_network (after_steps settings steps (first_network settings)) = reaches steps in
-        let whole_then : (point : ℕ) → (last_of quiet.first_network r.networks).broken point ≡ false = λ point. r.broken point (none point) in (
+        let r : Reaches settings t shape o (first_network settings) quiet.first_network (after_steps settings steps (first_network settings)) = reaches steps in
+        let whole_then : (point : ℕ) → (last_of quiet.first_network r.networks).broken point ≡ false = λ point. r.broken point (λ fx. never-raised (none point fx)) in (
           last_of quiet.first_network r.networks,
           sound-always shape says_of quiet.first_network r.networks (quiet-first says_of) r.moves whole_then,
           r.shown,

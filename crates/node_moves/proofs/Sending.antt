@@ -10,6 +10,7 @@ use Rattle.node_moves.proofs.Handling.{mid, end-at, live-queue}
 use Rattle.node_moves.proofs.Failures.{node-there, number-fits, booked-alike}
 use Rattle.node_moves.proofs.Heard.{never-odd}
 use Rattle.node_moves.proofs.World.{books_of, IsFlown, IsData, IsStatus, AreData, AreStatuses, data_of, ShownAt, rests, place_at, at-work}
+use Rattle.node_moves.proofs.Grown.{same-grown}
 use Rattle.node_moves.proofs.Relining.{reline, Leads, leads-one, with_line, line-set}
 use Rattle.node_moves.proofs.Flights.{IsSameFlight, same-flight, changed-here, changed-other, updated-here, updated-other}
 use Rattle.node_moves.proofs.BothEnds.{IsOther, is-other, across-named, reline-both}
@@ -17,7 +18,7 @@ use Rattle.node_moves.proofs.Outgoing.{IsNext, is-next, message-is-next, next-se
 use Rattle.node_moves.proofs.Steps.{StepGoes, step-none, finish}
 use Rattle.node_moves.specs.Networks.{NetworkNode, NetworkState, IsNode, changed, updated, reach, sent, flies, fetch, other_end}
 use Rattle.node_moves.specs.Networks as of_nodes
-use Rattle.node_moves.specs.Laws.{AreTheirs}
+use Rattle.node_moves.specs.Outside.{ArePlaced}
 use Rattle.exchange_rules.proofs.Steps.{ways_of}
 use Rattle.exchange_rules.proofs.Lists.{alike-at, each-set}
 use Rattle.exchange_rules.specs.Sending.{Outgoing, SendsStatus, SendsMessage, Acknowledges, SendsNothing, goes_out, may_send, next_message, status_first, message_first, frame_from, frame_taken, after_sending, after_take, without_owed}
@@ -86,7 +87,7 @@ take-broken c link n SendsNothing = refl
 
 -- ---- a frame flies
 
-reach-rests : (settings : (point : ℕ) → Configuration) (t : AreTheirs settings) (frame : FrameValue) (l : ℕ) (e : NetworkNode) → rests settings t (reach frame l e) ≡ rests settings t e
+reach-rests : (settings : (point : ℕ) → Configuration) (t : ArePlaced settings) (frame : FrameValue) (l : ℕ) (e : NetworkNode) → rests settings t (reach frame l e) ≡ rests settings t e
 reach-rests settings t (StatusFrame bsn fsn status) l e = refl
 reach-rests settings t (EmptyFrame bsn fsn) l e = refl
 reach-rests settings t (MessageFrame bsn fsn sio sif) l e = refl
@@ -147,7 +148,7 @@ flies-data frame shown y z is s carries more to_near told_near told_far near_may
   });
 }
 
-module _ (settings : (point : ℕ) → Configuration) (t : AreTheirs settings) (shape : Shape) (o : IsShape shape) (w : NetworkState) (x link : ℕ) (fx : IsNode settings x) where
+module _ (settings : (point : ℕ) → Configuration) (t : ArePlaced settings) (shape : Shape) (o : IsShape shape) (w : NetworkState) (x link : ℕ) (fx : IsNode settings x) where
   abbrev c : Configuration
   c = settings x
 
@@ -258,12 +259,12 @@ module _ (settings : (point : ℕ) → Configuration) (t : AreTheirs settings) (
   -- ---- the node at rest, once its frame flies
 
   flying : (frame : FrameValue) (out : Outgoing) → goes_out whole c link n ≡ out → ((p : Network) → IsAt shape c p → ShownAt settings t w x (rests settings t (w.node x)) p
-      → (inside : link < length c.links) × Leads settings t shape o p (gone (other_end settings x link) frame) x (mid (after_sending whole c link n out) [] [] k)) → StepGoes settings t shape o w (gone (other_end settings x link) frame)
+      → (inside : link < length c.links) × Leads settings t shape o n.parts.times_broken p (gone (other_end settings x link) frame) x (mid (after_sending whole c link n out) [] [] k)) → StepGoes settings t shape o w (gone (other_end settings x link) frame)
   flying frame out e f = record {
-    unbroken = λ i fi none. sym (gone-broken (other_end settings x link) frame i) ∙ none;
+    grown = λ i fi. same-grown (gone-broken (other_end settings x link) frame i);
     goes = λ p h s.
-        let it : (inside : link < length c.links) × Leads settings t shape o p (gone (other_end settings x link) frame) x (mid (after_sending whole c link n out) [] [] k) = f p (h x fx) (at-work settings t w x p fx s) in
-        finish settings t shape o p (gone (other_end settings x link) frame) (gone (other_end settings x link) frame) x fx (mid (after_sending whole c link n out) [] [] k) it.1
+        let it : (inside : link < length c.links) × Leads settings t shape o n.parts.times_broken p (gone (other_end settings x link) frame) x (mid (after_sending whole c link n out) [] [] k) = f p (h x fx) (at-work settings t w x p fx s) in
+        finish settings t shape o w p (gone (other_end settings x link) frame) (gone (other_end settings x link) frame) x fx (mid (after_sending whole c link n out) [] [] k) it.1
         (ap (λ (g : Outgoing). mid (after_sending whole c link n g) [] [] k) (sym e) ∙ ap (rests settings t) (sym (gone-x (other_end settings x link) frame it.0 refl)))
         (λ i d. refl) (λ i. record { user_data = refl; statuses = refl; follows = refl; came = refl });
   }
@@ -324,7 +325,7 @@ module _ (settings : (point : ℕ) → Configuration) (t : AreTheirs settings) (
               up = shown.up ∙ ap not up;
               after = line-set shape p its (with_status y) (node_at shape p its) (link-inside shape o c well link) (own-inside shape o c well link);
             }))
-            (λ point. refl)
+            (same-grown refl) (λ point. refl)
             (flown-shown frame (other_end settings x link) refl (mid node [] [] k) p (with_status y) (node_at shape p its) s (flies-status la ls status y (sayable-status la ls status (number-fits _) (sent-fits (queue_at n.queues link)))) inside
             (said-sized node new refl refl refl refl quiet s.here.sized) (shown-alike n node link y.near (alike link) shown) (λ l d. alike l) (booked-alike (node_at shape p its) n node [] [] k refl refl (same-node p (mid n [] [] k) s.here))),
       ))
@@ -356,7 +357,7 @@ module _ (settings : (point : ℕ) → Configuration) (t : AreTheirs settings) (
               up = is_up;
               after = line-set shape p its z (node_at shape p its) (link-inside shape o c well link) (own-inside shape o c well link);
             }))
-            (λ point. refl)
+            (same-grown refl) (λ point. refl)
             (flown-shown frame (other_end settings x link) refl (mid node [] [] k) p z (node_at shape p its) s
             (flies-data frame (acknowledgement y.near.queue) y z (λ e l. refl) (sayable-empty la ls (number-fits _) (sent-fits (queue_at n.queues link))) (ap (λ (q : Queue). Some (acknowledgement q)) same) refl refl refl refl refl refl refl refl) inside
             (said-sized node new refl refl refl refl quiet s.here.sized) (shown-alike n node link y.near (alike link) shown) (λ l d. alike l)
@@ -432,7 +433,7 @@ module _ (settings : (point : ℕ) → Configuration) (t : AreTheirs settings) (
               next = ap (λ (g : Queue). to_send g c.window) (sym same) ∙ is;
               after = line-set shape p its z (node_at shape p its) (link-inside shape o c well link) (own-inside shape o c well link);
             }))
-            (λ point. refl)
+            (same-grown refl) (λ point. refl)
             (flown-shown frame (other_end settings x link) refl (mid node [] [] k) p z (node_at shape p its) s
             (flies-data frame (machine.MessageFrame next.number (last_accepted y.near.queue) next.message) y z (λ e l. refl) (sayable-message la next.number next.message (number-fits _) fits short)
             (ap (λ (g : Queue). Some (machine.MessageFrame next.number (last_accepted g) next.message)) same) refl refl refl refl refl refl refl refl) inside

@@ -4,6 +4,7 @@ use Rattle.node_moves.proofs.Machine.{Network, Shape, line_at, node_at, Move, Mo
 use Rattle.node_moves.proofs.Definitions.{Message, Configuration, IsWell, Node, WholeQueues, whole}
 use Rattle.node_moves.proofs.Reading.{IsShape, says_of}
 use Rattle.node_moves.proofs.Shown.{Books, accepting, naming, Mid, Shows}
+use Rattle.node_moves.proofs.Grown.{Grown, IsUnraised, same-grown, both-grown}
 use Rattle.node_moves.proofs.Going.{IsAt, Goes, goes-both}
 use Rattle.node_moves.proofs.Handling.{mid, names-more}
 use Rattle.node_moves.proofs.Own.{Names, named-besides, named-twice}
@@ -13,7 +14,7 @@ use Rattle.node_moves.proofs.World.{IsFlown, AreStatuses, Shown, books_of, rests
 use Rattle.node_moves.proofs.Relining.{Leads, leads-none, leads-one, leads-goes, with_line}
 use Rattle.node_moves.proofs.Flights.{IsSameFlight, same-flight, changed-here, changed-other, updated-here, updated-other, only-changed, statuses-changed}
 use Rattle.node_moves.specs.Networks.{NetworkNode, NetworkState, IsNode, changed, happens, hand_over, with_statuses, state_of}
-use Rattle.node_moves.specs.Laws.{AreTheirs}
+use Rattle.node_moves.specs.Outside.{ArePlaced}
 use Rattle.exchange_rules.specs.Reroutings.{first_reroutings}
 use Rattle.exchange_rules.specs.Conserving.{brought_in, brought_to, gone, gone_by, gone_by_release}
 unfoldable use Rattle.exchange_rules.specs.Exchange.{apply}
@@ -46,29 +47,31 @@ module _ (shape : Shape) (o : IsShape shape) (c : Configuration) (well : IsWell 
       let lost : List Message = (gone_by what (record { settings = c; node = n; reroutings = first_reroutings c })).lost in
       event-ends what v n k lost (names-more shape o c well v (handle_event whole c what n).left [] [] k lost e)
 
-module _ (settings : (point : ℕ) → Configuration) (t : AreTheirs settings) (shape : Shape) (o : IsShape shape) where
-  pub record Reaches (p : Network) (v : NetworkState) : Type 0 where
+module _ (settings : (point : ℕ) → Configuration) (t : ArePlaced settings) (shape : Shape) (o : IsShape shape) where
+  -- moves lead from a network that shows one state to one that shows another; they break the nodes that counted more alone
+  pub record Reaches (w : NetworkState) (p : Network) (v : NetworkState) : Type 0 where
     pub networks : List Network
     pub moves : Moves shape says_of p networks
-    pub broken : (point : ℕ) → (IsNode settings point → (v.node point).node.parts.times_broken ≡ 0) → (last_of p networks).broken point ≡ p.broken point
+    pub broken : (point : ℕ) → (IsNode settings point → IsUnraised (w.node point).node.parts.times_broken (v.node point).node.parts.times_broken) → (last_of p networks).broken point ≡ p.broken point
     pub shown : Shown settings t v (last_of p networks)
 
   pub record StepGoes (w v : NetworkState) : Type 0 where
-    pub unbroken : (point : ℕ) → IsNode settings point → (v.node point).node.parts.times_broken ≡ 0 → (w.node point).node.parts.times_broken ≡ 0
-    pub goes : (p : Network) → ((point : ℕ) → IsNode settings point → IsAt shape (settings point) p) → Shown settings t w p → Reaches p v
+    pub grown : (point : ℕ) → IsNode settings point → Grown (w.node point).node.parts.times_broken (v.node point).node.parts.times_broken
+    pub goes : (p : Network) → ((point : ℕ) → IsNode settings point → IsAt shape (settings point) p) → Shown settings t w p → Reaches w p v
 
   pub step-none : (w : NetworkState) → StepGoes w w
-  step-none w = record { unbroken = λ point f e. e; goes = λ p h s. record { networks = []; moves = tt; broken = λ point none. refl; shown = s } }
+  step-none w = record { grown = λ point f. same-grown refl; goes = λ p h s. record { networks = []; moves = tt; broken = λ point none. refl; shown = s } }
 
   -- once a node is at rest
-  pub finish : (p : Network) (w v : NetworkState) (x : ℕ) → IsNode settings x → (u : Mid) → Leads settings t shape o p w x u → u ≡ rests settings t (v.node x) → ((y : ℕ) → y ≢ x → v.node y ≡ w.node y)
-      → ((l : ℕ) → IsSameFlight (w.node x) (v.node x) l) → Reaches p v
-  finish p w v x fx u l same others flights = record {
+  pub finish : (before : NetworkState) (p : Network) (w v : NetworkState) (x : ℕ) → IsNode settings x → (u : Mid) → Leads settings t shape o (before.node x).node.parts.times_broken p w x u → u ≡ rests settings t (v.node x) → ((y : ℕ) → y ≢ x → v.node y ≡ w.node y)
+      → ((l : ℕ) → IsSameFlight (w.node x) (v.node x) l) → Reaches before p v
+  finish before p w v x fx u l same others flights = record {
     networks = l.networks;
     moves = l.moves;
     broken = λ point none. l.broken point (λ is.
         let here : point ≡ x = is ∙ t.own x fx in
-        ap (λ (m : Mid). m.node.parts.times_broken) same ∙ subst (λ (i : ℕ). (v.node i).node.parts.times_broken ≡ 0) here (none (subst (λ (i : ℕ). IsNode settings i) (sym here) fx)));
+        subst (λ (m : Mid). IsUnraised (before.node x).node.parts.times_broken m.node.parts.times_broken) (sym same)
+        (subst (λ (i : ℕ). IsUnraised (before.node i).node.parts.times_broken (v.node i).node.parts.times_broken) here (none (subst (λ (i : ℕ). IsNode settings i) (sym here) fx))));
     shown = at-rest settings t v x (last_of p l.networks) (record {
       here = subst (λ (m : Mid). Shows (settings x) (last_of p l.networks) m) same l.shown.here;
       others = λ y fy d. subst (λ (e : NetworkNode). Shows (settings y) (last_of p l.networks) (rests settings t e)) (sym (others y d)) (l.shown.others y fy d);
@@ -84,13 +87,13 @@ module _ (settings : (point : ℕ) → Configuration) (t : AreTheirs settings) (
     });
   }
 
-  -- what is broken afterwards was so before, where one node changed
-  pub broken-before : (w v : NetworkState) (x : ℕ) → IsNode settings x → ((y : ℕ) → y ≢ x → v.node y ≡ w.node y) → ((v.node x).node.parts.times_broken ≡ 0 → (w.node x).node.parts.times_broken ≡ 0)
-      → (y : ℕ) → IsNode settings y → (v.node y).node.parts.times_broken ≡ 0 → (w.node y).node.parts.times_broken ≡ 0
-  broken-before w v x fx others here y fy none =
+  -- no count falls, where one node changed
+  pub grown-before : (w v : NetworkState) (x : ℕ) → IsNode settings x → ((y : ℕ) → y ≢ x → v.node y ≡ w.node y) → Grown (w.node x).node.parts.times_broken (v.node x).node.parts.times_broken
+      → (y : ℕ) → IsNode settings y → Grown (w.node y).node.parts.times_broken (v.node y).node.parts.times_broken
+  grown-before w v x fx others here y fy =
       ⊎_elim
-      (λ (same : y ≡ x). subst (λ (j : ℕ). (w.node j).node.parts.times_broken ≡ 0) (sym same) (here (subst (λ (j : ℕ). (v.node j).node.parts.times_broken ≡ 0) same none)))
-      (λ (d : y ≢ x). subst (λ (e : NetworkNode). e.node.parts.times_broken ≡ 0) (others y d) none)
+      (λ (same : y ≡ x). subst (λ (j : ℕ). Grown (w.node j).node.parts.times_broken (v.node j).node.parts.times_broken) (sym same) here)
+      (λ (d : y ≢ x). same-grown (ap (λ (e : NetworkNode). e.node.parts.times_broken) (others y d)))
       (cases_eq y x)
 
   -- ---- an event that nothing in flight brings about
@@ -101,9 +104,9 @@ module _ (settings : (point : ℕ) → Configuration) (t : AreTheirs settings) (
       let v : NetworkState = changed x f w in
       let is : v.node x ≡ f (w.node x) = changed-here x f w in
       record {
-        unbroken = broken-before w v x fx (λ y d. changed-other x f w y d) (λ none. g.unbroken (ap (λ (e : NetworkNode). e.node.parts.times_broken) (sym is) ∙ none));
+        grown = grown-before w v x fx (λ y d. changed-other x f w y d) (both-grown g.grown (same-grown (ap (λ (e : NetworkNode). e.node.parts.times_broken) is)));
         goes = λ p h s.
-            finish p w v x fx (rests settings t (f (w.node x)))
+            finish w p w v x fx (rests settings t (f (w.node x)))
             (leads-goes settings t shape o p w x (rests settings t (w.node x)) (rests settings t (f (w.node x))) fx (h x fx)
             (leads-none settings t shape o p w x (rests settings t (w.node x)) (at-work settings t w x p fx s)) g)
             (ap (rests settings t) (sym is)) (λ y d. changed-other x f w y d) (λ l. subst (λ (e : NetworkNode). IsSameFlight (w.node x) e l) (sym is) (flights l));
@@ -158,12 +161,12 @@ module _ (settings : (point : ℕ) → Configuration) (t : AreTheirs settings) (
       let v : NetworkState = changed x g w in
       let is : v.node x ≡ g (w.node x) = changed-here x g w in
       record {
-        unbroken = broken-before w v x fx (λ y d. changed-other x g w y d) (λ none. ap (λ (e : NetworkNode). e.node.parts.times_broken) (sym is) ∙ none);
+        grown = grown-before w v x fx (λ y d. changed-other x g w y d) (same-grown (ap (λ (e : NetworkNode). e.node.parts.times_broken) is));
         goes = λ p h s.
             let it : (count : ℕ) × AreStatuses left count
             × Move shape says_of p (with_line shape p (place_at settings t x link) (with_statuses_left (line_at p (place_at settings t x link)) count) (node_at shape p (place_at settings t x link))) = f p s in
-            finish p v v x fx (rests settings t (w.node x))
-            (leads-one settings t shape o p _ v x (rests settings t (w.node x)) it.2 (λ point. refl)
+            finish w p v v x fx (rests settings t (w.node x))
+            (leads-one settings t shape o p _ v x (rests settings t (w.node x)) it.2 (same-grown refl) (λ point. refl)
             (statuses-changed settings t shape o w v x link (rests settings t (w.node x)) p it.0 fx inside (at-work settings t w x p fx s)
             (only-changed settings t shape o w x link g (λ l d. record { user_data = refl; statuses = updated-other (w.node x).statuses link left l d; follows = refl; came = refl }))
             (ap (λ (e : NetworkNode). e.user_data link) is) (ap (λ (e : NetworkNode). e.follows link) is) (ap (λ (e : NetworkNode). e.came link) is)

@@ -9,7 +9,7 @@ use Rattle.node_moves.proofs.Shown.{Books, Mid, Shows, IsShown, IsBooked, place,
 use Rattle.node_moves.proofs.Going.{Arrives}
 use Rattle.node_moves.proofs.Handling.{mid}
 use Rattle.node_moves.specs.Networks.{NetworkNode, NetworkState, IsNode, messages_of}
-use Rattle.node_moves.specs.Laws.{AreTheirs}
+use Rattle.node_moves.specs.Outside.{ArePlaced}
 use Rattle.exchange_rules.proofs.MadeManagement.{code-fits, adjacent-fits}
 use Rattle.m2pa_codec.specs.Frames.{FrameValue, read_frame}
 use Rattle.m2pa_codec.specs.Frames as frames
@@ -74,7 +74,7 @@ same-by false false one a s other b t la lb lo lp ls lt e = inl (omega (arith, e
 same-by true false one a s other b t la lb lo lp ls lt e = inr (ap (λ (k : ℕ). record { link = k; side = Near }) e)
 same-by false true one a s other b t la lb lo lp ls lt e = inr (ap (λ (k : ℕ). record { link = k; side = Far }) e)
 
-module _ (settings : (point : ℕ) → Configuration) (t : AreTheirs settings) where
+module _ (settings : (point : ℕ) → Configuration) (t : ArePlaced settings) where
   abbrev pub place_at : (point link : ℕ) → Place
   place_at point link = place (settings point) link
 
@@ -138,7 +138,7 @@ module _ (settings : (point : ℕ) → Configuration) (t : AreTheirs settings) w
         e.ends (place_at y l).link (place_at y l).side
         (λ same. d (sym (t.own y fy) ∙ sym (at-own shape o (settings y) (t.well y fy) l) ∙ same ∙ t.own x fx))
 
-    pub goes-on : (w : NetworkState) (x : ℕ) (v u : Mid) (p : Network) → IsNode settings x → ShownAt w x v p → (a : Arrives shape (settings x) p u) → ShownAt w x u (last_of p a.networks)
+    pub goes-on : {times : ℕ} (w : NetworkState) (x : ℕ) (v u : Mid) (p : Network) → IsNode settings x → ShownAt w x v p → (a : Arrives shape (settings x) times p u) → ShownAt w x u (last_of p a.networks)
     goes-on w x v u p fx s a =
         let q : Network = last_of p a.networks in
         record {

@@ -9,3 +9,7 @@ pub mod MatedRun
 pub mod LossRun
 pub mod Hops
 pub mod HopRun
+pub mod Outside
+pub mod Anew
+pub mod AnewRun
+pub mod NetworkAnew

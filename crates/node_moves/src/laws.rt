@@ -1,11 +1,14 @@
 //! What holds in each network that steps reach from the first (`specs/Networks.antt`), of any shape and with any
-//! routes. No step starts a node again, and nothing comes from outside. Where no other premise is named, these are
-//! asked (`AreTheirs`): each node is told the point at which it is, its settings are checked, and each of its links has
-//! its other end in the network, with its code. No node is *broken* while `times_broken` is 0 at all of them.
+//! routes. No step starts a node again, but in laws of what begins anew; and nothing comes from outside. Where no
+//! other premise is named, these are asked (`AreTheirs`): each node is told the point at which it is, its settings are
+//! checked, and each of its links has its other end in the network, with its code. No node is *broken* while
+//! `times_broken` is 0 at all of them.
 //!
 //! The laws are sums: each compares numbers of user messages, by any test. So equal messages aren't told apart, and one
 //! that was accepted twice may come twice. Messages whose SIF is longer than 272 octets aren't counted.
 
+ghost use Rattle.node_moves.specs.Anew.{hops_begin_anew, networks_begin_quietly, nothing_is_lost_anew};
+ghost use Rattle.node_moves.specs.AnewRun.{BeginsAnew};
 ghost use Rattle.node_moves.specs.EndToEnd.{each_message_is_accounted_for, messages_come_from_end_to_end};
 ghost use Rattle.node_moves.specs.Fates.{each_message_has_its_fate};
 ghost use Rattle.node_moves.specs.HopRun.{MatesAreAHop};
@@ -15,6 +18,8 @@ ghost use Rattle.node_moves.specs.LossRun.{NamesWhatIsLost};
 ghost use Rattle.node_moves.specs.Lossless.{flags_tell_of_each_loss, nodes_lose_nothing};
 ghost use Rattle.node_moves.specs.Lossless.{nothing_is_lost_from_end_to_end};
 ghost use Rattle.node_moves.specs.MatedRun.{ComesByTheMate};
+ghost use Rattle.node_moves.specs.NetworkAnew.{ends_begin_anew, first_networks_are_quiet, nodes_begin_anew};
+ghost use Rattle.node_moves.specs.NetworkAnew.{nothing_is_lost_in_a_network_anew, sums_begin_anew};
 ghost use Rattle.node_moves.specs.Possible.{links_may_fail, statuses_may_be_harmed};
 
 /// The node law. While no node is broken: of user messages, by any test, those that came from a node to its neighbours
@@ -79,6 +84,37 @@ pub fn messages_come_over_a_hop()
     ensures flags { nothing_is_lost_over_a_hop }
 {}
 
+/// The law of hops begins anew whenever nothing is left between the two nodes: each link between them is down at both
+/// ends, its changeover complete and no answer awaited, and neither end may follow the other; and neither node has in
+/// Held a user message for one of the two, or management from one for one of them. What was lost or broken before
+/// doesn't matter, nor how often nodes have started again, nor what is in third nodes. From then on, while neither of
+/// the two starts again or is broken once more, whatever the others do, restarts among it: of the user messages for the
+/// far node that the near one accepts, by any test, those that come to the far node by a link from the near one and
+/// those that wait at the near one are together no more than it accepted. The rest are gone: by any test, no more than
+/// the near node named as lost since then; nor than it counted in `messages_lost` since. While neither of the two
+/// counts a possible loss, none is gone. It is so in both directions. At first nothing is left between any two nodes.
+/// Links may lead out of the network there, to points without a node (`specs/Outside.antt`): then any frame may come by
+/// them whose order or answer, if it has one, is about that link and from its other end.
+pub fn hops_begin_anew()
+    ensures once { hops_begin_anew }
+    ensures flags { nothing_is_lost_anew }
+    ensures first { networks_begin_quietly }
+{}
+
+/// The node law, and both laws from end to end, begin anew whenever nothing is left at any node: each link of a node is
+/// down there, its changeover complete and no answer awaited, and the node may not follow its other end; and nothing is
+/// in Held. What was lost or broken before doesn't matter, nor how often nodes have started again. From then on, while
+/// no node starts again or is broken once more, what these laws say holds of what is handed over and accepted since,
+/// and of what nodes named as lost since; and of a node no more is gone than it counted in `messages_lost` since. While
+/// no node counts a possible loss, none is gone. The first network is such a one.
+pub fn networks_begin_anew()
+    ensures nodes { nodes_begin_anew }
+    ensures ends { ends_begin_anew }
+    ensures sums { sums_begin_anew }
+    ensures flags { nothing_is_lost_in_a_network_anew }
+    ensures first { first_networks_are_quiet }
+{}
+
 /// The node law isn't vacuous. Of a mated pair and two points that it transfers for, whose orders to change over go by
 /// any route: the only link between one of the pair and one of the points fails, with a message on it that came and
 /// wasn't confirmed, and one that didn't come. The orders and the answers go by the mate, and so does the second
@@ -102,6 +138,13 @@ pub fn a_message_is_named_as_lost()
 /// pair to the other comes, once.
 pub fn mates_are_a_hop()
     ensures { MatesAreAHop }
+{}
+
+/// Nor is that law anew. Of the same nodes, one of the pair starts again with a message for the other on their link,
+/// which is lost; nobody names it, and neither of the two counts a break. The other loses the association, and T1 runs
+/// out there. Then nothing is left between the two: their link opens again, and the next message comes, once.
+pub fn a_message_comes_anew()
+    ensures { BeginsAnew }
 {}
 
 /// The laws ask this little of links. On a link of a node the next link status in flight may be lost, or come twice.

@@ -1,0 +1,227 @@
+-- A hop anew: from each network on in which nothing is left between its two nodes.
+use Rattle.node_moves.proofs.Basics.{◌≡◌, ◌≢◌, ℕ, Bool, true, false, ◌||◌, ◌&&◌, ◌<◌, List, [], ◌∷◌, length, nat_eq, refl, ap, sym, subst, ◌∙◌, arith, ⊎_elim, cases_eq, eqb-true, ne_eqb, ◌++◌, Ok, Err, Result, if◌then◌else◌}
+use Rattle.node_moves.proofs.Machine.{Network, last_of}
+use Rattle.node_moves.proofs.Definitions.{Message, Configuration, link_at, changeover_of, Link, down_link, is_down, Standing, no_changeover}
+use Rattle.node_moves.proofs.Grown.{IsUnraised, same-grown}
+use Rattle.node_moves.proofs.Reading.{says_of}
+use Rattle.node_moves.proofs.Flights.{changed-here, changed-other}
+use Rattle.node_moves.proofs.Running.{first-shown}
+use Rattle.node_moves.proofs.Closed.{either-true, is_one_of, for_one_of, hop_points, are-hop, stays-between}
+use Rattle.node_moves.proofs.Hops.{near-in, far-in, led, comes-by}
+use Rattle.node_moves.proofs.Everywhere.{IsKept, IsSameNode, one-step}
+use Rattle.node_moves.proofs.Changes.{SpareAll, nobody, spares-nobody, AreAt, at-after, Comes, ChangeGoes, all-changes}
+use Rattle.node_moves.proofs.CountedSince.{HasCounted, counted-kept, IsCapped, capped-kept}
+use Rattle.node_moves.proofs.Begun.{begun, begun-shown, begun-lasts, none-left}
+use Rattle.node_moves.specs.Anew.{Change, Does, Restarts, OpensOutside, ComesOutside, restarted, after_change, after_changes, IsQuietEnd, NothingIsLeft, begun_anew, Stays, AreOfOthers, AreUnbrokenSince, HaveLostNothingSince, ComesOverSince, hops_begin_anew, nothing_is_lost_anew, networks_begin_quietly}
+use Rattle.node_moves.specs.EndToEnd.{to_point}
+use Rattle.node_moves.specs.Hops.{IsHop, ComesOver, gone_for}
+use Rattle.node_moves.specs.Laws.{is_user}
+use Rattle.node_moves.specs.Outside.{ArePlaced, leads_out, may_come, put_in}
+use Rattle.node_moves.specs.Networks.{NetworkNode, NetworkState, IsNode, after_step, be_led, changed, first_network, first_node, updated}
+use Rattle.network_moves.proofs.Apart.{IsApart}
+use Rattle.network_moves.proofs.Grouped.{apart-after, apart-first, groups-anew}
+use Rattle.network_moves.proofs.Lasting.{lasts-first}
+use Rattle.network_moves.specs.Groups.{EndsOnceWithin}
+use Rattle.network_moves.specs.Quiet as quiet
+use Rattle.std.proofs.lemmas.List.{get_or-replicate}
+use Rattle.m2pa_codec.specs.Frames.{FrameValue, EmptyFrame, MessageFrame, StatusFrame, read_frame}
+use Rattle.signalling_types.specs.declared.notice.FrameFault.{FrameFault}
+use Rattle.std.proofs.lemmas.List.Sums.{count_by-le-length}
+
+-- ---- changes of others
+
+neither : (a b : Bool) → a ≡ false → b ≡ false → (a || b) ≡ false
+neither false b e f = f
+neither true b e f = absurd cc
+
+others-spared : (near far : ℕ) (changes : List Change) → AreOfOthers near far changes → SpareAll (is_one_of near far) changes
+others-spared near far [] h = tt
+others-spared near far (Does step ∷ changes) h = (tt, others-spared near far changes h.1)
+others-spared near far (Restarts point ∷ changes) h = (neither (nat_eq point near) (nat_eq point far) (ne_eqb point near h.0.0) (ne_eqb point far h.0.1), others-spared near far changes h.1)
+others-spared near far (OpensOutside point link ∷ changes) h = (tt, others-spared near far changes h.1)
+others-spared near far (ComesOutside point link text ∷ changes) h = (tt, others-spared near far changes h.1)
+
+pub unraised : (before after : ℕ) → Stays before after → IsUnraised before after
+unraised before after h = record { same = omega (arith, h.same); low = h.countable }
+
+module _ (settings : (point : ℕ) → Configuration) (near far : ℕ) where
+  -- what comes from outside changes nothing but what is in flight
+  put-same : (c : Configuration) (link : ℕ) (text : List ℕ) (r : Result FrameValue FrameFault) (x : NetworkNode) → IsSameNode x (put_in c link text r x)
+  put-same c link text (Ok (StatusFrame bsn fsn status)) x = record { node = refl; submitted = refl; came = refl; accepted = refl; made = refl; named = refl }
+  put-same c link text (Ok (EmptyFrame bsn fsn)) x = record { node = refl; submitted = refl; came = refl; accepted = refl; made = refl; named = refl }
+  put-same c link text (Ok (MessageFrame bsn fsn sio sif)) x = by (may_come c link (record { sio = sio; sif = sif }))
+    where
+      by : (b : Bool) → IsSameNode x (if b then record x { user_data = updated x.user_data link (x.user_data link ++ text ∷ []) } else x)
+      by true = record { node = refl; submitted = refl; came = refl; accepted = refl; made = refl; named = refl }
+      by false = record { node = refl; submitted = refl; came = refl; accepted = refl; made = refl; named = refl }
+  put-same c link text (Err fault) x = record { node = refl; submitted = refl; came = refl; accepted = refl; made = refl; named = refl }
+
+  outside-keeps : (P : Configuration → NetworkNode → Type 0) → IsKept P → (y : ℕ) (w : NetworkState) (point : ℕ) (b : Bool) (f : NetworkNode → NetworkNode) → ((x : NetworkNode) → IsSameNode x (f x)) → P (settings y) (w.node y)
+      → P (settings y) ((if b then changed point f w else w).node y)
+  outside-keeps P kept y w point false f same k = k
+  outside-keeps P kept y w point true f same k =
+      ⊎_elim
+      (λ (is : y ≡ point). subst (P (settings y)) (ap (λ (i : ℕ). f (w.node i)) is ∙ sym (changed-here point f w) ∙ ap (changed point f w).node (sym is)) (kept.flown (settings y) (w.node y) (f (w.node y)) (same (w.node y)) k))
+      (λ (d : y ≢ point). subst (P (settings y)) (sym (changed-other point f w y d)) k)
+      (cases_eq y point)
+
+  -- what a node counts, while it doesn't start again
+  counted-after : (y : ℕ) (before : NetworkNode) (changes : List Change) → (is_one_of near far y ≡ true) → AreOfOthers near far changes → (w : NetworkState)
+      → HasCounted before.node.parts (w.node y) → HasCounted before.node.parts ((after_changes settings changes w).node y)
+  counted-after y before [] e h w k = k
+  counted-after y before (Does step ∷ changes) e h w k =
+      counted-after y before changes e h.1 (after_step settings step w) (one-step (λ c x. HasCounted before.node.parts x) (counted-kept before.node.parts) settings y step w k)
+  counted-after y before (OpensOutside point link ∷ changes) e h w k =
+      counted-after y before changes e h.1 (after_change settings (OpensOutside point link) w)
+      (outside-keeps (λ c x. HasCounted before.node.parts x) (counted-kept before.node.parts) y w point (leads_out settings point link) (be_led link) (λ x. record { node = refl; submitted = refl; came = refl; accepted = refl; made = refl; named = refl }) k)
+  counted-after y before (ComesOutside point link text ∷ changes) e h w k =
+      counted-after y before changes e h.1 (after_change settings (ComesOutside point link text) w)
+      (outside-keeps (λ c x. HasCounted before.node.parts x) (counted-kept before.node.parts) y w point (leads_out settings point link) (put_in (settings point) link text (read_frame text)) (put-same (settings point) link text (read_frame text)) k)
+  counted-after y before (Restarts point ∷ changes) e h w k =
+      counted-after y before changes e h.1 (after_change settings (Restarts point) w)
+      (subst (HasCounted before.node.parts) (sym (changed-other point (restarted (settings point)) w y (apart point h.0))) k)
+    where
+      apart : (point : ℕ) → (point ≢ near) × (point ≢ far) → y ≢ point
+      apart point d same =
+          ⊎_elim (λ (is : nat_eq y near ≡ true). d.0 (sym same ∙ eqb-true y near is)) (λ (is : nat_eq y far ≡ true). d.1 (sym same ∙ eqb-true y far is)) (either-true (nat_eq y near) (nat_eq y far) e)
+
+  -- at each node, whatever is done
+  pub capped-after : (y : ℕ) (changes : List Change) (w : NetworkState) → IsCapped (w.node y) → IsCapped ((after_changes settings changes w).node y)
+  capped-after y [] w k = k
+  capped-after y (Does step ∷ changes) w k = capped-after y changes (after_step settings step w) (one-step (λ c x. IsCapped x) capped-kept settings y step w k)
+  capped-after y (Restarts point ∷ changes) w k =
+      capped-after y changes (after_change settings (Restarts point) w)
+      (⊎_elim
+      (λ (same : y ≡ point).
+      subst (λ (i : ℕ). IsCapped ((after_change settings (Restarts point) w).node i)) (sym same)
+      (subst IsCapped (sym (changed-here point (restarted (settings point)) w)) (record { breaks = same-grown refl; messages = same-grown refl })))
+      (λ (d : y ≢ point). subst IsCapped (sym (changed-other point (restarted (settings point)) w y d)) k)
+      (cases_eq y point))
+  capped-after y (OpensOutside point link ∷ changes) w k =
+      capped-after y changes (after_change settings (OpensOutside point link) w)
+      (outside-keeps (λ c x. IsCapped x) capped-kept y w point (leads_out settings point link) (be_led link) (λ x. record { node = refl; submitted = refl; came = refl; accepted = refl; made = refl; named = refl }) k)
+  capped-after y (ComesOutside point link text ∷ changes) w k =
+      capped-after y changes (after_change settings (ComesOutside point link text) w)
+      (outside-keeps (λ c x. IsCapped x) capped-kept y w point (leads_out settings point link) (put_in (settings point) link text (read_frame text)) (put-same (settings point) link text (read_frame text)) k)
+
+  pub begun-counted : (y : ℕ) (w : NetworkState) → HasCounted (w.node y).node.parts ((begun_anew w).node y)
+  begun-counted y w = record { lost = omega arith; grown = same-grown refl; none_lost = λ u. refl; unbroken = λ u. refl }
+
+module _ (settings : (point : ℕ) → Configuration) (t : ArePlaced settings) (near far : ℕ) (fn : IsNode settings near) (ff : IsNode settings far) (hop : IsHop settings near far) (before changes : List Change)
+    (quiet_then : NothingIsLeft settings near far (after_changes settings before (first_network settings))) (others : AreOfOthers near far changes) where
+  abbrev start : NetworkState
+  start = after_changes settings before (first_network settings)
+
+  abbrev now : NetworkState
+  now = after_changes settings changes (begun_anew start)
+
+  no-nodes : (point : ℕ) → nobody point ≡ true → IsNode settings point
+  no-nodes point e = absurd cc
+
+  two-nodes : (point : ℕ) → is_one_of near far point ≡ true → IsNode settings point
+  two-nodes point e =
+      ⊎_elim
+      (λ (is : nat_eq point near ≡ true). subst (IsNode settings) (sym (eqb-true point near is)) fn)
+      (λ (is : nat_eq point far ≡ true). subst (IsNode settings) (sym (eqb-true point far is)) ff)
+      (either-true (nat_eq point near) (nat_eq point far) e)
+
+  -- ---- as moves show it
+
+  at-first : AreAt settings t (hop_points near far) (are-hop near far) quiet.first_network
+  at-first x fx = record { lasts = lasts-first (hop_points near far) says_of; led = led settings t near far fn ff hop x fx }
+
+  abbrev reached : Comes settings t (hop_points near far) (are-hop near far) nobody no-nodes (first_network settings) quiet.first_network start
+  reached =
+      (all-changes settings t (hop_points near far) (are-hop near far) nobody no-nodes before (spares-nobody before) (first_network settings)).goes quiet.first_network at-first
+      (first-shown settings t (hop_points near far) (are-hop near far))
+
+  abbrev p : Network
+  p = last_of quiet.first_network reached.networks
+
+  at-p : AreAt settings t (hop_points near far) (are-hop near far) p
+  at-p = at-after settings t (hop_points near far) (are-hop near far) quiet.first_network reached.networks reached.moves at-first
+
+  apart : IsApart (hop_points near far) says_of (is_one_of near far) (for_one_of near far) p
+  apart =
+      apart-after (hop_points near far) says_of (is_one_of near far) (for_one_of near far) (stays-between near far) quiet.first_network reached.networks reached.moves
+      (apart-first (hop_points near far) says_of (is_one_of near far) (for_one_of near far))
+
+  at-begun : AreAt settings t (hop_points near far) (are-hop near far) (begun p)
+  at-begun x fx = record { lasts = begun-lasts (hop_points near far) p (at-p x fx).lasts; led = (at-p x fx).led }
+
+  abbrev since : ChangeGoes settings t (hop_points near far) (are-hop near far) (is_one_of near far) two-nodes (begun_anew start) now
+  since = all-changes settings t (hop_points near far) (are-hop near far) (is_one_of near far) two-nodes changes (others-spared near far changes others) (begun_anew start)
+
+  abbrev goes_on : Comes settings t (hop_points near far) (are-hop near far) (is_one_of near far) two-nodes (begun_anew start) (begun p) now
+  goes_on = since.goes (begun p) at-begun (begun-shown settings t start p reached.shown)
+
+  -- ---- what the two count
+
+  counts : (y : ℕ) → is_one_of near far y ≡ true → HasCounted (start.node y).node.parts (now.node y)
+  counts y e = counted-after settings near far y (start.node y) changes e others (begun_anew start) (begun-counted settings near far y start)
+
+  caps : (y : ℕ) → IsCapped (start.node y)
+  caps y = capped-after settings near far y before (first_network settings) (record { breaks = same-grown refl; messages = same-grown refl })
+
+  -- where no possible loss is counted, no break is, nor a message
+  unbroken-so : (y : ℕ) → is_one_of near far y ≡ true → Stays (start.node y).node.parts.times_lost (now.node y).node.parts.times_lost → Stays (start.node y).node.parts.times_broken (now.node y).node.parts.times_broken
+  unbroken-so y e h = record { countable = omega (arith, h.countable, (caps y).breaks.capped); same = (counts y e).unbroken (unraised _ _ h) }
+
+  pub whole-so : HaveLostNothingSince near far start now → AreUnbrokenSince near far start now
+  whole-so none = record { near_whole = unbroken-so near (near-in near far) none.near_none; far_whole = unbroken-so far (far-in near far) none.far_none }
+
+  module _ (whole : AreUnbrokenSince near far start now) where
+    two-whole : (other : ℕ) → is_one_of near far other ≡ true → IsUnraised (start.node other).node.parts.times_broken (now.node other).node.parts.times_broken
+    two-whole other e =
+        ⊎_elim
+        (λ (is : nat_eq other near ≡ true).
+        subst (λ (i : ℕ). IsUnraised (start.node i).node.parts.times_broken (now.node i).node.parts.times_broken) (sym (eqb-true other near is)) (unraised _ _ whole.near_whole))
+        (λ (is : nat_eq other far ≡ true).
+        subst (λ (i : ℕ). IsUnraised (start.node i).node.parts.times_broken (now.node i).node.parts.times_broken) (sym (eqb-true other far is)) (unraised _ _ whole.far_whole))
+        (either-true (nat_eq other near) (nat_eq other far) e)
+
+    within : EndsOnceWithin (hop_points near far) says_of (is_one_of near far) (for_one_of near far) (last_of (begun p) goes_on.networks) near
+    within =
+        groups-anew (hop_points near far) says_of (is_one_of near far) (for_one_of near far) (begun p) goes_on.networks near (stays-between near far)
+        (none-left settings t near far fn ff start p reached.shown (at-p near fn).lasts apart quiet_then) goes_on.moves
+        (λ other e. goes_on.broken other e (λ f. two-whole other e)) (near-in near far)
+
+    comes : ComesOver settings near far now
+    comes = comes-by settings t near far fn ff hop now (last_of (begun p) goes_on.networks) goes_on.shown within
+
+    pub comes-since : ComesOverSince settings near far start now
+    comes-since = record {
+      once = comes.once;
+      named = comes.named;
+      counted = λ test. omega (arith, comes.named test, count_by-le-length (λ m. is_user m && to_point far test m) (now.node near).named, (counts near (near-in near far)).lost);
+    }
+
+  pub none-gone : HaveLostNothingSince near far start now → (test : Message → Bool) → gone_for settings near far now test ≡ 0
+  none-gone none test =
+      let c : ComesOverSince settings near far start now = comes-since (whole-so none) in
+      omega (arith, c.counted test, (counts near (near-in near far)).none_lost (unraised _ _ none.near_none), none.near_none.countable, (caps near).messages.capped)
+
+pub hops-anew : hops_begin_anew
+hops-anew settings before changes near far t fn ff hop quiet_then others whole = comes-since settings t near far fn ff hop before changes quiet_then others whole
+
+pub nothing-lost : nothing_is_lost_anew
+nothing-lost settings before changes near far test t fn ff hop quiet_then others none = none-gone settings t near far fn ff hop before changes quiet_then others none test
+
+-- ---- the first network
+
+pub first-quiet : (c : Configuration) (link : ℕ) → link < length c.links → IsQuietEnd (first_node c) link
+first-quiet c link l =
+    let at : link_at (first_node c).node.parts link ≡ down_link = get_or-replicate (length c.links) link down_link down_link l in
+    let idle : changeover_of (first_node c).node.parts link ≡ no_changeover = get_or-replicate (length c.links) link no_changeover no_changeover l in
+    record {
+      down = ap (λ (y : Link). is_down y.alignment) at;
+      complete = ap (λ (s : Standing). s.incomplete) idle;
+      unawaited = ap (λ (s : Standing). s.awaited) idle;
+      alone = refl;
+    }
+
+pub begin-quietly : networks_begin_quietly
+begin-quietly settings near far = record {
+  near_quiet = record { links = λ link l e. first-quiet (settings near) link l; held = refl };
+  far_quiet = record { links = λ link l e. first-quiet (settings far) link l; held = refl };
+}

@@ -1,0 +1,72 @@
+-- Links that lead out of a network, to points without a node; and what comes by them.
+use Rattle.std.specs.Prelude.{◌≡◌, ◌<◌, ◌^◌, ◌&&◌, ◌||◌, ℕ, Bool, true, false, not, List, [], ◌∷◌, ◌++◌, length, nat_eq}
+use Rattle.std.specs.Prelude.{nat_lt, is_some, Result, Ok, Err, if◌then◌else◌}
+use Rattle.signalling_types.specs.Message.{Message, dpc_of, opc_of, service_indicator}
+use Rattle.signalling_types.specs.declared.limits.TheConstants.Limits.{SIF_OCTETS}
+use Rattle.settings.specs.Configuration.{Configuration}
+use Rattle.settings.specs.Well.{IsWell}
+use Rattle.exchange_rules.specs.Routing.{entry_of, peer_of}
+use Rattle.m2pa_codec.specs.Frames.{FrameValue, EmptyFrame, MessageFrame, StatusFrame, read_frame}
+use Rattle.signalling_types.specs.declared.notice.FrameFault.{FrameFault}
+use Rattle.mtp3_codec.specs.Management.{read_management}
+use Rattle.mtp3_codec.specs.declared.fault.MgmtFault.{MgmtFault}
+use Rattle.mtp3_codec.specs.declared.management.Management.{Management}
+use Rattle.mtp3_codec.specs.declared.management.Management.TheVariants as says
+use Rattle.node_moves.specs.Networks.{NetworkNode, IsNode, is_node, other_end, updated}
+
+-- each node is at its point, and its settings are checked; and each of its links that leads to a node has its other end
+-- there. The others lead out
+pub record ArePlaced (settings : (point : ℕ) → Configuration) : Type 0 where
+  pub own : (point : ℕ) → IsNode settings point → (settings point).own ≡ point
+  pub well : (point : ℕ) → IsNode settings point → IsWell (settings point)
+  pub joined : (point link : ℕ) → IsNode settings point → link < length (settings point).links →
+      IsNode settings (peer_of (settings point) link) → is_some (other_end settings point link) ≡ true
+
+-- whether a link of a node leads out
+abbrev pub leads_out : ((point : ℕ) → Configuration) → (point link : ℕ) → Bool
+leads_out settings point link =
+    is_node settings point
+    && (nat_lt link (length (settings point).links) && not (is_node settings (peer_of (settings point) link)))
+
+module _ (c : Configuration) (link : ℕ) where
+  -- an order or an answer that comes by a link from outside is about that link, and from its other end to this one
+  abbrev pub is_about_it : Message → (slc number : ℕ) → Bool
+  is_about_it m slc number =
+      nat_eq (opc_of m) (peer_of c link)
+      && (nat_eq (dpc_of m) c.own && (nat_eq slc (entry_of c link).slc && nat_lt number (2 ^ 24)))
+
+  -- so nobody outside speaks for a node. Nor does anybody there make an emergency changeover order, or answer one
+  abbrev pub speaks_for_itself : Message → Result Management MgmtFault → Bool
+  speaks_for_itself m (Ok (says.ExtendedChangeoverOrder slc number)) = is_about_it m slc number
+  speaks_for_itself m (Ok (says.ExtendedChangeoverAcknowledgement slc number)) = is_about_it m slc number
+  speaks_for_itself m (Ok (says.EmergencyChangeoverOrder slc)) = false
+  speaks_for_itself m (Ok (says.EmergencyChangeoverAcknowledgement slc)) = false
+  speaks_for_itself m (Ok (says.ChangebackDeclaration slc code)) = true
+  speaks_for_itself m (Ok (says.ChangebackAcknowledgement slc code)) = true
+  speaks_for_itself m (Ok (says.TransferProhibited point)) = true
+  speaks_for_itself m (Ok (says.TransferRestricted point)) = true
+  speaks_for_itself m (Ok (says.TransferAllowed point)) = true
+  speaks_for_itself m (Ok (says.RouteSetTestProhibited point)) = true
+  speaks_for_itself m (Ok (says.RouteSetTestRestricted point)) = true
+  speaks_for_itself m (Ok says.TrafficRestartAllowed) = true
+  speaks_for_itself m (Ok (says.UserPartUnavailable point user_part cause)) = true
+  speaks_for_itself m (Err fault) = true
+
+  -- whether a message may come by the link: it is no longer than a signalling information field, and speaks for nobody
+  -- else
+  abbrev pub may_come : Message → Bool
+  may_come m =
+      not (nat_lt SIF_OCTETS (length m.sif))
+      && (not (nat_eq (service_indicator m) 0) || speaks_for_itself m (read_management m.sif))
+
+  -- such a frame is in flight to the node, whatever its numbers; no text that is no frame
+  abbrev pub put_in : List ℕ → Result FrameValue FrameFault → NetworkNode → NetworkNode
+  put_in text (Ok (StatusFrame bsn fsn status)) x =
+      record x { statuses = updated x.statuses link (x.statuses link ++ text ∷ []) }
+  put_in text (Ok (EmptyFrame bsn fsn)) x =
+      record x { user_data = updated x.user_data link (x.user_data link ++ text ∷ []) }
+  put_in text (Ok (MessageFrame bsn fsn sio sif)) x =
+      if may_come (record { sio = sio; sif = sif })
+      then record x { user_data = updated x.user_data link (x.user_data link ++ text ∷ []) }
+      else x
+  put_in text (Err fault) x = x
