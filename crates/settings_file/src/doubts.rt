@@ -20,7 +20,7 @@ use std::alloc::{AllocError, Global};
 use toml::Table;
 
 /// Warnings of values of one file, at most.
-pub(crate) const MOST_DOUBTS: usize = 20;
+pub const MOST_DOUBTS: usize = 20;
 
 /// A warning for each of the first 20 values that are hardly meant, in the document of a settings file of version 4 of this
 /// name, which says these settings: timers that last less or longer than a standard has it, if the file's server says

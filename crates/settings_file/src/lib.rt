@@ -29,7 +29,7 @@ mod versions;
 
 pub use document::{read, read_document};
 pub use documents::{document_in, parse};
-pub use doubts::value_warnings;
+pub use doubts::{MOST_DOUBTS, value_warnings};
 pub use fault::SettingsFault;
 pub use faults::{all_faults, all_faults_begin};
 pub use key_rows::{KeyRow, entry_key, lone_key};
