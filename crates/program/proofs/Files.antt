@@ -1,6 +1,7 @@
 -- What the program does with a file of settings, by what its document says.
 use Rattle.std.proofs.Common.{◌≡◌, ◌⊎◌, ℕ, List, Some, Ok, Err, refl, sym, ◌∙◌, subst, inl, inr}
-use Rattle.std.proofs.lemmas.Option.{none-some, same_Some}
+use Rattle.std.proofs.Math.Option.{some-injective}
+use Rattle.std.proofs.lemmas.Option.{none-some}
 use Rattle.std.specs.Str.{IsUtf8}
 use Rattle.settings.specs.Configuration.{Configuration}
 use Rattle.toml.specs.Data.{Members}
@@ -44,7 +45,7 @@ told-explains file octets document why errors errors_new are (inl (text, is, tol
     inl (
       text,
       record {
-        document = λ t utf8 parsed. subst (λ (d : Members). (faults : List SettingsFault) × AreAllFaults d why faults × AreSentences file octets faults text) (same_Some (sym are.parsed ∙ parsed)) (is.faults, is.all, is.explained);
+        document = λ t utf8 parsed. subst (λ (d : Members). (faults : List SettingsFault) × AreAllFaults d why faults × AreSentences file octets faults text) (some-injective document t (sym are.parsed ∙ parsed)) (is.faults, is.all, is.explained);
         none = λ h. absurd (h document are.text are.parsed);
       },
       told,

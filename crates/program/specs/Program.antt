@@ -1,6 +1,7 @@
 -- What the program does with files and scripts, and its exit statuses.
 use Rattle.std.specs.Prelude.{◌≡◌, ◌≢◌, ◌⊎◌, ℕ, List, [], ◌∷◌, ◌++◌, codes, None, Some, Result, Ok, Err, OnOk}
 use Rattle.std.specs.Io.KnownBytes.{Appends, IsAtEnd}
+use Rattle.toml.specs.Data.{Members}
 use Rattle.settings.specs.Configuration.{Configuration}
 use Rattle.settings_file.specs.Faults.{fault_line, no_memory}
 use Rattle.settings_file.specs.declared.fault.SettingsFault.{SettingsFault}

@@ -90,10 +90,8 @@ fn with_document<W: Sink, E: Sink>(
     ensures ended { IfErr result (EndsAtFile file.now (Ok octets.items) (W.output writer.old) (W.output writer.new)
         (E.output errors.old) (E.output errors.new)) }
 {
-    match document_of(alloc, file, octets.as_slice(), writer, errors) {
-        Ok(document) => Ok(ParsedFile { octets, document }),
-        Err(status) => Err(status),
-    }
+    let document = document_of(alloc, file, octets.as_slice(), writer, errors)?;
+    Ok(ParsedFile { octets, document })
 }
 
 /// The document of the octets of a file, or how the program ends without one.
