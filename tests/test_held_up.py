@@ -79,6 +79,30 @@ class Flood(threading.Thread):
         self.join(PATIENCE)
 
 
+class Asking(Flood):
+    """A client of the page that asks again as soon as something of an answer came."""
+
+    def __init__(self, page: int) -> None:
+        stream = socket.create_connection((HOST, page), timeout=PATIENCE)
+        request = f"GET /metrics HTTP/1.1\r\nHost: {HOST}:{page}\r\n\r\n".encode()
+        super().__init__(stream, self.once_answered)
+        self.request, self.answers = request, 0
+        stream.sendall(request)
+
+    def once_answered(self) -> bytes:
+        if not self.stream.recv(1 << 20):
+            raise ConnectionError("the page closed it")
+        self.answers += 1
+        return self.request
+
+
+def has_room(page: int) -> bool:
+    """Whether the page answers another client."""
+    with contextlib.suppress(ConnectionError):
+        return longest_turn(page) > 0
+    return False
+
+
 class HeldUp(NodeTest):
     """A stranger, or a neighbour, has a third link of the near node."""
 
@@ -175,6 +199,20 @@ class HeldUp(NodeTest):
         for stream in streams:
             self.addCleanup(stream.close)
         return streams
+
+    def test_page_clients_that_ask_without_end(self) -> None:
+        """They have all places of the page, and each of them is answered."""
+        steady = self.meet()
+        clients = [Asking(steady.page) for _ in range(PAGE_CLIENTS)]
+        with steady.attacked("page clients that ask without end"):
+            for client in clients:
+                client.start()
+            time.sleep(SECONDS)
+            for client in clients:
+                client.end()
+                client.stream.close()
+            wait_until(lambda: has_room(steady.page), "the page takes another client")
+        self.assertGreater(min(client.answers for client in clients), 0)
 
     def test_posts_of_a_web_page(self) -> None:
         """Lines behind a request do nothing, whatever is in front of it that isn't an order."""
