@@ -1,7 +1,8 @@
 -- What the program does with a file of settings, by what its document says.
 use Rattle.std.proofs.Common.{◌≡◌, ◌⊎◌, ℕ, List, Some, Ok, Err, refl, sym, ◌∙◌, subst, inl, inr}
-use Rattle.std.proofs.Math.Option.{some-injective}
-use Rattle.std.proofs.lemmas.Option.{none-some}
+use Rattle.std.proofs.lemmas.Option.{none-some, same_Some}
+use Rattle.std.specs.Prelude.{String, string_bytes}
+use Rattle.std.specs.Global.{Global}
 use Rattle.std.specs.Str.{IsUtf8}
 use Rattle.settings.specs.Configuration.{Configuration}
 use Rattle.toml.specs.Data.{Members}
@@ -19,6 +20,9 @@ use Rattle.script.specs.Streams.{Input, Output}
 use Rattle.program.specs.Explaining.{IsToldOf, AreFaultsExplained}
 use Rattle.program.specs.Folders.{FileRead, IsFault}
 use Rattle.program.specs.Program.{Streams, streams, HasNoMemory, RunsScript, RunsFile, ChecksServer, ChecksFile, HasSettings, EndsAtFile, ServesFile}
+use Rattle.program.specs.Tasks.{DoesTask, Does}
+use Rattle.program.specs.Words.{Task, FileRun, asked, task_of}
+use Rattle.program.specs.declared.command_line.Words.TheVariants.{Run}
 use Rattle.program.specs.declared.folder.FileFault.TheVariants.{Unread, NoMemory}
 use Rattle.program.specs.declared.program.Status.{Status}
 
@@ -45,7 +49,7 @@ told-explains file octets document why errors errors_new are (inl (text, is, tol
     inl (
       text,
       record {
-        document = λ t utf8 parsed. subst (λ (d : Members). (faults : List SettingsFault) × AreAllFaults d why faults × AreSentences file octets faults text) (some-injective document t (sym are.parsed ∙ parsed)) (is.faults, is.all, is.explained);
+        document = λ t utf8 parsed. subst (λ (d : Members). (faults : List SettingsFault) × AreAllFaults d why faults × AreSentences file octets faults text) (same_Some document t (sym are.parsed ∙ parsed)) (is.faults, is.all, is.explained);
         none = λ h. absurd (h document are.text are.parsed);
       },
       told,
@@ -111,3 +115,18 @@ pub ends-serve : (file : List ℕ) (read : FileRead) (output output_new errors e
     → EndsAtFile file read output output_new errors errors_new ended → ServesFile file read output output_new errors errors_new ended
 ends-serve file (Ok octets) output output_new errors errors_new ended h = inr h
 ends-serve file (Err fault) output output_new errors errors_new ended h = h
+
+-- ---- words that ask for a run
+
+by-run : (task : Task) (file : List ℕ) (reads : List ℕ → FileRead → Type 0) (old new : Streams) (ended : Status)
+    → FileRun file ≡ task → (read : FileRead) × reads file read × RunsFile file read old new ended → DoesTask task reads old new ended
+by-run task file reads old new ended e ran = rw (← e) ran
+
+pub asks-run : (file : String Global) → task_of (Run (Some file)) ≡ Some (FileRun (string_bytes file))
+asks-run file = refl
+
+pub does-run : (given : List (String Global)) (file text : List ℕ) (reads : List ℕ → FileRead → Type 0) (old new : Streams) (ended : Status)
+    → text ≡ file → Some (FileRun file) ≡ Some (asked given)
+    → (read : FileRead) × reads text read × RunsFile text read old new ended → Does given reads old new ended
+does-run given file text reads old new ended n e ran =
+    inl (by-run (asked given) file reads old new ended (cc e) (rw (← n) ran))

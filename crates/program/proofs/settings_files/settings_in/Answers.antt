@@ -1,11 +1,12 @@
 use Rattle.std.proofs.Common.{inl, inr, refl}
 use Rattle.settings_file.specs.Faults.{no_memory}
+use Rattle.program.specs.Folders.{AreSettings}
 use Rattle.program.proofs.Files.{file-fault, told-explains}
 use Rattle.program.proofs.settings_files.settings_in.Goals as goal
 
 pub returns-in-Ok-clause-settings : goal.returns-in-Ok-clause-settings
 returns-in-Ok-clause-settings g c =
-    let settings = record { text = c.requires.text; read = c.in-Ok.ensures.settings c.args.parsed.now.octets.items c.requires.parsed } in
+    let settings : AreSettings c.args.parsed.now.octets.items c.in-Ok.settings = record { text = c.requires.text; read = c.in-Ok.ensures.settings c.args.parsed.now.octets.items c.requires.parsed } in
     ((settings, _, c.requires, g.E.Sink.output c.warn.new.errors, c.warn.ensures, c.warn_of_values.ensures), refl)
 
 pub returns-in-Err-clause-ended : goal.returns-in-Err-clause-ended
