@@ -98,7 +98,7 @@ class Asking(Flood):
 
 def has_room(page: int) -> bool:
     """Whether the page answers another client."""
-    with contextlib.suppress(ConnectionError):
+    with contextlib.suppress(ConnectionError, AssertionError):
         return longest_turn(page) > 0
     return False
 

@@ -34,6 +34,14 @@ class NodeLog(NodeTest):
     def await_alarms(self, node, *names: str) -> None:
         wait_until(lambda: self.alarms(node) == [*names], f"the alarms {names}")
 
+    def looked_at(self, **how) -> Pair:
+        """A pair, once the log of each node has told that its links are in service, and what they lead to accessible."""
+        pair = Pair(self, **how)
+        for node, adjacent in ((pair.near, FAR), (pair.far, NEAR)):
+            for name in (*[f"link {name}" for name in pair.names], f"set to-{adjacent}", f"destination {adjacent}"):
+                node.await_log(rf"clear {name} after {SECONDS} s$")
+        return pair
+
     def test_a_start(self) -> None:
         """Until its links are in service each of them, their set and what it leads to have an alarm, of which no line
         tells."""
@@ -58,7 +66,7 @@ class NodeLog(NodeTest):
             self.assertEqual(self.alarms(node), [])
 
     def test_a_link_that_is_deactivated(self) -> None:
-        pair = Pair(self)
+        pair = self.looked_at()
         self.assertEqual(pair.near.ask("deactivate e1"), ["handled"])
         pair.near.await_log("alarm link e1$")
         pair.near.await_log(rf"link e1 deactivated after {SECONDS} s ")
@@ -72,7 +80,7 @@ class NodeLog(NodeTest):
 
     def test_a_node_that_ends(self) -> None:
         """Each link, the set and the destination have alarms, which are cleared as it returns; that of a flag stays."""
-        pair = Pair(self, **SOON)
+        pair = self.looked_at(**SOON)
         pair.far.kill()
         for name in pair.names:
             pair.near.await_log(f"alarm link {name}$")
