@@ -40,7 +40,8 @@ mistake_text mistake.OfScripts word near = codes "for scripts alone: here links 
 mistake_text mistake.NoHexDigit word near = codes "submit: a character that is no hexadecimal digit"
 mistake_text mistake.OddDigits word near = codes "submit: an odd number of digits"
 mistake_text mistake.TooManyOctets word near = codes "submit: more than 4096 octets"
-mistake_text (mistake.Title title) word near = title_sentence title
+mistake_text (mistake.Title title) word near = title_sentence (codes "title add") title
+mistake_text (mistake.SetTitle title) word near = title_sentence (codes "title set") title
 mistake_text (mistake.Form command) word near = codes "must be " ++ form command
 
 abbrev pub answer_text : Mistake → (word : List ℕ) → Option ClientWord → List ℕ

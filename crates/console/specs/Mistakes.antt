@@ -1,5 +1,5 @@
 -- Why a line is none that a client may write. Each mistake is looked for from the left, so a line has one, the first.
-use Rattle.std.specs.Prelude.{ℕ, ◌%◌, ◌*◌, nat_eq, nat_lt, not, is_some, if◌then◌else◌, List, [], ◌∷◌, length}
+use Rattle.std.specs.Prelude.{ℕ, ◌%◌, ◌*◌, nat_eq, nat_lt, not, is_some, bytes_eq, codes, if◌then◌else◌, List, [], ◌∷◌, length}
 use Rattle.std.specs.Prelude.{Option, None, Some, Result, Ok, Err}
 use Rattle.std.specs.List.{list_all}
 use Rattle.std.specs.Char.{is_ascii_hexdigit}
@@ -39,15 +39,18 @@ show_mistake [] = mistake.Form word.Show
 show_mistake (name ∷ more) = no_text_unless (first_client_word name TEXTS.now)
 
 -- behind `title` is an order about a row
-abbrev pub title_mistake : Result Instruction TitleMistake → Mistake
-title_mistake (Ok order) = mistake.Form word.Title
-title_mistake (Err title) = mistake.Title title
+abbrev pub row_mistake : (verb : List ℕ) → TitleMistake → Mistake
+row_mistake verb title = if bytes_eq verb (codes "set") then mistake.SetTitle title else mistake.Title title
+
+abbrev pub title_mistake : (verb : List ℕ) → Result Instruction TitleMistake → Mistake
+title_mistake verb (Ok order) = mistake.Form word.Title
+title_mistake verb (Err title) = row_mistake verb title
 
 -- what is wrong behind a command
 abbrev pub mistake_behind : PointFormat → ClientWord → (behind : List (List ℕ)) → Mistake
 mistake_behind points word.Submit behind = submit_mistake behind
 mistake_behind points word.Show behind = show_mistake behind
-mistake_behind points word.Title behind = title_mistake (title_order points behind)
+mistake_behind points word.Title behind = title_mistake (first_word behind) (title_order points behind)
 mistake_behind points command behind = mistake.Form command
 
 -- a word that is no command of a client may be one of a script: there the network and the clock are its

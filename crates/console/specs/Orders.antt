@@ -7,7 +7,7 @@ use Rattle.settings.specs.Configuration.{Configuration, TitleEntry}
 use Rattle.sccp_codec.specs.declared.title.TitleKey.{TitleKey}
 use Rattle.settings.specs.Readings.{link_place}
 use Rattle.exchange.specs.declared.event.Order.{Order}
-use Rattle.exchange.specs.declared.event.Order.TheVariants.{Activate, Deactivate, Release, AddTitle, RemoveTitle}
+use Rattle.exchange.specs.declared.event.Order.TheVariants.{Activate, Deactivate, Release, AddTitle, SetTitle, RemoveTitle}
 use Rattle.console.specs.declared.order.OrderText.{OrderText}
 use Rattle.console.specs.declared.order.OrderText.TheVariants as text
 use Rattle.settings.specs.declared.point.PointFormat.{PointFormat}
@@ -25,17 +25,22 @@ pub data Instruction : Type 0 where
   ToDeactivate : (link : List ℕ) → Instruction
   ToRelease : (link : List ℕ) → Instruction
   ToAddTitle : (row : TitleEntry) → Instruction
+  ToSetTitle : (row : TitleEntry) → Instruction
   ToRemoveTitle : (key : TitleKey) (digits : List ℕ) → Instruction
 
--- the order about the row of this name: it is removed, or added with the words behind
+-- the order that has all words of a row
+abbrev pub row_order : (verb : List ℕ) → TitleEntry → Instruction
+row_order verb row = if bytes_eq verb (codes "set") then ToSetTitle row else ToAddTitle row
+
+-- the order about the row of this name: it is removed, or added or set with the words behind
 abbrev pub title_order_about : PointFormat → (verb : List ℕ) → RowName → List (List ℕ) → Result Instruction TitleMistake
 title_order_about points verb name behind =
     if bytes_eq verb (codes "remove")
     then if_last behind title.BehindName (ToRemoveTitle name.key name.digits.items)
-    else and_then (row_written points name behind) (λ row. Ok (ToAddTitle row))
+    else and_then (row_written points name behind) (λ row. Ok (row_order verb row))
 
 abbrev pub is_verb : List ℕ → Bool
-is_verb word = bytes_eq word (codes "remove") || bytes_eq word (codes "add")
+is_verb word = bytes_eq word (codes "remove") || bytes_eq word (codes "add") || bytes_eq word (codes "set")
 
 abbrev pub title_order_by : PointFormat → (verb : List ℕ) → List (List ℕ) → Result Instruction TitleMistake
 title_order_by points verb ws =
@@ -44,8 +49,8 @@ title_order_by points verb ws =
     title_order_about points verb name (behind_four ws))
     else Err title.Verb
 
--- the order that the words after `title` give: `add T P N DIGITS` with the words of the rest of the row, or
--- `remove T P N DIGITS`; or else the first mistake in them, from the left
+-- the order that the words after `title` give: `add T P N DIGITS` or `set T P N DIGITS` with the words of the rest of
+-- the row, or `remove T P N DIGITS`; or else the first mistake in them, from the left
 abbrev pub title_order : PointFormat → List (List ℕ) → Result Instruction TitleMistake
 title_order points ws = title_order_by points (first_word ws) (rest_of ws)
 
@@ -59,6 +64,7 @@ instruction (text.Activate link emergency) = ToActivate link.now emergency
 instruction (text.Deactivate link) = ToDeactivate link.now
 instruction (text.Release link) = ToRelease link.now
 instruction (text.AddTitle row) = ToAddTitle row
+instruction (text.SetTitle row) = ToSetTitle row
 instruction (text.RemoveTitle key digits) = ToRemoveTitle key digits.items
 
 abbrev pub instruction_or : Result OrderText TitleMistake → Result Instruction TitleMistake
@@ -75,4 +81,5 @@ order_named c (ToActivate name emergency) = option_map (λ link. Activate link e
 order_named c (ToDeactivate name) = option_map (λ link. Deactivate link) (link_place c name)
 order_named c (ToRelease name) = option_map (λ link. Release link) (link_place c name)
 order_named c (ToAddTitle row) = Some (AddTitle row)
+order_named c (ToSetTitle row) = Some (SetTitle row)
 order_named c (ToRemoveTitle key digits) = Some (RemoveTitle key (record { items = digits }))

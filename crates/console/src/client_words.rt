@@ -130,7 +130,8 @@ impl ClientWord {
             ClientWord::Activate => "activate LINK, or activate LINK emergency",
             ClientWord::Deactivate => "deactivate LINK",
             ClientWord::Release => "release LINK",
-            ClientWord::Title => "title add .. or title remove ..; help has their words",
+            ClientWord::Title =>
+                "title add .., title set .. or title remove ..; help has their words",
             ClientWord::Users => "users",
             ClientWord::Watch => "watch, or watch frames",
             ClientWord::Capture => {

@@ -27,8 +27,8 @@ pub enum Command {
     /// `release LINK`: the link may open though the answer to its changeover order is awaited.
     Release,
     /// `title add T P N DIGITS POINT ROUTE SSN`, then `backup POINT` if there is a backup, and
-    /// `changed PLAN NATURE REMOVE ADD` if titles change, or `title remove T P N DIGITS`: a translation row is added or
-    /// removed.
+    /// `changed PLAN NATURE REMOVE ADD` if titles change, `title set` with the same words, or
+    /// `title remove T P N DIGITS`: a translation row is added, set or removed.
     Title,
     /// `show links`, `show routes`, `show titles`, `show subsystems`, `show notices`, `show flags`, `show losses` or
     /// `show reroutings`.

@@ -32,7 +32,7 @@ pub use line::LINE_OCTETS;
 pub use links::show_links;
 pub use losses::{LOSSES, show_losses};
 pub use malformed::MalformedAnswer;
-pub use names::link_name;
+pub use names::{link_name, set_name};
 pub use notices::show_notices;
 pub use numbers::read_number;
 pub use order::{OrderText, order_by};

@@ -4,10 +4,12 @@ ghost use Rattle.std.specs.Prelude.{◌≡◌, ◌+◌, ◌≤◌, ◌++◌, Boo
 ghost use Rattle.console.specs.Words.{words};
 ghost use Rattle.console.specs.Malformed.{answer_text, known_to, malformed_answer, mistake_text, near_text};
 ghost use Rattle.console.specs.Malformed.{near_word, unknown_text, word_asked};
+ghost use Rattle.console.specs.TitleMistakes.{title_sentence};
 
 use crate::client_words::{COMMANDS, ClientWord, TEXTS};
 use crate::mistakes::{Mistake, find_mistake};
 use crate::nearest_word::{is_shown, nearest};
+use crate::title_mistakes::TitleMistake;
 use crate::words::next_word;
 use arrayvec::ArrayVec;
 use settings::PointFormat;
@@ -84,12 +86,25 @@ impl MalformedAnswer {
             Mistake::NoHexDigit => self.push(b"submit: a character that is no hexadecimal digit"),
             Mistake::OddDigits => self.push(b"submit: an odd number of digits"),
             Mistake::TooManyOctets => self.push(b"submit: more than 4096 octets"),
-            Mistake::Title(mistake) => self.push(mistake.sentence().as_bytes()),
+            Mistake::Title(mistake) => self.push_title("title add", mistake),
+            Mistake::SetTitle(mistake) => self.push_title("title set", mistake),
             Mistake::Form(command) => {
                 self.push(b"must be ");
                 self.push(command.form().as_bytes());
             }
         }
+    }
+
+    /// Appends what is wrong behind `title`, in the words of this order if it has all words of a row.
+    fn push_title(&mut self, order: &'static str, mistake: TitleMistake)
+        requires order { length order.now ≤ 12 }
+        requires room { length self.old + 96 ≤ ANSWER_OCTETS }
+        ensures text { self.new ≡ self.old ++ title_sentence order.now mistake }
+        ensures short { length self.new ≤ length self.old + 96 }
+    {
+        self.push(mistake.front(order).as_bytes());
+        self.push(b": ");
+        self.push(mistake.reason().as_bytes());
     }
 
     /// Appends that a word isn't known, and the nearest one. A word that a terminal doesn't print isn't shown.

@@ -3,10 +3,10 @@
 ghost use Rattle.std.specs.Prelude.{◌≡◌};
 ghost use Rattle.std.specs.List.{list_all};
 ghost use Rattle.std.specs.Char.{is_ascii_hexdigit};
-ghost use Rattle.console.specs.Words.{words_left};
+ghost use Rattle.console.specs.Words.{first_word, words_left};
 ghost use Rattle.console.specs.Orders.{title_order};
 ghost use Rattle.console.specs.Mistakes.{mistake_behind, mistake_of, octets_mistake, show_mistake, submit_mistake};
-ghost use Rattle.console.specs.Mistakes.{title_mistake};
+ghost use Rattle.console.specs.Mistakes.{row_mistake, title_mistake};
 
 use crate::client_words::{COMMANDS, ClientWord, TEXTS, first_client_word};
 use crate::commands::Command;
@@ -30,8 +30,10 @@ pub enum Mistake {
     OddDigits,
     /// They are more than a message has.
     TooManyOctets,
-    /// A word of a translation row is wrong or missing.
+    /// A word behind `title` is wrong or missing.
     Title(TitleMistake),
+    /// A word behind `title set` is wrong or missing.
+    SetTitle(TitleMistake),
     /// The words behind this command aren't of its form.
     Form(ClientWord),
 }
@@ -62,11 +64,23 @@ fn mistake_behind(command: ClientWord, behind: Option<&[u8]>, points: PointForma
 
 /// What is wrong behind `title`.
 fn title_mistake(behind: Option<&[u8]>, points: PointFormat) -> Mistake
-    ensures { result ≡ title_mistake (title_order points (words_left behind.entry)) }
+    ensures { result ≡ title_mistake (first_word (words_left behind.entry))
+        (title_order points (words_left behind.entry)) }
 {
+    let (verb, _) = next_word(behind);
     match title_order(behind, points) {
         Ok(_) => Mistake::Form(ClientWord::Title),
-        Err(mistake) => Mistake::Title(mistake),
+        Err(mistake) => row_mistake(verb, mistake),
+    }
+}
+
+fn row_mistake(verb: &[u8], mistake: TitleMistake) -> Mistake
+    ensures { result ≡ row_mistake verb.now mistake }
+{
+    if verb == b"set".as_slice() {
+        Mistake::SetTitle(mistake)
+    } else {
+        Mistake::Title(mistake)
     }
 }
 

@@ -17,7 +17,7 @@ pub fn link_name(settings: &Settings, link: LinkId) -> &str
 }
 
 /// The name of a set; nothing if no set has this number.
-pub(crate) fn set_name(settings: &Settings, set: SetId) -> &str
+pub fn set_name(settings: &Settings, set: SetId) -> &str
     ensures name { result.now ≡ set_name_in settings.now set }
     ensures fits { length result.now ≤ Limits.NAME_OCTETS }
 {

@@ -4,7 +4,7 @@ ghost use Rattle.std.specs.Prelude.{◌≡◌};
 ghost use Rattle.console.specs.Words.{words, words_left};
 ghost use Rattle.console.specs.TitleWords.{if_last};
 ghost use Rattle.console.specs.Orders.{ToRemoveTitle, instructed_by, instruction, instruction_of, instruction_or};
-ghost use Rattle.console.specs.Orders.{is_verb, order_named, title_order, title_order_about};
+ghost use Rattle.console.specs.Orders.{is_verb, order_named, row_order, title_order, title_order_about};
 ghost use Rattle.settings.specs.TitleRanges.{HasTitleRanges};
 ghost use Rattle.console.specs.declared.title_mistakes.TitleMistake.TheVariants.{BehindName};
 
@@ -39,6 +39,11 @@ pub enum OrderText<'a> {
     /// `title add T P N DIGITS POINT ROUTE SSN`, then `backup POINT` if there is a backup, and
     /// `changed PLAN NATURE REMOVE ADD` if titles change: the translation row is added.
     AddTitle {
+        /// The row.
+        row: TitleRow,
+    },
+    /// `title set` with the same words: the translation row replaces the one of its key and digits, or is added.
+    SetTitle {
         /// The row.
         row: TitleRow,
     },
@@ -86,11 +91,11 @@ pub(crate) fn title_order(
 fn is_verb(word: &[u8]) -> bool
     ensures { result ≡ is_verb word.now }
 {
-    word == b"remove".as_slice() || word == b"add".as_slice()
+    word == b"remove".as_slice() || word == b"add".as_slice() || word == b"set".as_slice()
 }
 
-/// The order about the row of this name: it is removed, or added with the words behind. The error is the first mistake
-/// in them.
+/// The order about the row of this name: it is removed, or added or set with the words behind. The error is the first
+/// mistake in them.
 fn order_about<'a>(
     verb: &[u8],
     name: RowName,
@@ -104,7 +109,18 @@ fn order_about<'a>(
         return removal(name, text);
     }
     let row = read_row(&name, text, points)?;
-    Ok(OrderText::AddTitle { row })
+    Ok(row_order(verb, row))
+}
+
+/// The order that has all words of a row.
+fn row_order<'a>(verb: &[u8], row: TitleRow) -> OrderText<'a>
+    ensures { instruction result ≡ row_order verb.now row }
+{
+    if verb == b"set".as_slice() {
+        OrderText::SetTitle { row }
+    } else {
+        OrderText::AddTitle { row }
+    }
 }
 
 /// The order that removes the row of this name, if no words are behind it.
@@ -141,6 +157,7 @@ impl OrderText<'_> {
                 Some(Order::Release(link))
             }
             OrderText::AddTitle { row } => Some(Order::AddTitle(row)),
+            OrderText::SetTitle { row } => Some(Order::SetTitle(row)),
             OrderText::RemoveTitle { key, digits } => Some(Order::RemoveTitle(key, digits)),
         }
     }

@@ -1,12 +1,12 @@
 //! What can be wrong with the words behind `title`.
 
 ghost use Rattle.std.specs.Prelude.{◌≡◌, ◌≤◌, length};
-ghost use Rattle.console.specs.TitleMistakes.{title_sentence};
+ghost use Rattle.console.specs.TitleMistakes.{title_front, title_reason};
 
 /// Which word behind `title` is wrong or missing, the first of them.
 #[derive(Clone, Copy)]
 pub enum TitleMistake {
-    /// It is neither `add` nor `remove`.
+    /// It is none of `add`, `set` and `remove`.
     Verb,
     /// The translation type.
     Translation,
@@ -39,29 +39,47 @@ pub enum TitleMistake {
 }
 
 impl TitleMistake {
-    /// What must be, behind `title`.
-    pub(crate) fn sentence(self) -> &'static str
-        ensures sentence { result.now ≡ title_sentence self }
-        ensures short { length result.now ≤ 96 }
+    /// The words before the one that is wrong: those of `order`, which has all words of a row, if it is behind those that
+    /// name the row.
+    pub(crate) fn front(self, order: &'static str) -> &'static str
+        requires { length order.now ≤ 12 }
+        ensures front { result.now ≡ title_front order.now self }
+        ensures short { length result.now ≤ 12 }
     {
         match self {
-            TitleMistake::Verb => "title: add or remove must be behind it",
-            TitleMistake::Translation => "title: T must be 0 to 255",
-            TitleMistake::Plan => "title: P must be 0 to 15",
-            TitleMistake::Nature => "title: N must be 0 to 127",
-            TitleMistake::Digits => "title: DIGITS must be 1 to 32 of 0 to 9 and a to f",
-            TitleMistake::BehindName => "title remove: nothing may be behind DIGITS",
-            TitleMistake::Point => "title add: POINT must be a point code",
-            TitleMistake::Route => "title add: ROUTE must be title or ssn",
-            TitleMistake::Ssn => "title add: SSN must be 1 to 255, or - if ROUTE is title",
-            TitleMistake::Backup => "title add: a point code must be behind backup",
+            TitleMistake::Verb
+            | TitleMistake::Translation
+            | TitleMistake::Plan
+            | TitleMistake::Nature
+            | TitleMistake::Digits => "title",
+            TitleMistake::BehindName => "title remove",
+            _ => order,
+        }
+    }
+
+    /// What must be.
+    pub(crate) fn reason(self) -> &'static str
+        ensures reason { result.now ≡ title_reason self }
+        ensures short { length result.now ≤ 80 }
+    {
+        match self {
+            TitleMistake::Verb => "add, set or remove must be behind it",
+            TitleMistake::Translation => "T must be 0 to 255",
+            TitleMistake::Plan => "P must be 0 to 15",
+            TitleMistake::Nature => "N must be 0 to 127",
+            TitleMistake::Digits => "DIGITS must be 1 to 32 of 0 to 9 and a to f",
+            TitleMistake::BehindName => "nothing may be behind DIGITS",
+            TitleMistake::Point => "POINT must be a point code",
+            TitleMistake::Route => "ROUTE must be title or ssn",
+            TitleMistake::Ssn => "SSN must be 1 to 255, or - if ROUTE is title",
+            TitleMistake::Backup => "a point code must be behind backup",
             TitleMistake::Behind => {
-                "title add: behind SSN may be backup POINT, then changed PLAN NATURE REMOVE ADD"
+                "behind SSN may be backup POINT, then changed PLAN NATURE REMOVE ADD"
             }
-            TitleMistake::NewPlan => "title add: PLAN must be 0 to 15, or -",
-            TitleMistake::NewNature => "title add: NATURE must be 0 to 127, or -",
-            TitleMistake::Remove => "title add: REMOVE must be 0 to 32",
-            TitleMistake::Add => "title add: ADD must be 1 to 32 of 0 to 9 and a to f, or -",
+            TitleMistake::NewPlan => "PLAN must be 0 to 15, or -",
+            TitleMistake::NewNature => "NATURE must be 0 to 127, or -",
+            TitleMistake::Remove => "REMOVE must be 0 to 32",
+            TitleMistake::Add => "ADD must be 1 to 32 of 0 to 9 and a to f, or -",
         }
     }
 }

@@ -84,7 +84,7 @@ pub use Rattle.route_management.specs.Updates.{Updates, first_updates, has_all_f
 pub use Rattle.route_management.specs.declared.updates.Extent.{Extent}
 pub use Rattle.route_management.specs.declared.updates.Extent.TheVariants.{From, Marked, Nothing}
 pub use Rattle.routes.specs.Routes.{with_link, with_status, has_link}
-pub use Rattle.sccp_relay.specs.Rows.{add_refusal, with_row}
+pub use Rattle.sccp_relay.specs.Rows.{add_refusal, has_row, row_place, with_row}
 pub use Rattle.sccp_relay.specs.Statuses.{TitlesValue, first_titles}
 pub use Rattle.signalling_types.specs.Message.{lent}
 pub use Rattle.signalling_types.specs.declared.cause.Cause.TheVariants.{NoMemory}

@@ -2,7 +2,7 @@
 use Rattle.std.specs.Prelude.{◌≡◌, ◌∷◌, map, Bool, true, false, List, []}
 use Rattle.link.specs.Queue.{unconfirmed}
 use Rattle.link.specs.Counts.{counts_of}
-use Rattle.exchange_rules.specs.State.{State, keep, Happening, CameUp, WentDown, FrameCame, Ticked, Submitted, Activated, Deactivated, Released, TitleAdded, TitleRemoved, Asking, Happens, Takes, AsksWants}
+use Rattle.exchange_rules.specs.State.{State, keep, Happening, CameUp, WentDown, FrameCame, Ticked, Submitted, Activated, Deactivated, Released, TitleAdded, TitleSet, TitleRemoved, Asking, Happens, Takes, AsksWants}
 use Rattle.exchange_rules.specs.Queues.{WholeQueues}
 use Rattle.exchange.specs.KeptQueues.{KeptQueues}
 use Rattle.exchange_rules.specs.First.{Abstract, IsSound}
@@ -15,7 +15,7 @@ use Rattle.exchange.specs.declared.event.Answer.TheVariants as answer
 use Rattle.exchange.specs.declared.event.Event.{Event}
 use Rattle.exchange.specs.declared.event.Event.TheVariants as event
 use Rattle.exchange.specs.declared.event.Order.{Order}
-use Rattle.exchange.specs.declared.event.Order.TheVariants.{Activate, Deactivate, Release, AddTitle, RemoveTitle}
+use Rattle.exchange.specs.declared.event.Order.TheVariants.{Activate, Deactivate, Release, AddTitle, SetTitle, RemoveTitle}
 use Rattle.exchange.specs.declared.event.Call.{Call}
 use Rattle.exchange.specs.declared.event.Call.TheVariants as call
 
@@ -50,6 +50,7 @@ ordered (Activate link emergency) lacks_memory = Activated link emergency
 ordered (Deactivate link) lacks_memory = Deactivated link
 ordered (Release link) lacks_memory = Released link
 ordered (AddTitle row) lacks_memory = TitleAdded row lacks_memory
+ordered (SetTitle row) lacks_memory = TitleSet row lacks_memory
 ordered (RemoveTitle key digits) lacks_memory = TitleRemoved key digits.items
 
 -- what an event says that was answered so

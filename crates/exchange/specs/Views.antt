@@ -10,8 +10,11 @@ use Rattle.routes.specs.Routes.{chosen_routes, sets_of}
 use Rattle.exchange.specs.declared.view.LinkStanding.{LinkStanding}
 use Rattle.exchange.specs.declared.view.LinkStanding.TheVariants as standing
 use Rattle.exchange.specs.declared.view.LinkView.{LinkView}
+use Rattle.exchange.specs.declared.view.Obstacle.{Obstacle}
+use Rattle.exchange.specs.declared.view.Obstacle.TheVariants.{Untested, PeerOutage, PeerBusy}
 use Rattle.exchange.specs.declared.view.RouteView.{RouteView}
-use Rattle.exchange_rules.specs.State.{QueueKind, Node, State, is_link, link_at, down}
+use Rattle.exchange_rules.specs.State.{QueueKind, Node, State, is_link, link_at, down, in_service}
+use Rattle.node_links.specs.NodeLinks.{Link}
 use Rattle.changeover.specs.Changeover.{may_restart, is_barred}
 use Rattle.exchange_rules.specs.ChangingOver.{changeover_of}
 use Rattle.exchange_rules.specs.Routing.{facts}
@@ -55,6 +58,20 @@ may_restart_at s link =
 abbrev pub is_barred_at : {Q : Type 0} → State Q → ℕ → Bool
 is_barred_at s link =
     is_some s.settings.timers.t2_bar && (is_link s.node.parts link && is_barred (changeover_of s.node.parts link))
+
+-- what keeps a link in service from carrying user messages: its first test isn't passed (Q.707 §2.2), the peer's
+-- processor is out (RFC 4165 §4.1.4), or the peer is busy (§4.1.5)
+abbrev pub obstacle_of : Link → Option Obstacle
+obstacle_of l =
+    if l.untested then Some Untested
+    else if l.peer_outage then Some PeerOutage
+    else if l.peer_busy then Some PeerBusy
+    else None
+
+-- the same of the link of this number: nothing if there is none, or if it isn't in service
+abbrev pub obstacle_at : {Q : Type 0} → State Q → ℕ → Option Obstacle
+obstacle_at s link =
+    if is_link s.node.parts link && in_service s.node.parts link then obstacle_of (link_at s.node.parts link) else None
 
 -- the status of the routes that messages take
 abbrev pub status_shown : List Route → RouteStatus

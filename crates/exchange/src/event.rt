@@ -27,6 +27,8 @@ pub enum Order {
     Release(LinkId),
     /// The translation row is added.
     AddTitle(TitleRow),
+    /// The translation row replaces the one of its key and digits, or is added if there is none.
+    SetTitle(TitleRow),
     /// The translation row of this key and these digits is removed.
     RemoveTitle(TitleKey, TitleDigits),
 }

@@ -147,8 +147,8 @@ impl Model for Exchange {
 }
 
 impl Exchange {
-    /// Handles an event, and returns its outcome. Only the order that adds a translation row allocates memory, and only
-    /// that order can be refused NoMemory; then nothing has changed.
+    /// Handles an event, and returns its outcome. Only the orders that add translation rows allocate memory, and only
+    /// they can be refused NoMemory; then nothing has changed.
     #[inline(always)]
     pub fn step(&mut self, event: &Event<'_>) -> Outcome
         // For every abstract state that the exchange stood for, the outcome is that of the abstract step,
@@ -236,6 +236,7 @@ impl Exchange {
             Event::Order(Order::Deactivate(link)) => self.deactivate(*link),
             Event::Order(Order::Release(link)) => self.release_bar(*link),
             Event::Order(Order::AddTitle(row)) => self.add_title(*row),
+            Event::Order(Order::SetTitle(row)) => self.set_title(*row),
             Event::Order(Order::RemoveTitle(key, digits)) => self.remove_title(
                 *key,
                 digits.as_slice(),

@@ -26,4 +26,4 @@ pub use settings::{
     PointCode, SetDraft, SetId, Settings, Sls, Ssn, TimersDraft, TitleChange, TitleDraft,
     TitleRoute, TitleRow, Unbarring,
 };
-pub use view::{LinkStanding, LinkView, NewNotices, RouteView};
+pub use view::{LinkStanding, LinkView, NewNotices, Obstacle, RouteView};

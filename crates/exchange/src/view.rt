@@ -56,6 +56,17 @@ impl LinkStanding {
     }
 }
 
+/// What keeps a link that is in service from carrying user messages.
+#[derive(Clone, Copy, Debug, PartialEq, Eq)]
+pub enum Obstacle {
+    /// It hasn't passed its first test (Q.707 §2.2).
+    Untested,
+    /// The peer's processor is out (RFC 4165 §4.1.4).
+    PeerOutage,
+    /// The peer is busy (RFC 4165 §4.1.5).
+    PeerBusy,
+}
+
 /// A link as it is shown.
 #[derive(Clone, Copy, PartialEq, Eq)]
 pub struct LinkView {

@@ -1,6 +1,6 @@
 -- Every event conserves user messages, and every take leaves them.
 use Rattle.exchange_rules.proofs.Basics.{Bool, Err, List, None, Ok, Option, Result, Some, [], ap, arith, false, nat_eq, not, refl, suc, sym, true, zero, ℕ, ◌&&◌, ◌+◌, ◌∙◌, ◌≡◌, take-append-drop, if◌then◌else◌, take}
-use Rattle.exchange_rules.proofs.Definitions.{Standing, may_restart, has_row, place_of, without_row, acts_on, Action, UserData, Alignment, unconfirmed-accepted, unconfirmed-sent_one, Queue, count_confirmed, first_queue, unconfirmed, SeqFault, EmptyFrame, FrameValue, MessageFrame, StatusFrame, read_frame, read_management, Link, is_down, is_in_service, Discrimination, Configuration, TitleEntry, Message, is_management, opc_of, service_indicator, Cause, FrameFault, Handled, Ignored, transfer, Gone, both_gone, brought_by, brought_here, brought_in, brought_to, confirmed_at, confirmed_by, confirmed_in, confirmed_of, gone, gone_by, only_accepted, gone_by_message, gone_by_new, gone_by_release, gone_by_tick, gone_by_word, gone_that, nothing_gone, taken_in, users_that, takes_leave_user_messages, user_messages_are_conserved, apply, handle_event, changeover_of, Carrying, accept, act_by_data, carries, carry, empty_data, handle_by, message_data, numbers, read, receive_data, Activated, CameUp, Deactivated, FrameCame, Happening, Submitted, Ticked, TitleAdded, TitleRemoved, WentDown, AreLinksSteady, IsSteady, is_l7_running, accept_data, accept_frame, accept_text, down, in_service, is_link, link_at, is_adjacent, local, manage, testing, deliver_to, submit, whither_goes, may_open, open_link, WholeQueues, queue_at, whole, new_at, new_by, new_in, new_of, add_title_unless, title_refusal, release, Acknowledges, Outgoing, SendsMessage, SendsNothing, SendsStatus, after_sending, goes_out, Abstract, Done, Node, answer, refuse, with_parts, advance, tell_owed, tick, with_rows, Released, receive}
+use Rattle.exchange_rules.proofs.Definitions.{Standing, may_restart, has_row, place_of, without_row, acts_on, Action, UserData, Alignment, unconfirmed-accepted, unconfirmed-sent_one, Queue, count_confirmed, first_queue, unconfirmed, SeqFault, EmptyFrame, FrameValue, MessageFrame, StatusFrame, read_frame, read_management, Link, is_down, is_in_service, Discrimination, Configuration, TitleEntry, Message, is_management, opc_of, service_indicator, Cause, FrameFault, Handled, Ignored, transfer, Gone, both_gone, brought_by, brought_here, brought_in, brought_to, confirmed_at, confirmed_by, confirmed_in, confirmed_of, gone, gone_by, only_accepted, gone_by_message, gone_by_new, gone_by_release, gone_by_tick, gone_by_word, gone_that, nothing_gone, taken_in, users_that, takes_leave_user_messages, user_messages_are_conserved, apply, handle_event, changeover_of, Carrying, accept, act_by_data, carries, carry, empty_data, handle_by, message_data, numbers, read, receive_data, Activated, CameUp, Deactivated, FrameCame, Happening, Submitted, Ticked, TitleAdded, TitleSet, TitleRemoved, WentDown, AreLinksSteady, IsSteady, is_l7_running, accept_data, accept_frame, accept_text, down, in_service, is_link, link_at, is_adjacent, local, manage, testing, deliver_to, submit, whither_goes, may_open, open_link, WholeQueues, queue_at, whole, new_at, new_by, new_in, new_of, add_title_unless, title_refusal, title_set_refusal, release, Acknowledges, Outgoing, SendsMessage, SendsNothing, SendsStatus, after_sending, goes_out, Abstract, Done, Node, answer, refuse, with_parts, advance, tell_owed, tick, with_rows, Released, receive}
 use Rattle.std.proofs.Common.{drop}
 use Rattle.exchange_rules.proofs.Changes.{activate-stand, advance-stand, association_down-stand, deactivate-stand, either_done-stand, fail-stand, leave_aside-stand, on_link_status-stand, stands, tell_owed-stand, release_bar-stand, late_by-stand}
 use Rattle.exchange_rules.proofs.Departing.{both-that, manage-lets, release-lets, tick-lets}
@@ -217,6 +217,7 @@ module _ (of : Message → Bool) (a : Abstract) where
   rule-moves (Deactivated link) f h = quiet (deactivate-stand of set link was)
   rule-moves (Released link) f h = quiet (release_bar-stand of set link was)
   rule-moves (TitleAdded row refused) f h = quiet (titled-stand (title_refusal was.parts.titles.rows row refused) row)
+  rule-moves (TitleSet row refused) f h = quiet (titled-stand (title_set_refusal was.parts.titles.rows row refused) row)
   rule-moves (TitleRemoved key digits) f h =
       quiet (either_done-stand of set (has_row was.parts.titles.rows (place_of key digits)) (answer Handled (with_parts was (with_rows (without_row (place_of key digits) was.parts.titles.rows) was.parts)))
       (refuse causes.NoSuchName was) (stands of was) refl refl)

@@ -1,7 +1,7 @@
 -- Definitions that the proofs here are about, and lemmas of the crates below.
 pub use Rattle.changeback.specs.Codes.{Codes, codes_of, free_code, is_outstanding, with_code, no_codes}
 pub use Rattle.changeover.specs.Changeover.{is_unasked, with_order, is_barred, awaits_incomplete, stays_awaited, expired, managements_of, accepted_count, behind, moved, in_doubt, lost, users_of, Standing, may_restart, completed, no_changeover, acknowledged, failed, begun_by_peer}
-pub use Rattle.exchange_rules.specs.Messages.{is_destination, no_room_for, offer, transfer, sccp, do_kind, do_test, test_answer, is_adjacent, local, manage, do_acknowledgement, do_management, do_order, link_with_code, distribute, is_user, cause_of, on_unavailable, from_afar, says_unavailable, link_in_set, whither_goes, deliver_to, submit, submit_to, deliver, own_of, subsystems_ticked, in_place_of, send_udts, return_unitdata, add_title_unless, title_refusal, with_rows, with_titles, on_unitdata, relay_by, return_outcome, return_refusal, add_title, remove_title}
+pub use Rattle.exchange_rules.specs.Messages.{is_destination, no_room_for, offer, transfer, sccp, do_kind, do_test, test_answer, is_adjacent, local, manage, do_acknowledgement, do_management, do_order, link_with_code, distribute, is_user, cause_of, on_unavailable, from_afar, says_unavailable, link_in_set, whither_goes, deliver_to, submit, submit_to, deliver, own_of, subsystems_ticked, in_place_of, send_udts, return_unitdata, add_title_unless, title_refusal, title_set_refusal, with_rows, with_titles, on_unitdata, relay_by, return_outcome, return_refusal, add_title, set_title, remove_title}
 pub use Rattle.exchange_rules.specs.LinkTests.{testing, test_message, own_pattern, own_test, link_test, tests_links, answer_ticks, pause_ticks, answers_test, is_test_awaited, passes_test, awaiting_test, with_test_failed, test_passed, queue_if, send_test, begin_test, repeat_test, test_unanswered, on_test_answer, with_test_passed, is_first_test, pass_test}
 pub use Rattle.exchange_rules.specs.ChangingBack.{loses_flows, code_for, declare_by, hold_flows, change_back, code_in_use, declaration, freed, on_changeback_acknowledgement, if_room, procedure_by, with_flows_held, usable, take_back, changeback_acknowledgement, late_time, late_code, is_taken_back}
 unfoldable pub use Rattle.exchange_rules.specs.ChangingBack.{take_back_each}
@@ -14,7 +14,7 @@ pub use Rattle.exchange_rules.specs.First.{first_state, counts_in, first_parts, 
 pub use Rattle.exchange_rules.specs.Entering.{begun_anew_if, begun_anew, return_if, begin_traffic}
 pub use Rattle.exchange_rules.specs.Opening.{opened_by}
 pub use Rattle.exchange_rules.specs.Frames.{Carrying, empty_data, message_data, numbers, leave_aside, accept, act_by_data, carries, carry, handle_by, read, receive_data, owing, timed_parts, handle, receive_frame, receive, data_of, enters, enters_traffic, moved_on, advance, step_on, act_by_status, act_by_timer, on_link_status, run_out, serve_status, become_busy, end_busy, step_by_status, is_outage, is_recovery, in_outage, tells_outage, tells_recovery, put_out, let_back, hear_busy_ended, begin_outage, hear_outage, end_outage, take_step, test_if}
-pub use Rattle.exchange_rules.specs.State.{in_traffic, Asking, AsksWants, Happens, Takes, Happening, Activated, CameUp, Deactivated, Released, FrameCame, Submitted, Ticked, TitleAdded, TitleRemoved, WentDown, in_service, link_at, is_link, down, links_with, with_link, noted, noted_all, note_refusal, note, flagged, counted_lost, broken_if, once_more, flagged_late, note_outcome, Parts, Node, with_parts, refuse, Done, answer, QueueKind, keep, Noted, Found, lost_any, late_any, with_node}
+pub use Rattle.exchange_rules.specs.State.{in_traffic, Asking, AsksWants, Happens, Takes, Happening, Activated, CameUp, Deactivated, Released, FrameCame, Submitted, Ticked, TitleAdded, TitleSet, TitleRemoved, WentDown, in_service, link_at, is_link, down, links_with, with_link, noted, noted_all, note_refusal, note, flagged, counted_lost, broken_if, once_more, flagged_late, note_outcome, Parts, Node, with_parts, refuse, Done, answer, QueueKind, keep, Noted, Found, lost_any, late_any, with_node}
 pub use Rattle.exchange_rules.specs.Routing.{is_held_at, is_flow_held, waits, all_wait, hold, set_of, adjacent_of, entry_of, peer_of, point_of, route_about, no_room, is_share_full, no_room_on, queue_on, facts, link_of, sets_in, goes_by, network_of}
 pub use Rattle.exchange_rules.specs.Lasting.{HasAllPlaces, after_asking, after_each, AreNoted, IsWithinLimits, new_notices_are_the_last, notices_made_are_counted, notices_keep_their_limits, losses_stay, lateness_stays, tells_of_loss, tells_of_lateness, AreFlagsRaised, notices_raise_flags, unreasonable_numbers_raise_it, HasTimersFor, places_at_first, places_stay}
 pub use Rattle.exchange_rules.specs.LastingLinks.{AreLinksSteady, IsSteady, is_l7_running, links_first_steady, links_stay_steady, l7_watches}

@@ -2,7 +2,7 @@
 use Rattle.exchange_rules.proofs.Basics.{◌≡◌, ◌⊎◌, inl, inr, ◌<◌, ◌≤◌, ℕ, ◌+◌, ◌-◌, ◌==◌, Bool, true, false, List, [], ◌∷◌, Option, Some, None, refl, ap, sym, ◌∙◌, arith, nat_tests, max, is_some}
 use Rattle.link.specs.declared.period.Period.TheVariants.{Fixed, Normal, Hurried, Emergency}
 use Rattle.settings.specs.declared.timer_ticks.TimerTicks.{TimerTicks}
-use Rattle.exchange_rules.proofs.Definitions.{Period, paced, left-ticked, one_less, Asking, AsksWants, Happens, Takes, Happening, CameUp, WentDown, FrameCame, Ticked, Submitted, Activated, Deactivated, TitleAdded, TitleRemoved, Abstract, whole, Released}
+use Rattle.exchange_rules.proofs.Definitions.{Period, paced, left-ticked, one_less, Asking, AsksWants, Happens, Takes, Happening, CameUp, WentDown, FrameCame, Ticked, Submitted, Activated, Deactivated, TitleAdded, TitleSet, TitleRemoved, Abstract, whole, Released}
 use Rattle.timers.specs.Timers.{no_tick_left}
 use Rattle.timers.specs.declared.name.TimerName.TheVariants.{T8}
 use Rattle.exchange_rules.specs.Exchange.{after, taken}
@@ -30,6 +30,7 @@ begins (Activated link emergency) y l = record { left = y; is = refl; ticks = om
 begins (Deactivated link) y l = record { left = y; is = refl; ticks = omega arith }
 begins (Released link) y l = record { left = y; is = refl; ticks = omega arith }
 begins (TitleAdded row refused) y l = record { left = y; is = refl; ticks = omega arith }
+begins (TitleSet row refused) y l = record { left = y; is = refl; ticks = omega arith }
 begins (TitleRemoved key digits) y l = record { left = y; is = refl; ticks = omega arith }
 
 same-number : (m n : ℕ) → (m == n) ≡ true → m ≡ n

@@ -1,6 +1,6 @@
 -- Over ticks and all events T8 of a set and a destination runs until it runs out, or its set comes back.
 use Rattle.exchange_rules.proofs.Basics.{◌≡◌, ◌≢◌, ◌⊎◌, inl, inr, ℕ, zero, suc, Bool, true, false, List, Option, Some, None, refl, ap, sym, subst, ◌∙◌, ⊎_elim, cases_eq, is_some, get_or-set_other, false_from_ne_true as not-so, if◌then◌else◌}
-use Rattle.exchange_rules.proofs.Definitions.{Period, Configuration, Action, Alignment, Expiry, action_at, acts_on, LinkTimer, TimerName, Running, Link, down_link, carries_traffic, Node, is_link, link_at, down, in_traffic, set_of, advance, start_unless_running, is_running, is_due, ticked, due_name, after_due, due_count, after-clear, after-none, due-left, left-clear, left-clear_other, left-set_other, left-ticked, one_less, set_timer, clear_timer, L7, after_failure, act_by_timer, run_out, read_frame, receive, with_timers, run_timer, run_due, run_next, run_times, tick, Outgoing, SendsMessage, SendsStatus, Acknowledges, SendsNothing, after_sending, goes_out, Happening, CameUp, WentDown, FrameCame, Ticked, Submitted, Activated, Deactivated, TitleAdded, TitleRemoved, apply, association_up, release, tell_owed, WholeQueues, whole, Released, Done, late_by, order_all}
+use Rattle.exchange_rules.proofs.Definitions.{Period, Configuration, Action, Alignment, Expiry, action_at, acts_on, LinkTimer, TimerName, Running, Link, down_link, carries_traffic, Node, is_link, link_at, down, in_traffic, set_of, advance, start_unless_running, is_running, is_due, ticked, due_name, after_due, due_count, after-clear, after-none, due-left, left-clear, left-clear_other, left-set_other, left-ticked, one_less, set_timer, clear_timer, L7, after_failure, act_by_timer, run_out, read_frame, receive, with_timers, run_timer, run_due, run_next, run_times, tick, Outgoing, SendsMessage, SendsStatus, Acknowledges, SendsNothing, after_sending, goes_out, Happening, CameUp, WentDown, FrameCame, Ticked, Submitted, Activated, Deactivated, TitleAdded, TitleSet, TitleRemoved, apply, association_up, release, tell_owed, WholeQueues, whole, Released, Done, late_by, order_all}
 use Rattle.signalling_types.specs.declared.notice.FailureReason.TheVariants as reasons
 use Rattle.link.specs.declared.action.Action.TheVariants as act
 use Rattle.link.specs.declared.action.LinkTimer.TheVariants as timer
@@ -241,6 +241,7 @@ module _ (c : Configuration) (s d : ℕ) (n : Node WholeQueues) where
   event-runs (Deactivated link) r = inl (other-runs (Deactivated link) (λ k is. is) (λ no. cc) r)
   event-runs (Released link) r = inl (other-runs (Released link) (λ k is. is) (λ no. cc) r)
   event-runs (TitleAdded row refused) r = inl (other-runs (TitleAdded row refused) (λ k is. is) (λ no. cc) r)
+  event-runs (TitleSet row refused) r = inl (other-runs (TitleSet row refused) (λ k is. is) (λ no. cc) r)
   event-runs (TitleRemoved key digits) r = inl (other-runs (TitleRemoved key digits) (λ k is. is) (λ no. cc) r)
 
 pub t8-runs : t8_runs_its_time

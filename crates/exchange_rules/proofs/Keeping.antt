@@ -1,7 +1,7 @@
 -- Frames, whole events and what goes out: what is kept of the node that a rule leaves is what the rule leaves of what
 -- was kept, and it stays sound. Over any two kinds of queues P and Q of which h keeps one as the other.
 use Rattle.exchange_rules.proofs.Basics.{◌≡◌, ℕ, Bool, true, false, List, [], ◌∷◌, Option, Some, None, Result, Ok, Err, refl, ap, ◌∙◌, if◌then◌else◌}
-use Rattle.exchange_rules.proofs.Definitions.{Message, flow_of, Configuration, Ignored, FrameFault, FrameValue, EmptyFrame, MessageFrame, StatusFrame, read_frame, Action, UserData, acts_on, SeqFault, Parts, Node, Done, QueueKind, keep, answer, refuse, is_link, link_at, down, waits, link_of, tell_owed, whither_goes, go_on, go_by, go, go_each, release, advance, Carrying, carries, owing, timed_parts, numbers, accept, carry, handle_by, handle, act_by_data, receive_data, receive_frame, leave_aside, read, receive, Outgoing, SendsStatus, SendsMessage, Acknowledges, SendsNothing, carried, goes_out, after_sending, frame_taken, after_take, Happening, CameUp, WentDown, FrameCame, Ticked, Submitted, Activated, Deactivated, TitleAdded, TitleRemoved, handle_event, settled, apply, Released, late_by, ordered_late, tick}
+use Rattle.exchange_rules.proofs.Definitions.{Message, flow_of, Configuration, Ignored, FrameFault, FrameValue, EmptyFrame, MessageFrame, StatusFrame, read_frame, Action, UserData, acts_on, SeqFault, Parts, Node, Done, QueueKind, keep, answer, refuse, is_link, link_at, down, waits, link_of, tell_owed, whither_goes, go_on, go_by, go, go_each, release, advance, Carrying, carries, owing, timed_parts, numbers, accept, carry, handle_by, handle, act_by_data, receive_data, receive_frame, leave_aside, read, receive, Outgoing, SendsStatus, SendsMessage, Acknowledges, SendsNothing, carried, goes_out, after_sending, frame_taken, after_take, Happening, CameUp, WentDown, FrameCame, Ticked, Submitted, Activated, Deactivated, TitleAdded, TitleSet, TitleRemoved, handle_event, settled, apply, Released, late_by, ordered_late, tick}
 use Rattle.signalling_types.specs.declared.cause.Cause.TheVariants as causes
 use Rattle.signalling_types.specs.declared.notice.FrameFault.TheVariants as faults
 use Rattle.link.specs.declared.action.Action.TheVariants as act
@@ -10,7 +10,7 @@ use Rattle.exchange_rules.proofs.KeepingMessages.{tell_owed-kept}
 use Rattle.exchange_rules.proofs.KeepingLinkTests.{advance-kept}
 use Rattle.exchange_rules.proofs.KeepingChangeover.{fail-kept, late_by-kept}
 use Rattle.exchange_rules.proofs.KeepingLocal.{deliver-kept, submit_to-kept}
-use Rattle.exchange_rules.proofs.KeepingRelaying.{add_title-kept, remove_title-kept}
+use Rattle.exchange_rules.proofs.KeepingRelaying.{add_title-kept, set_title-kept, remove_title-kept}
 use Rattle.exchange_rules.proofs.KeepingLinks.{association_up-kept, association_down-kept, activate-kept, deactivate-kept, on_link_status-kept, tick-kept, release_bar-kept}
 
 module _ {P Q : Type 0} (p : QueueKind P) (q : QueueKind Q) (h : P → Q) (IsFit : P → Type 0) (c : Configuration) (k : IsKeeping p q h IsFit c.window) where
@@ -107,6 +107,7 @@ module _ {P Q : Type 0} (p : QueueKind P) (q : QueueKind Q) (h : P → Q) (IsFit
   handle_event-kept (Deactivated link) n f = deactivate-kept p q h IsFit c k link n f
   handle_event-kept (Released link) n f = release_bar-kept p q h IsFit c k link n f
   handle_event-kept (TitleAdded row lacking) n f = add_title-kept row lacking n f
+  handle_event-kept (TitleSet row lacking) n f = set_title-kept row lacking n f
   handle_event-kept (TitleRemoved key digits) n f = remove_title-kept key digits n f
 
   -- ---- release

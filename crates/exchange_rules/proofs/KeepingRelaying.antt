@@ -1,7 +1,7 @@
 -- SCCP messages for this point, and translation rows: what is kept of the node that a rule leaves is what the rule
 -- leaves of what was kept, and it stays sound. Over any two kinds of queues P and Q of which h keeps one as the other.
 use Rattle.exchange_rules.proofs.Basics.{ℕ, Bool, List, Option, Some, None, refl, ap, ◌∙◌}
-use Rattle.exchange_rules.proofs.Definitions.{Message, Configuration, TitleEntry, Cause, Outcome, Queued, Held, Local, Handled, Ignored, Refused, TitleKey, place_of, has_row, without_row, RelayedValue, relay, returned, Node, Done, QueueKind, keep, with_parts, answer, refuse, transfer, own_of, in_place_of, send_udts, return_outcome, return_refusal, relay_by, on_unitdata, with_rows, title_refusal, add_title_unless, add_title, remove_title}
+use Rattle.exchange_rules.proofs.Definitions.{Message, Configuration, TitleEntry, Cause, Outcome, Queued, Held, Local, Handled, Ignored, Refused, TitleKey, place_of, has_row, without_row, RelayedValue, relay, returned, Node, Done, QueueKind, keep, with_parts, answer, refuse, transfer, own_of, in_place_of, send_udts, return_outcome, return_refusal, relay_by, on_unitdata, with_rows, title_refusal, title_set_refusal, add_title_unless, add_title, set_title, remove_title}
 use Rattle.signalling_types.specs.declared.cause.Cause.TheVariants as causes
 use Rattle.sccp_relay.specs.Relay as relays
 use Rattle.exchange_rules.proofs.Combining.{IsKeeping, KeepsNode, Keeps, parted, either}
@@ -50,6 +50,9 @@ module _ {P Q : Type 0} {h : P → Q} {IsFit : P → Type 0} where
 
   pub add_title-kept : (row : TitleEntry) (lacking : Bool) (n : Node P) → IsFit n.queues → Keeps h IsFit (add_title row lacking (keep h n)) (add_title row lacking n)
   add_title-kept row lacking n f = add_unless-kept (title_refusal n.parts.titles.rows row lacking) row n f
+
+  pub set_title-kept : (row : TitleEntry) (lacking : Bool) (n : Node P) → IsFit n.queues → Keeps h IsFit (set_title row lacking (keep h n)) (set_title row lacking n)
+  set_title-kept row lacking n f = add_unless-kept (title_set_refusal n.parts.titles.rows row lacking) row n f
 
   pub remove_title-kept : (key : TitleKey) (digits : List ℕ) (n : Node P) → IsFit n.queues → Keeps h IsFit (remove_title key digits (keep h n)) (remove_title key digits n)
   remove_title-kept key digits n f =

@@ -1,6 +1,6 @@
 -- Which events change translation rows and prohibited subsystems: what is heard, a tick, and orders about rows.
 use Rattle.exchange_rules.proofs.Basics.{◌≡◌, ◌⊎◌, inl, inr, ⊎_elim, ℕ, Bool, true, false, List, [], ◌∷◌, Option, Some, None, refl, ap, sym, ◌∙◌, if◌then◌else◌}
-use Rattle.exchange_rules.proofs.Definitions.{Message, flow_of, Configuration, TitleEntry, TitleKey, FailureReason, ChangeoverTimer, Facts, Cause, Found, TitlesValue, place_of, has_row, without_row, ticked, due_count, Parts, Node, Done, answer, refuse, with_parts, is_link, in_service, down, link_of, waits, no_room, facts, own_of, has_other, is_ordered, set_of, changeover_of, with_expiry, changeover_order, changeover_acknowledgement, whole, WholeQueues, fail, fail_link, suspended, make_unavailable, change_over, begin, begin_by_peer, fail_by_peer, fail_by_order, without_tests, lose_each, lose, judged, send, send_each, send_anew, complete_if, complete_by_order, on_changeover_order, on_changeover_acknowledgement, on_changeover_timer, with_changeover_acknowledged, hold_flows, held_by_rerouting, go, go_by, go_each, go_on, release, tell_owed, tell_each, tell_if, tell, route_message, told_parts, may_tell, owed, with_timers, run_all, handle_event, apply, add_title_unless, title_refusal, with_rows, Happening, Ticked, TitleAdded, TitleRemoved, Owed, bar, barred, asking, order_late, late_by, tick}
+use Rattle.exchange_rules.proofs.Definitions.{Message, flow_of, Configuration, TitleEntry, TitleKey, FailureReason, ChangeoverTimer, Facts, Cause, Found, TitlesValue, place_of, has_row, without_row, ticked, due_count, Parts, Node, Done, answer, refuse, with_parts, is_link, in_service, down, link_of, waits, no_room, facts, own_of, has_other, is_ordered, set_of, changeover_of, with_expiry, changeover_order, changeover_acknowledgement, whole, WholeQueues, fail, fail_link, suspended, make_unavailable, change_over, begin, begin_by_peer, fail_by_peer, fail_by_order, without_tests, lose_each, lose, judged, send, send_each, send_anew, complete_if, complete_by_order, on_changeover_order, on_changeover_acknowledgement, on_changeover_timer, with_changeover_acknowledged, hold_flows, held_by_rerouting, go, go_by, go_each, go_on, release, tell_owed, tell_each, tell_if, tell, route_message, told_parts, may_tell, owed, with_timers, run_all, handle_event, apply, add_title_unless, title_refusal, title_set_refusal, with_rows, Happening, Ticked, TitleAdded, TitleSet, TitleRemoved, Owed, bar, barred, asking, order_late, late_by, tick}
 use Rattle.signalling_types.specs.declared.cause.Cause.TheVariants.{LostUnconfirmed, NoSuchName}
 use Rattle.signalling_types.specs.declared.outcome.Outcome.TheVariants.{Handled, Ignored}
 use Rattle.signalling_types.specs.declared.notice.FailureReason.TheVariants as reasons
@@ -285,5 +285,6 @@ removed-same false key digits n = refl
 pub orders-leave : orders_leave_subsystems
 orders-leave row refused key digits a = (
   ap (λ (t : TitlesValue). t.prohibited) (after-same a.settings (TitleAdded row refused) a.node) ∙ added-same (title_refusal a.node.parts.titles.rows row refused) row a.node,
+  ap (λ (t : TitlesValue). t.prohibited) (after-same a.settings (TitleSet row refused) a.node) ∙ added-same (title_set_refusal a.node.parts.titles.rows row refused) row a.node,
   ap (λ (t : TitlesValue). t.prohibited) (after-same a.settings (TitleRemoved key digits) a.node) ∙ removed-same (has_row a.node.parts.titles.rows (place_of key digits)) key digits a.node,
 )

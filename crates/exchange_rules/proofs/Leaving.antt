@@ -1,6 +1,6 @@
 -- A refused event leaves what it is to leave, and a message is queued on a link in service.
 use Rattle.exchange_rules.proofs.Basics.{◌≡◌, ℕ, Bool, true, false, List, [], ◌∷◌, Option, Some, None, Result, Ok, Err, refl, ap, ◌∙◌, if◌then◌else◌, zero, suc, length}
-use Rattle.exchange_rules.proofs.Definitions.{Message, flow_of, Configuration, Cause, Queued, Ignored, Refused, FrameFault, FrameValue, read_frame, Owed, owed, facts, Action, UserData, acts_on, count_confirmed, Node, Done, with_parts, answer, refuse, is_link, link_at, down, in_traffic, link_of, no_room, send, route_message, told_parts, may_tell, tell_if, tell_each, tell_owed, whither_goes, submit, advance, Carrying, data_of, numbers, accept, read, CameUp, WentDown, FrameCame, Ticked, Submitted, Activated, Deactivated, TitleAdded, TitleRemoved, WholeQueues, whole, waits, all_wait, go_on, go_by, go, go_each, release, settled, apply, accept_data, accept_frame, accept_text, carried_message, answered, refusals_leave, queued_in_traffic, Abstract, IsSound, Released, late_by, ordered_late, order_all, order_each, order_if_late, order_late, is_late, asking, changeover_order, receive}
+use Rattle.exchange_rules.proofs.Definitions.{Message, flow_of, Configuration, Cause, Queued, Ignored, Refused, FrameFault, FrameValue, read_frame, Owed, owed, facts, Action, UserData, acts_on, count_confirmed, Node, Done, with_parts, answer, refuse, is_link, link_at, down, in_traffic, link_of, no_room, send, route_message, told_parts, may_tell, tell_if, tell_each, tell_owed, whither_goes, submit, advance, Carrying, data_of, numbers, accept, read, CameUp, WentDown, FrameCame, Ticked, Submitted, Activated, Deactivated, TitleAdded, TitleSet, TitleRemoved, WholeQueues, whole, waits, all_wait, go_on, go_by, go, go_each, release, settled, apply, accept_data, accept_frame, accept_text, carried_message, answered, refusals_leave, queued_in_traffic, Abstract, IsSound, Released, late_by, ordered_late, order_all, order_each, order_if_late, order_late, is_late, asking, changeover_order, receive}
 use Rattle.exchange_rules.specs.State.{Reroutings}
 use Rattle.exchange_rules.specs.Exchange.{leaving}
 use Rattle.signalling_types.specs.declared.cause.Cause.TheVariants as causes
@@ -11,7 +11,7 @@ use Rattle.exchange_rules.proofs.Answering.{answered-waits, answered-told}
 use Rattle.exchange_rules.proofs.Telling.{told_already}
 use Rattle.exchange_rules.proofs.AddedHolds.{advance-waits}
 use Rattle.exchange_rules.proofs.Leaves.{Leaves, Stays}
-use Rattle.exchange_rules.proofs.LeavingMessages.{submit_to-leaves, add_title-leaves, remove_title-leaves, association_up-leaves, association_down-leaves, activate-leaves, deactivate-leaves, release_bar-leaves}
+use Rattle.exchange_rules.proofs.LeavingMessages.{submit_to-leaves, add_title-leaves, set_title-leaves, remove_title-leaves, association_up-leaves, association_down-leaves, activate-leaves, deactivate-leaves, release_bar-leaves}
 use Rattle.exchange_rules.proofs.LeavingFrames.{left_of_text, up_leaves}
 use Rattle.signalling_types.specs.declared.outcome.Outcome.{Outcome}
 use Rattle.signalling_types.specs.declared.outcome.Outcome.TheVariants as outcome
@@ -167,6 +167,7 @@ refused_leaves (Activated link emergency) a cause s e = left-so a _ cause s (act
 refused_leaves (Deactivated link) a cause s e = left-so a _ cause s (deactivate-leaves a.settings a.node (as_it_was a) (unchanged a) link) e
 refused_leaves (Released link) a cause s e = left-so a _ cause s (release_bar-leaves a.settings a.node (as_it_was a) (unchanged a) link) e
 refused_leaves (TitleAdded row lacking) a cause s e = left-so a _ cause s (add_title-leaves row lacking a.node) e
+refused_leaves (TitleSet row lacking) a cause s e = left-so a _ cause s (set_title-leaves row lacking a.node) e
 refused_leaves (TitleRemoved key digits) a cause s e = left-so a _ cause s (remove_title-leaves key digits a.node) e
 refused_leaves (Submitted message) a cause s e =
     let left : Node WholeQueues = answered cause None (Some message) a.settings a.node in
@@ -199,6 +200,7 @@ queued_served (Released link) a l e = served-so a _ l (release_bar-leaves a.sett
 queued_served (Submitted message) a l e =
     still a (submit whole a.settings message a.node) l ((submit_to-leaves a.settings a.node (whither_goes a.settings message) message).served l e)
 queued_served (TitleAdded row lacking) a l e = served-so a _ l (add_title-leaves row lacking a.node) e
+queued_served (TitleSet row lacking) a l e = served-so a _ l (set_title-leaves row lacking a.node) e
 queued_served (TitleRemoved key digits) a l e = served-so a _ l (remove_title-leaves key digits a.node) e
 queued_served (FrameCame link text) a l e =
     let up : Done WholeQueues = if down a.node.parts link then answer Ignored a.node else read whole a.settings link (read_frame text) a.node in

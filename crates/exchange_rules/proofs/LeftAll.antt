@@ -1,6 +1,6 @@
 -- Every event leaves the links that it isn't about, and every take the queues of other links.
 use Rattle.exchange_rules.proofs.Basics.{◌≡◌, ◌≢◌, ℕ, zero, suc, Bool, true, false, ◌||◌, nat_eq, Some, None, refl, ap, sym, subst, ◌∙◌, arith, list_any, nat_tests, get_or-set_other}
-use Rattle.exchange_rules.proofs.Definitions.{flow_of, Configuration, LinkTimer, first_queue, sent_one, TimerName, Running, is_due, no_tick_left, ticked, due_name, after_due, due_count, due-left, after-clear, after-none, Parts, Node, timer_name, with_timers, run_next, run_times, tick, Happening, CameUp, WentDown, FrameCame, Ticked, Submitted, Activated, Deactivated, TitleAdded, TitleRemoved, Outgoing, SendsStatus, SendsMessage, Acknowledges, SendsNothing, goes_out, after_sending, WholeQueues, queue_at, whole, run_all, subsystems_ticked, Released}
+use Rattle.exchange_rules.proofs.Definitions.{flow_of, Configuration, LinkTimer, first_queue, sent_one, TimerName, Running, is_due, no_tick_left, ticked, due_name, after_due, due_count, due-left, after-clear, after-none, Parts, Node, timer_name, with_timers, run_next, run_times, tick, Happening, CameUp, WentDown, FrameCame, Ticked, Submitted, Activated, Deactivated, TitleAdded, TitleSet, TitleRemoved, Outgoing, SendsStatus, SendsMessage, Acknowledges, SendsNothing, goes_out, after_sending, WholeQueues, queue_at, whole, run_all, subsystems_ticked, Released}
 use Rattle.link.specs.declared.action.LinkTimer.TheVariants as timer
 use Rattle.exchange_rules.specs.Touching.{link_timers, runs_out, some_runs_out, is_about, other_links_are_left, takes_leave_other_queues}
 use Rattle.exchange_rules.proofs.LeavingMessages.{chosen_serves}
@@ -127,6 +127,7 @@ not-about (Activated its emergency) p l e link of same = of
 not-about (Deactivated its) p l e link of same = of
 not-about (Released its) p l e link of same = of
 not-about (TitleAdded row refused) p l e link of same = of
+not-about (TitleSet row refused) p l e link of same = of
 not-about (TitleRemoved key digits) p l e link of same = of
 
 pub others-left : other_links_are_left

@@ -124,6 +124,7 @@ pub mod Fates
 pub mod Subsystems
 pub mod RowChoices
 pub mod KeptTitles
+pub mod SetRows
 pub mod SubsystemTests
 pub mod NamedLinks
 pub mod FacingNodes

@@ -1,6 +1,6 @@
 -- Each loss of an event is among its notices, and counted.
 use Rattle.exchange_rules.proofs.Basics.{Bool, Err, List, None, Ok, Option, Result, Some, [], append-nil, arith, false, length, map, not, refl, true, ℕ, ◌&&◌, ◌*◌, ◌+◌, ◌++◌, ◌∙◌, ◌∷◌, ◌≡◌, ◌≤◌, if◌then◌else◌, subst, ap}
-use Rattle.exchange_rules.proofs.Definitions.{AreAccounted, FailureReason, fail, takes_flag_nothing, Acknowledges, Outgoing, SendsMessage, SendsNothing, SendsStatus, after_sending, goes_out, events_account_for_losses, others_of, rules_run, naming, changeover_of, Configuration, TitleEntry, Message, Cause, FrameFault, Outcome, Handled, Held, Ignored, Local, Queued, Refused, Gone, gone_by, gone_by_message, gone_by_new, gone_by_release, nothing_gone, is_link, whither_goes, deliver_to, note_outcome, WholeQueues, whole, release, tell_owed, owed, facts, Node, Done, answer, refuse, with_parts, acts_on, Action, UserData, count_confirmed, SeqFault, EmptyFrame, FrameValue, MessageFrame, StatusFrame, read_frame, accept_data, accept_frame, accept_text, new_at, new_by, new_in, new_of, Carrying, accept, act_by_data, advance, carry, empty_data, handle_by, message_data, numbers, owing, timed_parts, read, receive_data, Happening, Activated, CameUp, Deactivated, FrameCame, Submitted, Ticked, TitleAdded, TitleRemoved, WentDown, apply, handle_event, may_open, may_restart, open_link, add_title_unless, title_refusal, has_row, place_of, without_row, down, link_at, Abstract, send, no_room, link_of, flow_of, queue_on, with_rows, Released, bars, unbarred, is_barred, receive, new_message, tick, ticked, due_count, with_timers}
+use Rattle.exchange_rules.proofs.Definitions.{AreAccounted, FailureReason, fail, takes_flag_nothing, Acknowledges, Outgoing, SendsMessage, SendsNothing, SendsStatus, after_sending, goes_out, events_account_for_losses, others_of, rules_run, naming, changeover_of, Configuration, TitleEntry, Message, Cause, FrameFault, Outcome, Handled, Held, Ignored, Local, Queued, Refused, Gone, gone_by, gone_by_message, gone_by_new, gone_by_release, nothing_gone, is_link, whither_goes, deliver_to, note_outcome, WholeQueues, whole, release, tell_owed, owed, facts, Node, Done, answer, refuse, with_parts, acts_on, Action, UserData, count_confirmed, SeqFault, EmptyFrame, FrameValue, MessageFrame, StatusFrame, read_frame, accept_data, accept_frame, accept_text, new_at, new_by, new_in, new_of, Carrying, accept, act_by_data, advance, carry, empty_data, handle_by, message_data, numbers, owing, timed_parts, read, receive_data, Happening, Activated, CameUp, Deactivated, FrameCame, Submitted, Ticked, TitleAdded, TitleSet, TitleRemoved, WentDown, apply, handle_event, may_open, may_restart, open_link, add_title_unless, title_refusal, title_set_refusal, has_row, place_of, without_row, down, link_at, Abstract, send, no_room, link_of, flow_of, queue_on, with_rows, Released, bars, unbarred, is_barred, receive, new_message, tick, ticked, due_count, with_timers}
 use Rattle.exchange_rules.specs.Conserving.{confirmed}
 use Rattle.exchange_rules.specs.LawsOfLosses.{IsGivenUp, IsPlaced, Reasons, lateness_of, management_is_named, reasons_of, late_orders}
 use Rattle.exchange_rules.specs.GivingUp.{unsent_by_message, unsent_by_new, unsent_failing}
@@ -165,6 +165,7 @@ module _ (a : Abstract) where
   rule-names (Deactivated link) = once _ _ _ (some _ 2 _ (omega arith) (deactivate-sends set link was))
   rule-names (Released link) = more-names nothing_gone [] _ [] 3 (3 * 1) was _ (omega arith) (released-names (is_link was.parts link) (is_barred (changeover_of was.parts link)) link)
   rule-names (TitleAdded row refused) = once _ _ _ (some [] 0 _ (omega arith) (titled-quiet (title_refusal was.parts.titles.rows row refused) row))
+  rule-names (TitleSet row refused) = once _ _ _ (some [] 0 _ (omega arith) (titled-quiet (title_set_refusal was.parts.titles.rows row refused) row))
   rule-names (TitleRemoved key digits) =
       once _ _ _ (some [] 0 _ (omega arith)
       (either_done-quiet 0 (has_row was.parts.titles.rows (place_of key digits)) was (answer Handled (with_parts was (with_rows (without_row (place_of key digits) was.parts.titles.rows) was.parts)))

@@ -1,6 +1,6 @@
 -- A link is proved before it enters service, whatever happens.
 use Rattle.exchange_rules.proofs.Basics.{◌≡◌, ◌≢◌, ◌<◌, ◌⊎◌, inl, inr, ℕ, Bool, true, false, List, Result, Ok, Err, refl, ap, sym, subst, ◌∙◌, arith, nat_tests, ⊎_elim, cases_eq, is_some, length, nat_lt, get_or-set_same, if◌then◌else◌}
-use Rattle.exchange_rules.proofs.Definitions.{period_of, Configuration, Alignment, UserData, acts_on, LinkStatus, FrameFault, FrameValue, EmptyFrame, MessageFrame, StatusFrame, read_frame, Link, down_link, opened_by, Node, answer, refuse, Ignored, Handled, is_link, link_at, down, changeover_of, may_restart, may_open, open_link, is_due, ticked, due_count, empty_data, message_data, data_of, act_by_data, leave_aside, read, with_timers, tick, Happening, CameUp, WentDown, FrameCame, Ticked, Submitted, Activated, Deactivated, TitleAdded, TitleRemoved, apply, release, tell_owed, WholeQueues, whole, tells_outage, tells_recovery, on_link_status, Released, Done, late_by}
+use Rattle.exchange_rules.proofs.Definitions.{period_of, Configuration, Alignment, UserData, acts_on, LinkStatus, FrameFault, FrameValue, EmptyFrame, MessageFrame, StatusFrame, read_frame, Link, down_link, opened_by, Node, answer, refuse, Ignored, Handled, is_link, link_at, down, changeover_of, may_restart, may_open, open_link, is_due, ticked, due_count, empty_data, message_data, data_of, act_by_data, leave_aside, read, with_timers, tick, Happening, CameUp, WentDown, FrameCame, Ticked, Submitted, Activated, Deactivated, TitleAdded, TitleSet, TitleRemoved, apply, release, tell_owed, WholeQueues, whole, tells_outage, tells_recovery, on_link_status, Released, Done, late_by}
 use Rattle.signalling_types.specs.declared.cause.Cause.TheVariants as causes
 use Rattle.m2pa_codec.specs.Frames.{status_number}
 use Rattle.m2pa_codec.specs.declared.status.LinkStatus.TheVariants as says
@@ -176,6 +176,7 @@ module _ (c : Configuration) (l : ℕ) (n : Node WholeQueues) where
   event-first (Deactivated link) = other-first (Deactivated link) (λ k is. absurd is) (λ no. absurd cc)
   event-first (Released link) = other-first (Released link) (λ k is. absurd is) (λ no. absurd cc)
   event-first (TitleAdded row refused) = other-first (TitleAdded row refused) (λ k is. absurd is) (λ no. absurd cc)
+  event-first (TitleSet row refused) = other-first (TitleSet row refused) (λ k is. absurd is) (λ no. absurd cc)
   event-first (TitleRemoved key digits) = other-first (TitleRemoved key digits) (λ k is. absurd is) (λ no. absurd cc)
 
 pub proved-first : links_are_proved_first

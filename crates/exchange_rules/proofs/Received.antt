@@ -1,6 +1,6 @@
 -- A frame on a link raises what was received there by one exactly when it newly carries a message; no other event does.
 use Rattle.exchange_rules.proofs.Basics.{◌≡◌, ◌≢◌, ◌<◌, ◌+◌, ℕ, Bool, true, false, ◌&&◌, not, List, length, nat_eq, Option, Some, None, Result, Ok, Err, refl, ap, sym, subst, ◌∙◌, arith, if◌then◌else◌, is_some, nat_tests, get_or-set_same}
-use Rattle.exchange_rules.proofs.Definitions.{Message, Ignored, FrameFault, Configuration, FrameValue, EmptyFrame, MessageFrame, StatusFrame, read_frame, LinkStatus, Action, Status, UserData, acts_on, Queue, first_queue, after_answer, SeqFault, Node, answer, refuse, is_link, link_at, down, in_service, advance, act_by_status, Carrying, carries, empty_data, message_data, timed_parts, numbers, accept, carry, handle_by, act_by_data, receive_data, leave_aside, read, receive, Happening, CameUp, WentDown, FrameCame, Ticked, Submitted, Activated, Deactivated, TitleAdded, TitleRemoved, apply, WholeQueues, queue_at, whole, Abstract, HasAllPlaces, new_by, new_at, new_in, new_of, new_message, received, received_is_counted, takes_receive_nothing, is_idle, nothing_new_is_delivered, Handled, tells_outage, tells_recovery, hear_outage, end_outage, Released, Done, late_by}
+use Rattle.exchange_rules.proofs.Definitions.{Message, Ignored, FrameFault, Configuration, FrameValue, EmptyFrame, MessageFrame, StatusFrame, read_frame, LinkStatus, Action, Status, UserData, acts_on, Queue, first_queue, after_answer, SeqFault, Node, answer, refuse, is_link, link_at, down, in_service, advance, act_by_status, Carrying, carries, empty_data, message_data, timed_parts, numbers, accept, carry, handle_by, act_by_data, receive_data, leave_aside, read, receive, Happening, CameUp, WentDown, FrameCame, Ticked, Submitted, Activated, Deactivated, TitleAdded, TitleSet, TitleRemoved, apply, WholeQueues, queue_at, whole, Abstract, HasAllPlaces, new_by, new_at, new_in, new_of, new_message, received, received_is_counted, takes_receive_nothing, is_idle, nothing_new_is_delivered, Handled, tells_outage, tells_recovery, hear_outage, end_outage, Released, Done, late_by}
 use Rattle.signalling_types.specs.declared.cause.Cause.TheVariants as causes
 use Rattle.signalling_types.specs.declared.notice.FrameFault.TheVariants as faults
 use Rattle.signalling_types.specs.declared.notice.FailureReason.TheVariants as reasons
@@ -120,6 +120,7 @@ received-counted (Activated its emergency) a l h e = other-event a.settings (Act
 received-counted (Deactivated its) a l h e = other-event a.settings (Deactivated its) a.node l (λ link of same. of)
 received-counted (Released its) a l h e = other-event a.settings (Released its) a.node l (λ link of same. of)
 received-counted (TitleAdded row refused) a l h e = other-event a.settings (TitleAdded row refused) a.node l (λ link of same. of)
+received-counted (TitleSet row refused) a l h e = other-event a.settings (TitleSet row refused) a.node l (λ link of same. of)
 received-counted (TitleRemoved key digits) a l h e = other-event a.settings (TitleRemoved key digits) a.node l (λ link of same. of)
 
 pub takes-receive : takes_receive_nothing

@@ -1,6 +1,6 @@
 -- Whatever happens, timers are set to the values in the settings.
 use Rattle.exchange_rules.proofs.Basics.{◌≡◌, ◌≤◌, inl, inr, ℕ, zero, suc, ◌-◌, Bool, true, false, List, [], ◌∷◌, Option, Some, None, refl, sym, subst, ◌∙◌, arith, max, if◌then◌else◌}
-use Rattle.exchange_rules.proofs.Definitions.{Period, paced, period_of, apply, Configuration, FailureReason, ChangeoverTimer, Facts, opening, carries, completed, TimerName, one_less, ticked, due_name, after_due, after-clear, after-none, left-ticked, left-none, Found, Parts, Node, with_parts, link_at, in_service, down, is_link, set_of, has_other, is_ordered, suspended, fail_link, without_tests, make_unavailable, changing, begin, change_over, begin_by_peer, fail_by_peer, fail_by_order, complete_by_order, complete_if, concluded, lose_each, judged, changeover_of, with_changeover, changeover_order, changeover_acknowledgement, on_changeover_order, with_changeover_acknowledged, with_expiry, hold_flows, held_by_rerouting, answer, Handled, Ignored, with_timers, run_next, run_times, due_count, tick, Asking, Happens, Takes, AsksWants, Happening, CameUp, WentDown, FrameCame, Ticked, Submitted, Activated, Deactivated, TitleAdded, TitleRemoved, first_state, after_asking, after_each, Abstract, WholeQueues, whole, run_all, Released, bar, barred, timed_bar, awaits_incomplete, asking, clear_timer, Running, order_all}
+use Rattle.exchange_rules.proofs.Definitions.{Period, paced, period_of, apply, Configuration, FailureReason, ChangeoverTimer, Facts, opening, carries, completed, TimerName, one_less, ticked, due_name, after_due, after-clear, after-none, left-ticked, left-none, Found, Parts, Node, with_parts, link_at, in_service, down, is_link, set_of, has_other, is_ordered, suspended, fail_link, without_tests, make_unavailable, changing, begin, change_over, begin_by_peer, fail_by_peer, fail_by_order, complete_by_order, complete_if, concluded, lose_each, judged, changeover_of, with_changeover, changeover_order, changeover_acknowledgement, on_changeover_order, with_changeover_acknowledged, with_expiry, hold_flows, held_by_rerouting, answer, Handled, Ignored, with_timers, run_next, run_times, due_count, tick, Asking, Happens, Takes, AsksWants, Happening, CameUp, WentDown, FrameCame, Ticked, Submitted, Activated, Deactivated, TitleAdded, TitleSet, TitleRemoved, first_state, after_asking, after_each, Abstract, WholeQueues, whole, run_all, Released, bar, barred, timed_bar, awaits_incomplete, asking, clear_timer, Running, order_all}
 use Rattle.timers.specs.declared.name.TimerName.TheVariants as name
 use Rattle.timers.specs.declared.name.RouteTimer.TheVariants as of_set
 use Rattle.signalling_types.specs.declared.notice.FailureReason.TheVariants as reasons
@@ -225,6 +225,7 @@ events-set (Activated link emergency) a timer = (quiet-sets a.settings (Activate
 events-set (Deactivated link) a timer = (quiet-sets a.settings (Deactivated link) a.node (λ e. cc)).timers.each timer
 events-set (Released link) a timer = (quiet-sets a.settings (Released link) a.node (λ e. cc)).timers.each timer
 events-set (TitleAdded row refused) a timer = (quiet-sets a.settings (TitleAdded row refused) a.node (λ e. cc)).timers.each timer
+events-set (TitleSet row refused) a timer = (quiet-sets a.settings (TitleSet row refused) a.node (λ e. cc)).timers.each timer
 events-set (TitleRemoved key digits) a timer = (quiet-sets a.settings (TitleRemoved key digits) a.node (λ e. cc)).timers.each timer
 
 pub takes-set : takes_set_timers_to_their_settings
@@ -264,6 +265,7 @@ begun-within c timer (Activated link emergency) x h = h
 begun-within c timer (Deactivated link) x h = h
 begun-within c timer (Released link) x h = h
 begun-within c timer (TitleAdded row refused) x h = h
+begun-within c timer (TitleSet row refused) x h = h
 begun-within c timer (TitleRemoved key digits) x h = h
 
 asked-within : (timer : TimerName) (asking : Asking) (a : Abstract) → IsWithin a.settings timer (a.node.parts.timers.left timer)

@@ -2,7 +2,7 @@
 use Rattle.exchange_rules.proofs.Basics.{◌≡◌, inl, inr, ℕ, zero, suc, Bool, true, false, List, [], ◌∷◌, Option, Some, None, Result, Ok, Err, refl, ap, ◌∙◌, if◌then◌else◌, slice_get, drop, ◌&&◌, not, sym}
 use Rattle.exchange_rules.specs.State.{Reroutings}
 use Rattle.exchange_rules.specs.Reroutings.{first_reroutings}
-use Rattle.exchange_rules.proofs.Definitions.{Message, flow_of, Configuration, Ignored, FrameFault, FrameValue, EmptyFrame, MessageFrame, StatusFrame, read_frame, LinkStatus, Action, UserData, LinkTimer, timer_name, acts_on, Sending, SeqFault, TimerName, ticked, due_name, after_due, due_count, Link, down_link, is_in_service, Time, Code, Reroute, Parts, Node, with_parts, answer, refuse, is_link, link_at, down, in_service, link_of, waits, late_time, late_code, tell_owed, advance, Carrying, empty_data, message_data, owing, timed_parts, numbers, accept, carry, handle_by, act_by_data, receive_data, leave_aside, read, with_timers, run_timer, run_due, run_next, run_times, tick, go_on, go_by, go, go_each, release, Outgoing, if_owed, message_first, status_first, without_owed, next_message, after_sending, after_take, Happening, CameUp, WentDown, FrameCame, Ticked, Submitted, Activated, Deactivated, TitleAdded, TitleRemoved, handle_event, apply, WholeQueues, whole, new_by, new_at, new_in, new_of, Procedure, Changeover, run_all, subsystems_ticked, Facts, is_first_test, has_other, set_of, network_of, once_more, Released, Done, receive}
+use Rattle.exchange_rules.proofs.Definitions.{Message, flow_of, Configuration, Ignored, FrameFault, FrameValue, EmptyFrame, MessageFrame, StatusFrame, read_frame, LinkStatus, Action, UserData, LinkTimer, timer_name, acts_on, Sending, SeqFault, TimerName, ticked, due_name, after_due, due_count, Link, down_link, is_in_service, Time, Code, Reroute, Parts, Node, with_parts, answer, refuse, is_link, link_at, down, in_service, link_of, waits, late_time, late_code, tell_owed, advance, Carrying, empty_data, message_data, owing, timed_parts, numbers, accept, carry, handle_by, act_by_data, receive_data, leave_aside, read, with_timers, run_timer, run_due, run_next, run_times, tick, go_on, go_by, go, go_each, release, Outgoing, if_owed, message_first, status_first, without_owed, next_message, after_sending, after_take, Happening, CameUp, WentDown, FrameCame, Ticked, Submitted, Activated, Deactivated, TitleAdded, TitleSet, TitleRemoved, handle_event, apply, WholeQueues, whole, new_by, new_at, new_in, new_of, Procedure, Changeover, run_all, subsystems_ticked, Facts, is_first_test, has_other, set_of, network_of, once_more, Released, Done, receive}
 use Rattle.signalling_types.specs.declared.cause.Cause.TheVariants as causes
 use Rattle.signalling_types.specs.declared.notice.Notice.TheVariants as notices
 use Rattle.signalling_types.specs.declared.notice.LateTimer.TheVariants as late_timer
@@ -19,7 +19,7 @@ use Rattle.exchange_rules.proofs.Serving.{data-serves, fails-up, serves-up}
 use Rattle.exchange_rules.proofs.SteppingTests.{begin_test-steps, test_unanswered-steps}
 use Rattle.exchange_rules.proofs.Steps.{confirming, Deed, IsOfDeeds, LinkFails, HoldsEnd, Lacking, anything, IsOfRules, LinkOpens, TitlesChange, brings_back, SetReturns, WaitEnds}
 use Rattle.exchange_rules.proofs.SteppingMessages.{ask_again-steps, tell_owed-steps}
-use Rattle.exchange_rules.proofs.SteppingRelaying.{add_title-steps, remove_title-steps}
+use Rattle.exchange_rules.proofs.SteppingRelaying.{add_title-steps, set_title-steps, remove_title-steps}
 use Rattle.exchange_rules.proofs.SteppingLinks.{AllowsStatus, advance-serves, advance-steps, on_link_status-steps, run_out-steps, association_up-steps, association_down-steps, activate-steps, deactivate-steps, release_bar-steps}
 use Rattle.exchange_rules.proofs.SteppingLocal.{Allows, AllowsMessage, deliver-steps, submit-steps}
 use Rattle.exchange_rules.proofs.SteppingLate.{late_by-steps, order_all-steps}
@@ -51,6 +51,7 @@ IsOf (Activated link emergency) l = ⊥
 IsOf (Deactivated link) l = ⊥
 IsOf (Released link) l = ⊥
 IsOf (TitleAdded row is_memory_refused) l = ⊥
+IsOf (TitleSet row is_memory_refused) l = ⊥
 IsOf (TitleRemoved key digits) l = ⊥
 
 -- what a frame may do that came by a link, but for what it says to the node
@@ -229,6 +230,7 @@ module _ {c : Configuration} {Own Counts : ℕ → Type 0} {May : Deed → Type 
   handle_event-deeds (Deactivated link) n own counts may ticks = deactivate-steps s link n (may.ordered link refl)
   handle_event-deeds (Released link) n own counts may ticks = release_bar-steps s link n (may.released link refl)
   handle_event-deeds (TitleAdded row is_memory_refused) n own counts may ticks = add_title-steps s row is_memory_refused n (may.titles refl)
+  handle_event-deeds (TitleSet row is_memory_refused) n own counts may ticks = set_title-steps s row is_memory_refused n (may.titles refl)
   handle_event-deeds (TitleRemoved key digits) n own counts may ticks = remove_title-steps s key digits n (may.titles refl)
 
   pub settled-steps : (n : Node WholeQueues) → R n (tell_owed whole c (release whole c n))

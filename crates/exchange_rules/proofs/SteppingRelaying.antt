@@ -5,7 +5,7 @@ use Rattle.mtp3_codec.specs.Headings.{label_at}
 use Rattle.sccp_relay.specs.Sccp.{read_sccp}
 use Rattle.exchange_rules.specs.LawsOfMessages.{says_status}
 use Rattle.exchange_rules.proofs.Saying.{heard-said, is_said}
-use Rattle.exchange_rules.proofs.Definitions.{Message, Configuration, TitleEntry, Cause, NoSuchName, Outcome, Queued, Held, Local, Handled, Ignored, Refused, TitleKey, place_of, has_row, without_row, RelayedValue, relay, returned, Node, Done, with_parts, answer, refuse, own_of, in_place_of, send_udts, return_outcome, relay_by, on_unitdata, with_rows, title_refusal, add_title_unless, add_title, remove_title, WholeQueues, whole}
+use Rattle.exchange_rules.proofs.Definitions.{Message, Configuration, TitleEntry, Cause, NoSuchName, Outcome, Queued, Held, Local, Handled, Ignored, Refused, TitleKey, place_of, has_row, without_row, RelayedValue, relay, returned, Node, Done, with_parts, answer, refuse, own_of, in_place_of, send_udts, return_outcome, relay_by, on_unitdata, with_rows, title_refusal, title_set_refusal, add_title_unless, add_title, set_title, remove_title, WholeQueues, whole}
 use Rattle.sccp_relay.specs.Relay as relays
 use Rattle.exchange_rules.proofs.Steps.{either_done-steps, Deed, IsOfDeeds, TitlesChange}
 use Rattle.exchange_rules.proofs.SteppingMessages.{transfer-steps}
@@ -48,6 +48,9 @@ module _ {c : Configuration} {Own Counts : ℕ → Type 0} {May : Deed → Type 
 
   pub add_title-steps : (row : TitleEntry) (is_memory_refused : Bool) (n : Node WholeQueues) → May TitlesChange → R n (add_title row is_memory_refused n).left
   add_title-steps row is_memory_refused n may = add_by-steps (title_refusal n.parts.titles.rows row is_memory_refused) row n may
+
+  pub set_title-steps : (row : TitleEntry) (is_memory_refused : Bool) (n : Node WholeQueues) → May TitlesChange → R n (set_title row is_memory_refused n).left
+  set_title-steps row is_memory_refused n may = add_by-steps (title_set_refusal n.parts.titles.rows row is_memory_refused) row n may
 
   pub remove_title-steps : (key : TitleKey) (digits : List ℕ) (n : Node WholeQueues) → May TitlesChange → R n (remove_title key digits n).left
   remove_title-steps key digits n may =

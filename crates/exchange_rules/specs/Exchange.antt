@@ -4,7 +4,7 @@ use Rattle.std.specs.Prelude.{ℕ, Bool, true, false, List, [], ◌∷◌, Optio
 use Rattle.signalling_types.specs.Message.{Message, flow_of}
 use Rattle.settings.specs.Configuration.{Configuration}
 use Rattle.signalling_types.specs.declared.cause.Cause.TheVariants.{NoRoute}
-use Rattle.exchange_rules.specs.State.{◌▷◌, QueueKind, Node, with_parts, Done, answer, State, with_node, Happening, CameUp, WentDown, FrameCame, Ticked, Submitted, Activated, Deactivated, Released, TitleAdded, TitleRemoved}
+use Rattle.exchange_rules.specs.State.{◌▷◌, QueueKind, Node, with_parts, Done, answer, State, with_node, Happening, CameUp, WentDown, FrameCame, Ticked, Submitted, Activated, Deactivated, Released, TitleAdded, TitleSet, TitleRemoved}
 use Rattle.exchange_rules.specs.Routing.{facts, link_of, queue_on, waits, hold}
 use Rattle.exchange_rules.specs.Reroutings.{counted}
 use Rattle.exchange_rules.specs.ChangingOver.{lose, order_all, on_changeover_timer}
@@ -23,7 +23,7 @@ use Rattle.signalling_types.specs.declared.outcome.Outcome.{Outcome}
 use Rattle.m2pa_codec.specs.Frames.{FrameValue}
 use Rattle.exchange_rules.specs.declared.wants.Wants.{Wants}
 use Rattle.exchange_rules.specs.Opening.{association_up, association_down, activate, deactivate, release_bar, wanted}
-use Rattle.exchange_rules.specs.Messages.{submit, add_title, remove_title, subsystems_ticked, tests_due}
+use Rattle.exchange_rules.specs.Messages.{submit, add_title, set_title, remove_title, subsystems_ticked, tests_due}
 use Rattle.exchange_rules.specs.Telling.{tell_owed}
 use Rattle.exchange_rules.specs.Sending.{frame_taken, after_take}
 
@@ -127,6 +127,7 @@ handle_event q c (Activated link emergency) node = activate q c emergency link n
 handle_event q c (Deactivated link) node = deactivate q c link node
 handle_event q c (Released link) node = release_bar q c link node
 handle_event q c (TitleAdded row is_memory_refused) node = add_title row is_memory_refused node
+handle_event q c (TitleSet row is_memory_refused) node = set_title row is_memory_refused node
 handle_event q c (TitleRemoved key digits) node = remove_title key digits node
 
 -- then messages that are no longer held go on, and adjacent points are told what they are owed

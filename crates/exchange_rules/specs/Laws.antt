@@ -11,7 +11,7 @@ use Rattle.link.specs.declared.action.Action.{Action}
 use Rattle.link.specs.declared.action.Action.TheVariants as act
 use Rattle.link.specs.declared.action.Input.TheVariants.{UserData}
 use Rattle.link.specs.Queue.{count_confirmed}
-use Rattle.exchange_rules.specs.State.{Parts, Node, with_parts, is_link, link_at, in_service, in_traffic, note, Happening, CameUp, WentDown, FrameCame, Ticked, Submitted, Activated, Deactivated, Released, TitleAdded, TitleRemoved}
+use Rattle.exchange_rules.specs.State.{Parts, Node, with_parts, is_link, link_at, in_service, in_traffic, note, Happening, CameUp, WentDown, FrameCame, Ticked, Submitted, Activated, Deactivated, Released, TitleAdded, TitleSet, TitleRemoved}
 use Rattle.link.specs.declared.action.Transition.{Transition}
 use Rattle.node_links.specs.NodeLinks.{acts_on}
 use Rattle.exchange_rules.specs.ChangingOver.{complete_if}
@@ -99,6 +99,7 @@ after_refusal (Activated link emergency) cause a = a
 after_refusal (Deactivated link) cause a = a
 after_refusal (Released link) cause a = a
 after_refusal (TitleAdded row is_memory_refused) cause a = a
+after_refusal (TitleSet row is_memory_refused) cause a = a
 after_refusal (TitleRemoved key digits) cause a = a
 after_refusal (FrameCame link text) cause a =
     let node : Node WholeQueues = accept_text link (read_frame text) a in

@@ -9,7 +9,7 @@ use Rattle.settings.specs.Readings.{destination_place}
 use Rattle.timers.specs.declared.name.TimerName.TheVariants.{T8}
 use Rattle.timers.specs.Timers.{is_running}
 use Rattle.exchange_rules.specs.declared.wants.Wants.TheVariants.{Open}
-use Rattle.exchange_rules.specs.State.{Activated, Asking, AsksWants, CameUp, Deactivated, Released, FrameCame, Happening, Happens, Node, Parts, Submitted, Takes, Ticked, TitleAdded, TitleRemoved, WentDown, link_at}
+use Rattle.exchange_rules.specs.State.{Activated, Asking, AsksWants, CameUp, Deactivated, Released, FrameCame, Happening, Happens, Node, Parts, Submitted, Takes, Ticked, TitleAdded, TitleSet, TitleRemoved, WentDown, link_at}
 use Rattle.exchange_rules.specs.Routing.{link_of, set_of}
 use Rattle.exchange_rules.specs.Messages.{transfer}
 use Rattle.exchange_rules.specs.Telling.{on_route_test, route_message}
@@ -103,6 +103,7 @@ ticks_by (Activated link emergency) = 0
 ticks_by (Deactivated link) = 0
 ticks_by (Released link) = 0
 ticks_by (TitleAdded row is_memory_refused) = 0
+ticks_by (TitleSet row is_memory_refused) = 0
 ticks_by (TitleRemoved key digits) = 0
 
 abbrev pub ticks_in : Asking → ℕ

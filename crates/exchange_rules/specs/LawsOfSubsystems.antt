@@ -28,7 +28,7 @@ use Rattle.exchange_rules.specs.First.{Abstract}
 use Rattle.exchange_rules.specs.LawsOfMessages.{is_heard}
 use Rattle.exchange_rules.specs.Messages.{local, own_of, sccp, sst_ticks, test_of, with_titles}
 use Rattle.exchange_rules.specs.Receiving.{new_message}
-use Rattle.exchange_rules.specs.State.{Node, answer, with_parts, Happening, CameUp, WentDown, FrameCame, Ticked, Submitted, Activated, Deactivated, Released, TitleAdded, TitleRemoved}
+use Rattle.exchange_rules.specs.State.{Node, answer, with_parts, Happening, CameUp, WentDown, FrameCame, Ticked, Submitted, Activated, Deactivated, Released, TitleAdded, TitleSet, TitleRemoved}
 use Rattle.exchange_rules.specs.Queues.{WholeQueues, whole}
 
 -- ---- what is heard
@@ -99,6 +99,7 @@ changes_titles (FrameCame link text) a = option_map_or (is_heard a.settings) (ne
 changes_titles (Submitted m) a = is_heard a.settings m
 changes_titles Ticked a = true
 changes_titles (TitleAdded row is_memory_refused) a = true
+changes_titles (TitleSet row is_memory_refused) a = true
 changes_titles (TitleRemoved key digits) a = true
 changes_titles (CameUp link) a = false
 changes_titles (WentDown link) a = false
@@ -133,6 +134,7 @@ abbrev pub orders_leave_subsystems : Type 0
 orders_leave_subsystems =
     (row : TitleEntry) (is_memory_refused : Bool) (key : TitleKey) (digits : List ℕ) (a : Abstract) →
     ((after whole (TitleAdded row is_memory_refused) a).node.parts.titles.prohibited ≡ a.node.parts.titles.prohibited)
+    × ((after whole (TitleSet row is_memory_refused) a).node.parts.titles.prohibited ≡ a.node.parts.titles.prohibited)
     × ((after whole (TitleRemoved key digits) a).node.parts.titles.prohibited ≡ a.node.parts.titles.prohibited)
 
 -- by a tick each has one less until its next test, and those stay whose point is reached as it ends and, if a test of

@@ -50,6 +50,7 @@ pub mod RuleExamples
 pub mod LawsOfProving
 pub mod LawsOfFarPoints
 pub mod LawsOfRows
+pub mod LawsOfSettingRows
 pub mod ProcedureExamples
 pub mod OrderExamples
 pub mod BarExamples

@@ -13,7 +13,7 @@ use Rattle.exchange_rules.specs.Telling.{answer_no_route, answer_no_user_part, o
 use Rattle.std.specs.Option.{option_or, option_and_then}
 use Rattle.signalling_types.specs.declared.outcome.Outcome.{Outcome}
 use Rattle.sccp_codec.specs.declared.title.TitleKey.{TitleKey}
-use Rattle.sccp_relay.specs.Rows.{place_of, has_row, with_row, without_row, add_refusal}
+use Rattle.sccp_relay.specs.Rows.{place_of, row_place, has_row, with_row, without_row, add_refusal}
 use Rattle.sccp_relay.specs.Points.{OwnValue}
 use Rattle.sccp_relay.specs.Returning.{returned}
 use Rattle.sccp_relay.specs.Relay as relays
@@ -150,6 +150,16 @@ add_title_unless None row node =
 abbrev pub add_title : {Q : Type 0} → TitleEntry → (is_memory_refused : Bool) → Node Q → Done Q
 add_title row is_memory_refused node =
     add_title_unless (title_refusal node.parts.titles.rows row is_memory_refused) row node
+
+-- why a row isn't set: there is none of its key and digits to replace, and it isn't added
+abbrev pub title_set_refusal : List TitleEntry → TitleEntry → (is_memory_refused : Bool) → Option Cause
+title_set_refusal titles row is_memory_refused =
+    if has_row titles (row_place row) then None else title_refusal titles row is_memory_refused
+
+-- an operator sets a row: it replaces the one of its key and digits, or is added
+abbrev pub set_title : {Q : Type 0} → TitleEntry → (is_memory_refused : Bool) → Node Q → Done Q
+set_title row is_memory_refused node =
+    add_title_unless (title_set_refusal node.parts.titles.rows row is_memory_refused) row node
 
 -- an operator removes the row of this key and these digits
 abbrev pub remove_title : {Q : Type 0} → TitleKey → (digits : List ℕ) → Node Q → Done Q

@@ -168,6 +168,7 @@ pub data Happening : Type 0 where
   Released : (link : ℕ) → Happening
   -- a translation row is added, if memory for it isn't refused
   TitleAdded : (row : TitleEntry) (is_memory_refused : Bool) → Happening
+  TitleSet : (row : TitleEntry) (is_memory_refused : Bool) → Happening
   TitleRemoved : (key : TitleKey) (digits : List ℕ) → Happening
 
 pub data Asking : Type 0 where

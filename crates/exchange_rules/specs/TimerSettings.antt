@@ -10,7 +10,7 @@ use Rattle.timers.specs.Timers.{one_less}
 use Rattle.link.specs.declared.period.Period.{Period}
 use Rattle.link.specs.declared.period.Period.TheVariants.{Fixed, Normal, Hurried, Emergency}
 use Rattle.exchange_rules.specs.Timing.{paced}
-use Rattle.exchange_rules.specs.State.{Asking, Happening, CameUp, WentDown, FrameCame, Ticked, Submitted, Activated, Deactivated, Released, TitleAdded, TitleRemoved}
+use Rattle.exchange_rules.specs.State.{Asking, Happening, CameUp, WentDown, FrameCame, Ticked, Submitted, Activated, Deactivated, Released, TitleAdded, TitleSet, TitleRemoved}
 use Rattle.exchange_rules.specs.Queues.{whole}
 use Rattle.exchange_rules.specs.Exchange.{after, taken}
 use Rattle.exchange_rules.specs.First.{Abstract, first_state}
@@ -61,6 +61,7 @@ left_by (Activated link emergency) left = left
 left_by (Deactivated link) left = left
 left_by (Released link) left = left
 left_by (TitleAdded row is_memory_refused) left = left
+left_by (TitleSet row is_memory_refused) left = left
 left_by (TitleRemoved key digits) left = left
 
 -- this holds over each event and each take

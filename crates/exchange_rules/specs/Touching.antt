@@ -6,7 +6,7 @@ use Rattle.link.specs.declared.action.LinkTimer.{LinkTimer}
 use Rattle.link.specs.declared.action.LinkTimer.TheVariants.{L1, L2, L3, L4, L6, L7}
 use Rattle.link.specs.Queue.{Queue, emptied}
 use Rattle.timers.specs.Timers.{is_due, ticked}
-use Rattle.exchange_rules.specs.State.{Happening, CameUp, WentDown, FrameCame, Ticked, Submitted, Activated, Deactivated, Released, TitleAdded, TitleRemoved, Parts, Node, in_service}
+use Rattle.exchange_rules.specs.State.{Happening, CameUp, WentDown, FrameCame, Ticked, Submitted, Activated, Deactivated, Released, TitleAdded, TitleSet, TitleRemoved, Parts, Node, in_service}
 use Rattle.exchange_rules.specs.Timing.{timer_name}
 use Rattle.exchange_rules.specs.ChangingOver.{changeover_of}
 use Rattle.exchange_rules.specs.Queues.{WholeQueues, queue_at, whole}
@@ -37,6 +37,7 @@ is_about (Activated its emergency) p link = false
 is_about (Deactivated its) p link = false
 is_about (Released its) p link = false
 is_about (TitleAdded row is_memory_refused) p link = false
+is_about (TitleSet row is_memory_refused) p link = false
 is_about (TitleRemoved key digits) p link = false
 
 -- ---- what becomes of a queue

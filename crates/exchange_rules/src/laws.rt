@@ -39,6 +39,7 @@ pub mod orders;
 pub mod outage;
 pub mod peers;
 pub mod reroutings;
+pub mod rows;
 pub mod subsystems;
 pub mod user_parts;
 
@@ -63,6 +64,7 @@ pub use peers::{
     tests_of_others_are_answered, what_came_is_acknowledged,
 };
 pub use reroutings::{flows_keep_their_set_while_none_is_counted, rerouted_flows_are_counted};
+pub use rows::rows_are_set_in_one_event;
 pub use subsystems::{
     prohibited_subsystems_are_tested, rows_keep_off_prohibited_subsystems,
     subsystems_are_as_their_points_say, subsystems_are_forgotten_with_their_points,

@@ -30,7 +30,7 @@ use Rattle.neighbour_rules.proofs.FarEnds as far_ends
 use Rattle.neighbour_rules.proofs.LateOrders.{late_by-passes}
 use Rattle.neighbour_rules.proofs.Opening.{away-up, first-goes, opened-good, second-goes}
 use Rattle.neighbour_rules.proofs.Arriving.{away-comes, speaks_for}
-use Rattle.neighbour_rules.proofs.Statuses.{activate-passes, add_title-passes, association_down-passes, deactivate-passes, remove_title-passes, tick-passes}
+use Rattle.neighbour_rules.proofs.Statuses.{activate-passes, add_title-passes, set_title-passes, association_down-passes, deactivate-passes, remove_title-passes, tick-passes}
 use Rattle.neighbour_rules.proofs.Standing.{IsAway, IsQuiet, Stands, happens-stands, left, near-stands, regood}
 use Rattle.neighbour_rules.proofs.Steps.{deliver-stands, deliver_status-stands, double_status-stands, lose_status-stands, submit-stands, take-stands}
 
@@ -51,6 +51,7 @@ IsUntoldDoing c z a (Does (pairs.Activates link emergency)) p = Unit {0}
 IsUntoldDoing c z a (Does (pairs.Deactivates link)) p = Unit {0}
 IsUntoldDoing c z a (Does (pairs.Releases link)) p = Unit {0}
 IsUntoldDoing c z a (Does (pairs.AddsTitle row is_memory_refused)) p = Unit {0}
+IsUntoldDoing c z a (Does (pairs.SetsTitle row is_memory_refused)) p = Unit {0}
 IsUntoldDoing c z a (Does (pairs.RemovesTitle key digits)) p = Unit {0}
 IsUntoldDoing c z a (Does (pairs.OpensFirst link)) p = Unit {0}
 IsUntoldDoing c z a (Does (pairs.OpensSecond link)) p = Unit {0}
@@ -328,6 +329,7 @@ module _ (c z : Configuration) (a : AreFacing c z) where
     between-stands (pairs.LosesStatus link) untold s = lose_status-stands c z a n m nb fb ni fi nv fv na nr fa fr link s
     between-stands (pairs.DoublesStatus link) untold s = double_status-stands c z a n m nb fb ni fi nv fv na nr fa fr link s
     between-stands (pairs.AddsTitle row is_memory_refused) untold s = happens-stands c z a n m nb fb ni fi nv fv na nr fa fr _ (λ w. add_title-passes c z j row is_memory_refused w n) s
+    between-stands (pairs.SetsTitle row is_memory_refused) untold s = happens-stands c z a n m nb fb ni fi nv fv na nr fa fr _ (λ w. set_title-passes c z j row is_memory_refused w n) s
     between-stands (pairs.RemovesTitle key digits) untold s = happens-stands c z a n m nb fb ni fi nv fv na nr fa fr _ (λ w. remove_title-passes c z j key digits w n) s
     between-stands (pairs.Loses link) untold s = happens-stands c z a n m nb fb ni fi nv fv na nr fa fr _ (λ w. association_down-passes c z j w n link) s
     between-stands pairs.Ticks untold s = happens-stands c z a n m nb fb ni fi nv fv na nr fa fr _ (λ w. passes-both c z j _ _ _ (tick-passes c z j w n) (late_by-passes c z j Handled w (tick whole c n).left)) s
@@ -391,6 +393,7 @@ own-untold c z a own (Does (pairs.Activates link emergency)) p = tt
 own-untold c z a own (Does (pairs.Deactivates link)) p = tt
 own-untold c z a own (Does (pairs.Releases link)) p = tt
 own-untold c z a own (Does (pairs.AddsTitle row is_memory_refused)) p = tt
+own-untold c z a own (Does (pairs.SetsTitle row is_memory_refused)) p = tt
 own-untold c z a own (Does (pairs.RemovesTitle key digits)) p = tt
 own-untold c z a own (Does (pairs.OpensFirst link)) p = tt
 own-untold c z a own (Does (pairs.OpensSecond link)) p = tt

@@ -168,6 +168,7 @@ module _ (near far : Configuration) (p : PairState) (t : AreEnds near far p) whe
   between-ends (pairs.Deactivates link) = happens-ends (happening.Deactivated link)
   between-ends (pairs.Releases link) = happens-ends (happening.Released link)
   between-ends (pairs.AddsTitle row is_memory_refused) = happens-ends (happening.TitleAdded row is_memory_refused)
+  between-ends (pairs.SetsTitle row is_memory_refused) = happens-ends (happening.TitleSet row is_memory_refused)
   between-ends (pairs.RemovesTitle key digits) = happens-ends (happening.TitleRemoved key digits)
   between-ends (pairs.OpensFirst link) = first-ends (wants_of p.near.exchange link) (far_end p link) (far_may_open p (far_end p link)) link
   between-ends (pairs.OpensSecond link) = second-ends (wants_of p.near.exchange link) (may_follow p.near link) link

@@ -242,6 +242,7 @@ module _ (c z : Configuration) (g : AreJoined c z) (n m : Node WholeQueues) (nb 
     did-same (pairs.Deactivates link) = refl
     did-same (pairs.Releases link) = refl
     did-same (pairs.AddsTitle row is_memory_refused) = refl
+    did-same (pairs.SetsTitle row is_memory_refused) = refl
     did-same (pairs.RemovesTitle key digits) = refl
     did-same (pairs.OpensFirst link) = first-by (wanted n.parts link) link refl
     did-same (pairs.OpensSecond link) = refl

@@ -1,6 +1,6 @@
 -- Link statuses that come, timers that run out, and what the operator and the association do to a link: by moves.
 use Rattle.pair_rules.proofs.Basics.{◌≤◌, inl, inr, ◌≡◌, ◌≢◌, ◌&&◌, ℕ, Bool, true, false, List, [], length, zero, suc, Option, Some, None, refl, ◌∙◌, nat_lt, if◌then◌else◌}
-use Rattle.pair_rules.proofs.Definitions.{SIF_OCTETS, Message, is_management, set_of, FailureReason, Handled, Ignored, Cause, add_title, add_title_unless, remove_title, title_refusal, with_titles, Configuration, TitleEntry, FrameValue, StatusFrame, LinkStatus, Action, Status, Expiry, acts_on, RouteStatus, ticked, due_name, after_due, due_count, Node, Done, answer, refuse, with_parts, down, is_link, link_at, WholeQueues, whole, fail, activate, association_down, deactivate, end_association, fail_if_up, set_active, ask_by, facts, act_by_status, act_by_timer, advance, on_link_status, run_out, serve_status, in_service, serves-in, advance-serves, failed_if_up-down, set_active-steps, StaysFit, fit-steps, handed-fit, ticked-fit}
+use Rattle.pair_rules.proofs.Definitions.{SIF_OCTETS, Message, is_management, set_of, FailureReason, Handled, Ignored, Cause, add_title, set_title, add_title_unless, remove_title, title_refusal, title_set_refusal, with_titles, Configuration, TitleEntry, FrameValue, StatusFrame, LinkStatus, Action, Status, Expiry, acts_on, RouteStatus, ticked, due_name, after_due, due_count, Node, Done, answer, refuse, with_parts, down, is_link, link_at, WholeQueues, whole, fail, activate, association_down, deactivate, end_association, fail_if_up, set_active, ask_by, facts, act_by_status, act_by_timer, advance, on_link_status, run_out, serve_status, in_service, serves-in, advance-serves, failed_if_up-down, set_active-steps, StaysFit, fit-steps, handed-fit, ticked-fit}
 use Rattle.sccp_relay.specs.Statuses.{TitlesValue}
 use Rattle.exchange_rules.proofs.Rules.{rules-of}
 use Rattle.signalling_types.specs.declared.notice.FailureReason.TheVariants as reasons
@@ -249,6 +249,9 @@ module _ (c z : Configuration) (j : Joint c z) where
 
   pub add_title-passes : (row : TitleEntry) (is_memory_refused : Bool) (w : World) (n : Node WholeQueues) → Passes c z j (at c z j w n [] []) (at c z j w (add_title row is_memory_refused n).left [] [])
   add_title-passes row is_memory_refused w n = add_by-passes (title_refusal n.parts.titles.rows row is_memory_refused) row w n
+
+  pub set_title-passes : (row : TitleEntry) (is_memory_refused : Bool) (w : World) (n : Node WholeQueues) → Passes c z j (at c z j w n [] []) (at c z j w (set_title row is_memory_refused n).left [] [])
+  set_title-passes row is_memory_refused w n = add_by-passes (title_set_refusal n.parts.titles.rows row is_memory_refused) row w n
 
   pub remove_title-passes : (key : TitleKey) (digits : List ℕ) (w : World) (n : Node WholeQueues) → Passes c z j (at c z j w n [] []) (at c z j w (remove_title key digits n).left [] [])
   remove_title-passes key digits w n =

@@ -11,7 +11,7 @@ use Rattle.exchange_rules.specs.Conserving.{brought_in}
 use Rattle.exchange_rules.specs.declared.wants.Wants.{Wants}
 use Rattle.exchange_rules.specs.declared.wants.Wants.TheVariants.{Open}
 use Rattle.exchange_rules.specs.State.{Happening, CameUp, WentDown, FrameCame, Ticked, Submitted, Activated}
-use Rattle.exchange_rules.specs.State.{Deactivated, Released, TitleAdded, TitleRemoved}
+use Rattle.exchange_rules.specs.State.{Deactivated, Released, TitleAdded, TitleSet, TitleRemoved}
 use Rattle.exchange_rules.specs.Queues.{whole}
 use Rattle.exchange_rules.specs.Exchange.{outcome_of, after, frame_to_take, taken, wants_of}
 use Rattle.exchange_rules.specs.Laws.{carried_message}
@@ -183,6 +183,7 @@ did_between_for there back (pairs.Activates link emergency) p = happens (Activat
 did_between_for there back (pairs.Deactivates link) p = happens (Deactivated link) p
 did_between_for there back (pairs.Releases link) p = happens (Released link) p
 did_between_for there back (pairs.AddsTitle row is_memory_refused) p = happens (TitleAdded row is_memory_refused) p
+did_between_for there back (pairs.SetsTitle row is_memory_refused) p = happens (TitleSet row is_memory_refused) p
 did_between_for there back (pairs.RemovesTitle key digits) p = happens (TitleRemoved key digits) p
 did_between_for there back (pairs.OpensFirst link) p =
     opens_first (wants_of p.near.exchange link) (far_end p link) (far_may_open p (far_end p link)) link p

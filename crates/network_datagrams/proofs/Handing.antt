@@ -1,7 +1,7 @@
 -- What an endpoint tells is handed in as events; what these leave of an exchange, and of the links that may open.
 use Rattle.std.proofs.Common.{◌≡◌, ℕ, Bool, true, false, List, [], ◌∷◌, refl, ap, sym, ◌∙◌, subst}
 use Rattle.std.specs.Prelude.{if◌then◌else◌}
-use Rattle.exchange_rules.specs.State.{Happening, CameUp, WentDown, FrameCame, Ticked, Submitted, Activated, Deactivated, Released, TitleAdded, TitleRemoved}
+use Rattle.exchange_rules.specs.State.{Happening, CameUp, WentDown, FrameCame, Ticked, Submitted, Activated, Deactivated, Released, TitleAdded, TitleSet, TitleRemoved}
 use Rattle.exchange_rules.specs.Exchange as exchange
 use Rattle.exchange_rules.specs.Exchange.{frame_to_take, taken}
 use Rattle.exchange_rules.specs.First.{Abstract}
@@ -39,6 +39,7 @@ event-exchange (Activated link emergency) x = refl
 event-exchange (Deactivated link) x = refl
 event-exchange (Released link) x = refl
 event-exchange (TitleAdded row is_memory_refused) x = refl
+event-exchange (TitleSet row is_memory_refused) x = refl
 event-exchange (TitleRemoved key digits) x = refl
 
 pub events-exchange : (list : List Happening) (x : NetworkNode) → (happened_all list x).exchange ≡ after_events list x.exchange

@@ -2,7 +2,7 @@
 use Rattle.std.proofs.Common.{◌≡◌, ◌≢◌, ℕ, refl, ap, sym, subst, ⊎_elim}
 use Rattle.std.proofs.lemmas.Bool.{cases_eq}
 use Rattle.settings.specs.Configuration.{Configuration}
-use Rattle.exchange_rules.specs.State.{Happening, CameUp, WentDown, FrameCame, Submitted, Ticked, Activated, Deactivated, Released, TitleAdded, TitleRemoved}
+use Rattle.exchange_rules.specs.State.{Happening, CameUp, WentDown, FrameCame, Submitted, Ticked, Activated, Deactivated, Released, TitleAdded, TitleSet, TitleRemoved}
 use Rattle.pair_rules.specs.Pairs as pairs
 use Rattle.pair_rules.specs.Pairs.{Streams, behind_data, behind_statuses, emptied, in_flight, launched, may_follow, nothing_in_flight, without_data, without_status}
 use Rattle.network_rules.specs.Networks as networks
@@ -19,6 +19,7 @@ own_step (Activated link emergency) = pairs.Activates link emergency
 own_step (Deactivated link) = pairs.Deactivates link
 own_step (Released link) = pairs.Releases link
 own_step (TitleAdded row is_memory_refused) = pairs.AddsTitle row is_memory_refused
+own_step (TitleSet row is_memory_refused) = pairs.SetsTitle row is_memory_refused
 own_step (TitleRemoved key digits) = pairs.RemovesTitle key digits
 own_step what = pairs.Ticks
 
@@ -44,6 +45,7 @@ own-shows c b air x h (Activated link emergency) own = plain-shows c b air x h (
 own-shows c b air x h (Deactivated link) own = plain-shows c b air x h (Deactivated link)
 own-shows c b air x h (Released link) own = plain-shows c b air x h (Released link)
 own-shows c b air x h (TitleAdded row refused) own = plain-shows c b air x h (TitleAdded row refused)
+own-shows c b air x h (TitleSet row refused) own = plain-shows c b air x h (TitleSet row refused)
 own-shows c b air x h (TitleRemoved key digits) own = plain-shows c b air x h (TitleRemoved key digits)
 own-shows c b air x h (CameUp link) own = absurd own
 own-shows c b air x h (WentDown link) own = absurd own
@@ -56,6 +58,7 @@ own-is (Activated link emergency) own point s = refl
 own-is (Deactivated link) own point s = refl
 own-is (Released link) own point s = refl
 own-is (TitleAdded row refused) own point s = refl
+own-is (TitleSet row refused) own point s = refl
 own-is (TitleRemoved key digits) own point s = refl
 own-is (CameUp link) own point s = absurd own
 own-is (WentDown link) own point s = absurd own

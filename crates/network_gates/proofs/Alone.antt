@@ -10,7 +10,7 @@ use Rattle.exchange_rules.specs.Conserving.{brought_in}
 use Rattle.exchange_rules.specs.Exchange as exchange
 use Rattle.exchange_rules.specs.Queues.{WholeQueues, whole}
 use Rattle.exchange_rules.specs.Receiving.{new_message}
-use Rattle.exchange_rules.specs.State.{Happening, CameUp, WentDown, FrameCame, Ticked, Submitted, Activated, Deactivated, Released, TitleAdded, TitleRemoved}
+use Rattle.exchange_rules.specs.State.{Happening, CameUp, WentDown, FrameCame, Ticked, Submitted, Activated, Deactivated, Released, TitleAdded, TitleSet, TitleRemoved}
 use Rattle.sctp_gate.specs.Watching.{Sight, Rose, CameIn, Dropped, Fell, Failed, WentOut}
 use Rattle.sctp_gate.specs.Gates.{Did}
 use Rattle.sctp_gate.specs.Calling.{Call}
@@ -80,6 +80,7 @@ happened-as (Activated k emergency) x = none-more (Activated k emergency) x refl
 happened-as (Deactivated k) x = none-more (Deactivated k) x refl refl
 happened-as (Released k) x = none-more (Released k) x refl refl
 happened-as (TitleAdded row is_memory_refused) x = none-more (TitleAdded row is_memory_refused) x refl refl
+happened-as (TitleSet row is_memory_refused) x = none-more (TitleSet row is_memory_refused) x refl refl
 happened-as (TitleRemoved key digits) x = none-more (TitleRemoved key digits) x refl refl
 
 seen-as : (k : ℕ) (seen : List Sight) (x : NetworkNode) → seen_all books_kept k seen (books_of x) ≡ books_of (seen_all node_kept k seen x)

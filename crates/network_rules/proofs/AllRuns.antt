@@ -53,6 +53,7 @@ here-keeps (pairs.Activates link emergency) x = refl
 here-keeps (pairs.Deactivates link) x = refl
 here-keeps (pairs.Releases link) x = refl
 here-keeps (pairs.AddsTitle row is_memory_refused) x = refl
+here-keeps (pairs.SetsTitle row is_memory_refused) x = refl
 here-keeps (pairs.RemovesTitle key digits) x = refl
 here-keeps (pairs.OpensFirst link) x = refl
 here-keeps (pairs.OpensSecond link) x = second-keeps (wants_of x.exchange link) (may_follow (end_of x) link) link x
@@ -87,6 +88,8 @@ did-keeps (pairs.Deactivates link) point w other = changed-keeps point (did_here
 did-keeps (pairs.Releases link) point w other = changed-keeps point (did_here (pairs.Releases link)) w (here-keeps (pairs.Releases link)) other
 did-keeps (pairs.AddsTitle row is_memory_refused) point w other =
     changed-keeps point (did_here (pairs.AddsTitle row is_memory_refused)) w (here-keeps (pairs.AddsTitle row is_memory_refused)) other
+did-keeps (pairs.SetsTitle row is_memory_refused) point w other =
+    changed-keeps point (did_here (pairs.SetsTitle row is_memory_refused)) w (here-keeps (pairs.SetsTitle row is_memory_refused)) other
 did-keeps (pairs.RemovesTitle key digits) point w other = changed-keeps point (did_here (pairs.RemovesTitle key digits)) w (here-keeps (pairs.RemovesTitle key digits)) other
 did-keeps (pairs.OpensFirst link) point w other =
     first-keeps (wants_of (w.node point).exchange link) (may_open_there w (other_end w point link)) point link (other_end w point link) w other
@@ -182,6 +185,7 @@ module _ (t : Terms) (near far : ℕ) (apart : near ≢ far) (w : NetworkState) 
   third-next (pairs.Deactivates link) = alone (pairs.Deactivates link)
   third-next (pairs.Releases link) = alone (pairs.Releases link)
   third-next (pairs.AddsTitle row is_memory_refused) = alone (pairs.AddsTitle row is_memory_refused)
+  third-next (pairs.SetsTitle row is_memory_refused) = alone (pairs.SetsTitle row is_memory_refused)
   third-next (pairs.RemovesTitle key digits) = alone (pairs.RemovesTitle key digits)
   third-next (pairs.OpensFirst link) =
       third-opens (wants_of (w.node point).exchange link) (may_open_there w (entry_place link)) link (entry_place link) refl

@@ -177,6 +177,7 @@ module _ (settings : (point : ℕ) → Configuration) (near far : ℕ) (points :
   takes-any (doing.Deactivates link) x y = tt
   takes-any (doing.Releases link) x y = tt
   takes-any (doing.AddsTitle row is_memory_refused) x y = tt
+  takes-any (doing.SetsTitle row is_memory_refused) x y = tt
   takes-any (doing.RemovesTitle key digits) x y = tt
   takes-any (doing.OpensFirst link) x y = tt
   takes-any (doing.OpensSecond link) x y = tt

@@ -1,7 +1,7 @@
 -- A step at a node of a network that loses nothing: what waits there grows by what the node accepts.
 use Rattle.pair_rules.proofs.Basics.{◌≡◌, ◌≢◌, ◌⊎◌, inl, inr, ◌<◌, ◌≤◌, ◌&&◌, ℕ, ◌+◌, ◌-◌, ◌^◌, Bool, true, false, not, List, [], ◌∷◌, ◌++◌, length, Option, Some, None, refl, ap, sym, subst, ◌∙◌, arith, nat_tests, slice_get, drop, if◌then◌else◌}
 use Rattle.pair_rules.proofs.Definitions.{Message, Configuration, Queue, first_queue, queue_at, WholeQueues, whole, in_flight, new_message, is_link, down, Happening, CameUp, FrameCame, Submitted}
-use Rattle.exchange_rules.specs.State.{WentDown, Ticked, Activated, Deactivated, Released, TitleAdded, TitleRemoved}
+use Rattle.exchange_rules.specs.State.{WentDown, Ticked, Activated, Deactivated, Released, TitleAdded, TitleSet, TitleRemoved}
 use Rattle.exchange_rules.specs.First.{Abstract}
 use Rattle.exchange_rules.specs.Conserving.{brought_in, users_that}
 use Rattle.exchange_rules.specs.Exchange.{after, taken}
@@ -150,6 +150,7 @@ module _ (of : Message → Bool) where
     plain-waits (Deactivated link) plain e = other-waits (Deactivated link) tt e
     plain-waits (Released link) plain e = other-waits (Released link) tt e
     plain-waits (TitleAdded row is_memory_refused) plain e = other-waits (TitleAdded row is_memory_refused) tt e
+    plain-waits (TitleSet row is_memory_refused) plain e = other-waits (TitleSet row is_memory_refused) tt e
     plain-waits (TitleRemoved key digits) plain e = other-waits (TitleRemoved key digits) tt e
     plain-waits Ticked plain e = as-left Ticked e [] (λ kept later. tick-stays of t a fits steady.places steady.steady kept between-before later)
     plain-waits (CameUp link) plain e = absurd plain

@@ -102,6 +102,7 @@ module _ (settings : (point : ℕ) → Configuration) (near far : ℕ) (points :
   quiet-here (doing.Deactivates link) w told = tt
   quiet-here (doing.Releases link) w told = tt
   quiet-here (doing.AddsTitle row is_memory_refused) w told = tt
+  quiet-here (doing.SetsTitle row is_memory_refused) w told = tt
   quiet-here (doing.RemovesTitle key digits) w told = tt
   quiet-here (doing.OpensFirst link) w told = tt
   quiet-here (doing.OpensSecond link) w told = tt
@@ -119,6 +120,7 @@ module _ (settings : (point : ℕ) → Configuration) (near far : ℕ) (points :
   untold-doing (Does (doing.Deactivates link)) p h = tt
   untold-doing (Does (doing.Releases link)) p h = tt
   untold-doing (Does (doing.AddsTitle row is_memory_refused)) p h = tt
+  untold-doing (Does (doing.SetsTitle row is_memory_refused)) p h = tt
   untold-doing (Does (doing.RemovesTitle key digits)) p h = tt
   untold-doing (Does (doing.OpensFirst link)) p h = tt
   untold-doing (Does (doing.OpensSecond link)) p h = tt

@@ -1,7 +1,7 @@
 -- So it is with whole events: with frames, with ticks, with a link that opens, and with all others.
 use Rattle.exchange_rules.specs.Reroutings.{first_reroutings}
 use Rattle.exchange_rules.proofs.Basics.{◌≡◌, ◌<◌, ◌&&◌, ◌+◌, ℕ, zero, suc, Bool, true, false, not, List, [], ◌++◌, Option, Some, None, Result, Ok, Err, refl, ap, ◌∙◌, arith, if◌then◌else◌, take}
-use Rattle.exchange_rules.proofs.Definitions.{Message, Configuration, FrameFault, FrameValue, EmptyFrame, MessageFrame, StatusFrame, read_frame, SeqFault, Action, UserData, Alignment, Standing, Link, is_down, is_in_service, may_restart, acts_on, accept_answer, unconfirmed, count_confirmed, Node, with_parts, answer, refuse, WholeQueues, queue_at, whole, Carrying, carries, empty_data, message_data, numbers, accept, handle_by, act_by_data, receive_data, read, advance, is_link, link_at, down, may_open, open_link, association_up, changeover_of, title_refusal, with_timers, run_due, run_next, run_times, tick, with_expiry, complete_if, ChangeoverTimer, release, tell_owed, handle_event, apply, Happening, CameUp, WentDown, FrameCame, Ticked, Submitted, Activated, Deactivated, Released, TitleAdded, TitleRemoved, whither_goes, AreLinksSteady, IsSteady, is_l7_running}
+use Rattle.exchange_rules.proofs.Definitions.{Message, Configuration, FrameFault, FrameValue, EmptyFrame, MessageFrame, StatusFrame, read_frame, SeqFault, Action, UserData, Alignment, Standing, Link, is_down, is_in_service, may_restart, acts_on, accept_answer, unconfirmed, count_confirmed, Node, with_parts, answer, refuse, WholeQueues, queue_at, whole, Carrying, carries, empty_data, message_data, numbers, accept, handle_by, act_by_data, receive_data, read, advance, is_link, link_at, down, may_open, open_link, association_up, changeover_of, title_refusal, title_set_refusal, with_timers, run_due, run_next, run_times, tick, with_expiry, complete_if, ChangeoverTimer, release, tell_owed, handle_event, apply, Happening, CameUp, WentDown, FrameCame, Ticked, Submitted, Activated, Deactivated, Released, TitleAdded, TitleSet, TitleRemoved, whither_goes, AreLinksSteady, IsSteady, is_l7_running}
 use Rattle.exchange_rules.proofs.Definitions.{Gone, nothing_gone, both_gone, gone_by_completion, gone_by_new, confirmed_by, confirmed_at, confirmed_in, confirmed_of, gone_by_timer, gone_by_timers, gone_by_tick, new_at, new_by, new_in, new_of, new_message, accept_data, accept_frame, accept_text}
 use Rattle.exchange_rules.specs.ChangingOver.{barred}
 use Rattle.exchange_rules.specs.Conserving.{confirmed}
@@ -232,6 +232,7 @@ module _ (c : Configuration) (fits : MayMake c) where
   IsOther (Deactivated link) = Unit {0}
   IsOther (Released link) = Unit {0}
   IsOther (TitleAdded row is_memory_refused) = Unit {0}
+  IsOther (TitleSet row is_memory_refused) = Unit {0}
   IsOther (TitleRemoved key digits) = Unit {0}
 
   handled-grows : (what : Happening) (n : Node WholeQueues) → IsOther what → Grows n (handle_event whole c what n).left
@@ -244,6 +245,7 @@ module _ (c : Configuration) (fits : MayMake c) where
   handled-grows (Deactivated link) n e = deactivate-keeps c any_message f r link n
   handled-grows (Released link) n e = release_bar-keeps c any_message f r link n
   handled-grows (TitleAdded row is_memory_refused) n e = added-keeps c any_message f r (title_refusal n.parts.titles.rows row is_memory_refused) row n
+  handled-grows (TitleSet row is_memory_refused) n e = added-keeps c any_message f r (title_set_refusal n.parts.titles.rows row is_memory_refused) row n
   handled-grows (TitleRemoved key digits) n e = removed-keeps c any_message f r key digits n
 
   pub other-event : (what : Happening) (n : Node WholeQueues) → IsOther what → AreGrown n.queues (apply whole c what n).left.queues

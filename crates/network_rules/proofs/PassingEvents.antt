@@ -1,10 +1,10 @@
 -- So it is with every event, and with every frame that goes out.
 use Rattle.exchange_rules.proofs.Basics.{◌<◌, ◌^◌, ◌≡◌, ℕ, zero, suc, Bool, true, false, List, Option, Some, None, Result, Ok, Err, refl, ap, ◌∙◌, if◌then◌else◌, nat_eq, list_all}
 use Rattle.exchange_rules.proofs.Definitions.{Message, is_management, opc_of, service_indicator, Configuration, NoSuchName, Management, TrafficRestartAllowed, ExtendedChangeoverOrder, ExtendedChangeoverAcknowledgement, EmergencyChangeoverOrder, EmergencyChangeoverAcknowledgement, ChangebackDeclaration, ChangebackAcknowledgement, TransferProhibited, TransferRestricted, TransferAllowed, RouteSetTestProhibited, RouteSetTestRestricted, MgmtFault, Discrimination, UserData, Allowed, Restricted, Prohibited, Node, Done, answer, refuse, WholeQueues, queue_at, whole, Queue, first_queue, accept_answer, to_send, SeqFault, carries, destination_place, set_place, is_link, link_at, down, route_about, from_afar, UserPartUnavailable}
-use Rattle.exchange_rules.proofs.Definitions.{tell_owed, title_refusal}
+use Rattle.exchange_rules.proofs.Definitions.{tell_owed, title_refusal, title_set_refusal}
 use Rattle.exchange_rules.proofs.Definitions.{is_adjacent, local, do_test, do_order, do_acknowledgement, do_management, link_with_code, manage, deliver_to, deliver, whither_goes, changeback_acknowledgement, changeover_of}
 use Rattle.exchange_rules.proofs.Definitions.{advance, acts_on, Carrying, empty_data, message_data, numbers, accept, carry, handle_by, act_by_data, receive_frame, read, receive, FrameValue, EmptyFrame, MessageFrame, StatusFrame, read_frame, carried_message, may_open, open_link, may_restart, association_up}
-use Rattle.exchange_rules.proofs.Definitions.{release, with_timers, run_timer, run_due, run_times, tick, handle_event, apply, Happening, CameUp, WentDown, FrameCame, Ticked, Submitted, Activated, Deactivated, Released, TitleAdded, TitleRemoved, after_sending, after_take, Outgoing, SendsStatus, SendsMessage, Acknowledges, SendsNothing, goes_out}
+use Rattle.exchange_rules.proofs.Definitions.{release, with_timers, run_timer, run_due, run_times, tick, handle_event, apply, Happening, CameUp, WentDown, FrameCame, Ticked, Submitted, Activated, Deactivated, Released, TitleAdded, TitleSet, TitleRemoved, after_sending, after_take, Outgoing, SendsStatus, SendsMessage, Acknowledges, SendsNothing, goes_out}
 use Rattle.exchange_rules.proofs.LastingMessages.{accepted-all, sent-all}
 use Rattle.link.specs.Queue as queue
 use Rattle.link.specs.declared.action.Action.{Action}
@@ -201,6 +201,7 @@ module _ (c : Configuration) (fine : Message → Bool) (f : IsFine c fine) where
   IsFineAt (Deactivated link) = Unit {0}
   IsFineAt (Released link) = Unit {0}
   IsFineAt (TitleAdded row is_memory_refused) = Unit {0}
+  IsFineAt (TitleSet row is_memory_refused) = Unit {0}
   IsFineAt (TitleRemoved key digits) = Unit {0}
 
   handled-keeps : (what : Happening) (n : Node WholeQueues) → IsFineAt what → K n (handle_event whole c what n).left
@@ -217,6 +218,7 @@ module _ (c : Configuration) (fine : Message → Bool) (f : IsFine c fine) where
   handled-keeps (Deactivated link) n e = deactivate-keeps c fine f r link n
   handled-keeps (Released link) n e = release_bar-keeps c fine f r link n
   handled-keeps (TitleAdded row is_memory_refused) n e = added-keeps c fine f r (title_refusal n.parts.titles.rows row is_memory_refused) row n
+  handled-keeps (TitleSet row is_memory_refused) n e = added-keeps c fine f r (title_set_refusal n.parts.titles.rows row is_memory_refused) row n
   handled-keeps (TitleRemoved key digits) n e = removed-keeps c fine f r key digits n
 
   pub event-keeps : (what : Happening) (n : Node WholeQueues) → IsFineAt what → K n (apply whole c what n).left

@@ -3,7 +3,7 @@
 use Rattle.pair_rules.proofs.Basics.{◌≡◌, ◌≢◌, ℕ, zero, suc, Bool, true, false, List, [], ◌∷◌, Option, Some, None, refl, ap, sym, subst, ◌∙◌, nat_eq, slice_get, slice_set, slice_index_or, drop, take, if◌then◌else◌, ⊎_elim, cases_eq}
 use Rattle.exchange_rules.proofs.Basics.{eqb-true}
 use Rattle.pair_rules.proofs.Definitions.{Message, Configuration, LinkEntry, IsWell, FrameValue, EmptyFrame, MessageFrame, StatusFrame, Happening, FrameCame, Open, Nothing, Close, whole, queue_at, apply, after, Streams, in_flight, spelled, frame_to_take, wants_of}
-use Rattle.exchange_rules.specs.State.{CameUp, Submitted, WentDown, Ticked, Activated, Deactivated, Released, TitleAdded, TitleRemoved}
+use Rattle.exchange_rules.specs.State.{CameUp, Submitted, WentDown, Ticked, Activated, Deactivated, Released, TitleAdded, TitleSet, TitleRemoved}
 use Rattle.exchange_rules.specs.First.{Abstract}
 use Rattle.exchange_rules.specs.Exchange.{taken}
 use Rattle.exchange_rules.specs.Sending.{after_take}
@@ -177,6 +177,7 @@ module _ (settings : (point : ℕ) → Configuration) (near far : ℕ) (points :
   here-ok (pairs.Deactivates link) point x h = happened point x.exchange x.incoming h (Deactivated link) (λ d e f. tt)
   here-ok (pairs.Releases link) point x h = happened point x.exchange x.incoming h (Released link) (λ d e f. tt)
   here-ok (pairs.AddsTitle row is_memory_refused) point x h = happened point x.exchange x.incoming h (TitleAdded row is_memory_refused) (λ d e f. tt)
+  here-ok (pairs.SetsTitle row is_memory_refused) point x h = happened point x.exchange x.incoming h (TitleSet row is_memory_refused) (λ d e f. tt)
   here-ok (pairs.RemovesTitle key digits) point x h = happened point x.exchange x.incoming h (TitleRemoved key digits) (λ d e f. tt)
   here-ok (pairs.OpensFirst link) point x h = h
   here-ok (pairs.OpensSecond link) point x h = followed point (wants_of x.exchange link) (may_follow (end_of x) link) link x h
@@ -274,6 +275,7 @@ module _ (settings : (point : ℕ) → Configuration) (near far : ℕ) (points :
   did-quiet (pairs.Deactivates link) point w h s = at-one w point (pairs.Deactivates link) h
   did-quiet (pairs.Releases link) point w h s = at-one w point (pairs.Releases link) h
   did-quiet (pairs.AddsTitle row is_memory_refused) point w h s = at-one w point (pairs.AddsTitle row is_memory_refused) h
+  did-quiet (pairs.SetsTitle row is_memory_refused) point w h s = at-one w point (pairs.SetsTitle row is_memory_refused) h
   did-quiet (pairs.RemovesTitle key digits) point w h s = at-one w point (pairs.RemovesTitle key digits) h
   did-quiet (pairs.OpensFirst link) point w h s =
       open-quiet w (wants_of (w.node point).exchange link) (may_open_there w (other_end w point link)) point link (other_end w point link) h

@@ -1,7 +1,7 @@
 -- A step of a network is at most one step of each two of its nodes that share a set: one at either of them.
 use Rattle.pair_rules.proofs.Basics.{◌≡◌, ◌≢◌, ℕ, Bool, true, false, List, [], ◌∷◌, Option, Some, None, refl, ap, sym, subst, ◌∙◌, map, slice_get, ⊎_elim, cases_eq}
 use Rattle.pair_rules.proofs.Definitions.{Message, new_message, Configuration, LinkEntry, FrameValue, Open, Nothing, Close, whole, PairState, turned, in_flight, may_follow, wants_of, frame_to_take, link_with_code}
-use Rattle.exchange_rules.specs.State.{WentDown, Ticked, Activated, Deactivated, Released, TitleAdded, TitleRemoved}
+use Rattle.exchange_rules.specs.State.{WentDown, Ticked, Activated, Deactivated, Released, TitleAdded, TitleSet, TitleRemoved}
 use Rattle.exchange_rules.specs.declared.wants.Wants.{Wants}
 use Rattle.exchange_rules.specs.First.{Abstract}
 use Rattle.pair_rules.specs.Pairs as pairs
@@ -266,6 +266,7 @@ module _ (t : Terms) (near far : ℕ) (apart : near ≢ far) where
       near-next (pairs.Deactivates link) told = alone (pairs.Deactivates link) tt (happens-pair t x y p h (Deactivated link))
       near-next (pairs.Releases link) told = alone (pairs.Releases link) tt (happens-pair t x y p h (Released link))
       near-next (pairs.AddsTitle row is_memory_refused) told = alone (pairs.AddsTitle row is_memory_refused) tt (happens-pair t x y p h (TitleAdded row is_memory_refused))
+      near-next (pairs.SetsTitle row is_memory_refused) told = alone (pairs.SetsTitle row is_memory_refused) tt (happens-pair t x y p h (TitleSet row is_memory_refused))
       near-next (pairs.RemovesTitle key digits) told = alone (pairs.RemovesTitle key digits) tt (happens-pair t x y p h (TitleRemoved key digits))
       near-next (pairs.OpensFirst link) told =
           opens-next (wants_of x.exchange link) (may_open_there w (place_there w c (entry link))) link refl refl (leads w c far (entry link) (own far))

@@ -2,7 +2,7 @@
 -- far ends.
 use Rattle.exchange_rules.proofs.Basics.{◌≡◌, ◌<◌, ◌≤◌, ◌⊎◌, inl, inr, ◌+◌, ◌-◌, ℕ, zero, suc, Bool, List, [], ◌∷◌, length, refl, ap, sym, subst, ◌∙◌, arith, take, sum_by, sum_by-cons, ⊎_elim, cases_lt, slice_index_or, get_or_past}
 use Rattle.std.proofs.Common.{drop}
-use Rattle.exchange_rules.proofs.Definitions.{Message, Configuration, Queue, first_queue, unconfirmed, IsQueue, AreQueues, WholeQueues, queue_at, whole, Abstract, users_that, standing, gone_that, Gone, both_gone, gone, gone_by, gone_by_new, gone_by_release, gone_by_tick, brought_in, new_message, accept_text, read_frame, HasAllPlaces, AreLinksSteady, Happening, CameUp, WentDown, FrameCame, Ticked, Submitted, Activated, Deactivated, Released, TitleAdded, TitleRemoved, handle_event, Happens}
+use Rattle.exchange_rules.proofs.Definitions.{Message, Configuration, Queue, first_queue, unconfirmed, IsQueue, AreQueues, WholeQueues, queue_at, whole, Abstract, users_that, standing, gone_that, Gone, both_gone, gone, gone_by, gone_by_new, gone_by_release, gone_by_tick, brought_in, new_message, accept_text, read_frame, HasAllPlaces, AreLinksSteady, Happening, CameUp, WentDown, FrameCame, Ticked, Submitted, Activated, Deactivated, Released, TitleAdded, TitleSet, TitleRemoved, handle_event, Happens}
 use Rattle.exchange_rules.specs.Conserving.{confirmed, only_accepted}
 use Rattle.exchange_rules.specs.Exchange.{after}
 use Rattle.exchange_rules.proofs.Conserved.{conserved}
@@ -220,6 +220,7 @@ module _ (of : Message → Bool) (there : ℕ → ℕ) where
         none (Deactivated link) e = refl
         none (Released link) e = refl
         none (TitleAdded row is_memory_refused) e = refl
+        none (TitleSet row is_memory_refused) e = refl
         none (TitleRemoved key digits) e = refl
 
   module _ (a : Abstract) (fits : MayMake a.settings) (places : HasAllPlaces a.settings a.node) (steady : AreLinksSteady a.settings.window a.node) where

@@ -1,7 +1,7 @@
 -- A step at a node of a network that loses nothing: what waits at another node falls by what newly came from it.
 use Rattle.pair_rules.proofs.Basics.{◌≡◌, ◌≢◌, ◌⊎◌, ◌<◌, ℕ, ◌+◌, zero, suc, Bool, true, false, List, [], ◌∷◌, ◌++◌, length, Some, refl, ap, sym, subst, ◌∙◌, arith, slice_get, drop, ⊎_elim, cases_eq}
 use Rattle.pair_rules.proofs.Definitions.{Message, Configuration, Queue, queue_at, whole, may_follow, may_open_at, Happening, CameUp, FrameCame, Submitted}
-use Rattle.exchange_rules.specs.State.{WentDown, Ticked, Activated, Deactivated, Released, TitleAdded, TitleRemoved}
+use Rattle.exchange_rules.specs.State.{WentDown, Ticked, Activated, Deactivated, Released, TitleAdded, TitleSet, TitleRemoved}
 use Rattle.exchange_rules.specs.First.{Abstract}
 use Rattle.exchange_rules.specs.Conserving.{users_that}
 use Rattle.exchange_rules.specs.Exchange.{after}
@@ -68,6 +68,7 @@ module _ (of : Message → Bool) (settings : (point : ℕ) → Configuration) (p
   plain-same (Deactivated k) link plain steady e = counted (Deactivated k) link steady e refl refl
   plain-same (Released k) link plain steady e = counted (Released k) link steady e refl refl
   plain-same (TitleAdded row is_memory_refused) link plain steady e = counted (TitleAdded row is_memory_refused) link steady e refl refl
+  plain-same (TitleSet row is_memory_refused) link plain steady e = counted (TitleSet row is_memory_refused) link steady e refl refl
   plain-same (TitleRemoved key digits) link plain steady e = counted (TitleRemoved key digits) link steady e refl refl
   plain-same (CameUp k) link plain steady e = absurd plain
   plain-same (FrameCame k text) link plain steady e = absurd plain

@@ -1,7 +1,7 @@
 -- What a step of a network makes of the exchange and the books of its node; those of all others stay.
 use Rattle.pair_rules.proofs.Basics.{◌≡◌, ◌≢◌, ◌⊎◌, inl, inr, ℕ, Bool, true, false, List, Option, Some, None, refl, ap, ◌∙◌, nat_eq, slice_get, if◌then◌else◌}
 use Rattle.pair_rules.proofs.Definitions.{Message, FrameValue, Open, Nothing, Close, whole, wants_of, frame_to_take, Happening, CameUp}
-use Rattle.exchange_rules.specs.State.{WentDown, Ticked, Activated, Deactivated, Released, TitleAdded, TitleRemoved}
+use Rattle.exchange_rules.specs.State.{WentDown, Ticked, Activated, Deactivated, Released, TitleAdded, TitleSet, TitleRemoved}
 use Rattle.exchange_rules.specs.declared.wants.Wants.{Wants}
 use Rattle.pair_rules.specs.Pairs as pairs
 use Rattle.pair_rules.specs.Pairs.{Doing, Streams, in_flight, may_follow, may_open_at, with_status_twice, without_data, without_status}
@@ -42,6 +42,7 @@ IsPlain (Activated link emergency) = Unit {0}
 IsPlain (Deactivated link) = Unit {0}
 IsPlain (Released link) = Unit {0}
 IsPlain (TitleAdded row is_memory_refused) = Unit {0}
+IsPlain (TitleSet row is_memory_refused) = Unit {0}
 IsPlain (TitleRemoved key digits) = Unit {0}
 IsPlain what = ⊥
 
@@ -148,6 +149,7 @@ module _ (point : ℕ) (w : NetworkState) where
   turn-of (pairs.Deactivates link) = occurs (Deactivated link) tt (here (pairs.Deactivates link))
   turn-of (pairs.Releases link) = occurs (Released link) tt (here (pairs.Releases link))
   turn-of (pairs.AddsTitle row is_memory_refused) = occurs (TitleAdded row is_memory_refused) tt (here (pairs.AddsTitle row is_memory_refused))
+  turn-of (pairs.SetsTitle row is_memory_refused) = occurs (TitleSet row is_memory_refused) tt (here (pairs.SetsTitle row is_memory_refused))
   turn-of (pairs.RemovesTitle key digits) = occurs (TitleRemoved key digits) tt (here (pairs.RemovesTitle key digits))
   turn-of (pairs.OpensFirst link) = first-turn (wants_of x.exchange link) (may_open_there w (other_end w point link)) link (other_end w point link) refl refl
   turn-of (pairs.OpensSecond link) = second-turn (wants_of x.exchange link) (may_follow (end_of x) link) link (did (pairs.OpensSecond link) point w) refl (here (pairs.OpensSecond link))
@@ -187,5 +189,6 @@ module _ (point : ℕ) (w : NetworkState) where
     others-of (pairs.Deactivates link) = changed-other point other (did_here (pairs.Deactivates link)) w apart
     others-of (pairs.Releases link) = changed-other point other (did_here (pairs.Releases link)) w apart
     others-of (pairs.AddsTitle row is_memory_refused) = changed-other point other (did_here (pairs.AddsTitle row is_memory_refused)) w apart
+    others-of (pairs.SetsTitle row is_memory_refused) = changed-other point other (did_here (pairs.SetsTitle row is_memory_refused)) w apart
     others-of (pairs.RemovesTitle key digits) = changed-other point other (did_here (pairs.RemovesTitle key digits)) w apart
     others-of (pairs.OpensSecond link) = changed-other point other (did_here (pairs.OpensSecond link)) w apart

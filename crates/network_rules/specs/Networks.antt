@@ -13,14 +13,14 @@ use Rattle.changeover.specs.Changeover.{users_of}
 use Rattle.exchange_rules.specs.Conserving.{brought_in}
 use Rattle.exchange_rules.specs.declared.wants.Wants.{Wants}
 use Rattle.exchange_rules.specs.declared.wants.Wants.TheVariants.{Open}
-use Rattle.exchange_rules.specs.State.{Happening, CameUp, WentDown, FrameCame, Ticked, Submitted, Activated, Deactivated, Released, TitleAdded, TitleRemoved}
+use Rattle.exchange_rules.specs.State.{Happening, CameUp, WentDown, FrameCame, Ticked, Submitted, Activated, Deactivated, Released, TitleAdded, TitleSet, TitleRemoved}
 use Rattle.exchange_rules.specs.First.{Abstract, first_state}
 use Rattle.exchange_rules.specs.Queues.{whole}
 use Rattle.exchange_rules.specs.Exchange.{outcome_of, after, frame_to_take, taken, wants_of}
 use Rattle.exchange_rules.specs.Messages.{link_with_code, whither_goes}
 use Rattle.exchange_rules.specs.Receiving.{new_message}
 use Rattle.exchange_rules.specs.Routing.{adjacent_of}
-use Rattle.pair_rules.specs.Pairs.{Doing, Submits, Takes, Delivers, DeliversStatus, LosesStatus, DoublesStatus, Loses, Ticks, Activates, Deactivates, Releases, AddsTitle, RemovesTitle, OpensFirst, OpensSecond, End, Streams, in_flight, may_follow, may_open_at, launched, without_status, without_data, with_status_twice, emptied, nothing_in_flight}
+use Rattle.pair_rules.specs.Pairs.{Doing, Submits, Takes, Delivers, DeliversStatus, LosesStatus, DoublesStatus, Loses, Ticks, Activates, Deactivates, Releases, AddsTitle, SetsTitle, RemovesTitle, OpensFirst, OpensSecond, End, Streams, in_flight, may_follow, may_open_at, launched, without_status, without_data, with_status_twice, emptied, nothing_in_flight}
 
 -- a message that a frame newly carried, and the link by which it came
 pub record Arrival : Type 0 where
@@ -224,6 +224,7 @@ did_here (Activates link emergency) x = happens (Activated link emergency) x
 did_here (Deactivates link) x = happens (Deactivated link) x
 did_here (Releases link) x = happens (Released link) x
 did_here (AddsTitle row is_memory_refused) x = happens (TitleAdded row is_memory_refused) x
+did_here (SetsTitle row is_memory_refused) x = happens (TitleSet row is_memory_refused) x
 did_here (RemovesTitle key digits) x = happens (TitleRemoved key digits) x
 did_here (OpensSecond link) x = opens_second (wants_of x.exchange link) (may_follow (end_of x) link) link x
 did_here (Takes link) x = x

@@ -8,7 +8,7 @@ use Rattle.exchange_rules.proofs.FacingNodes.{peer-sole}
 use Rattle.std.proofs.lemmas.Bool.{eq-eqb}
 use Rattle.std.proofs.lemmas.Option.{slice_get-get_or, slice_get_within}
 use Rattle.m2pa_codec.specs.Frames.{FrameValue}
-use Rattle.exchange_rules.specs.State.{Happening, CameUp, WentDown, FrameCame, Ticked, Submitted, Activated, Deactivated, Released, TitleAdded, TitleRemoved}
+use Rattle.exchange_rules.specs.State.{Happening, CameUp, WentDown, FrameCame, Ticked, Submitted, Activated, Deactivated, Released, TitleAdded, TitleSet, TitleRemoved}
 use Rattle.exchange_rules.specs.Exchange.{after, frame_to_take, taken}
 use Rattle.exchange_rules.specs.First.{Abstract}
 use Rattle.exchange_rules.specs.Queues.{whole}
@@ -100,6 +100,7 @@ module _ (c z : Configuration) (a : AreFacing c z) (near far : Books) (air : ℕ
   own-happens (Deactivated link) own = by-plain (pairs.Deactivates link) (Deactivated link) refl refl refl refl
   own-happens (Released link) own = by-plain (pairs.Releases link) (Released link) refl refl refl refl
   own-happens (TitleAdded row refused) own = by-plain (pairs.AddsTitle row refused) (TitleAdded row refused) refl refl refl refl
+  own-happens (TitleSet row refused) own = by-plain (pairs.SetsTitle row refused) (TitleSet row refused) refl refl refl refl
   own-happens (TitleRemoved key digits) own = by-plain (pairs.RemovesTitle key digits) (TitleRemoved key digits) refl refl refl refl
   own-happens (CameUp link) own = absurd own
   own-happens (WentDown link) own = absurd own
@@ -150,6 +151,7 @@ module _ (c z : Configuration) (a : AreFacing c z) (near far : Books) (air : ℕ
   brings (Deactivated link) may = absurd may
   brings (Released link) may = absurd may
   brings (TitleAdded row refused) may = absurd may
+  brings (TitleSet row refused) may = absurd may
   brings (TitleRemoved key digits) may = absurd may
 
   -- a frame goes elsewhere

@@ -5,7 +5,7 @@ use Rattle.std.proofs.lemmas.List.{length-replicate}
 use Rattle.std.specs.Prelude.{if◌then◌else◌}
 use Rattle.settings.specs.Configuration.{Configuration}
 use Rattle.m2pa_codec.specs.Frames.{FrameValue, spelled}
-use Rattle.exchange_rules.specs.State.{CameUp, WentDown, FrameCame, Happening, Ticked, Submitted, Activated, Deactivated, Released, TitleAdded, TitleRemoved}
+use Rattle.exchange_rules.specs.State.{CameUp, WentDown, FrameCame, Happening, Ticked, Submitted, Activated, Deactivated, Released, TitleAdded, TitleSet, TitleRemoved}
 use Rattle.exchange_rules.specs.Exchange.{frame_to_take, taken}
 use Rattle.exchange_rules.specs.First.{Abstract}
 use Rattle.exchange_rules.specs.Queues.{whole}
@@ -189,6 +189,7 @@ module _ (near far : Make) (f : AreFacing near.configuration far.configuration) 
           elsewhere-of (Deactivated its) may i o l link of q = may
           elsewhere-of (Released its) may i o l link of q = may
           elsewhere-of (TitleAdded row refused) may i o l link of q = may
+          elsewhere-of (TitleSet row refused) may i o l link of q = may
           elsewhere-of (TitleRemoved key digits) may i o l link of q = may
 
       leaves-it : (k : ℕ) → worlds.LeadsElsewhere c z k

@@ -11,7 +11,7 @@ use Rattle.link.specs.declared.alignment.Alignment.TheVariants.{Down, NotAligned
 use Rattle.node_links.specs.NodeLinks.{Link, down_link, is_down, is_in_service}
 use Rattle.changeover.specs.Changeover.{Standing, no_changeover, may_restart}
 use Rattle.timers.specs.Timers.{ticked, after_due}
-use Rattle.exchange_rules.specs.State.{Happening, CameUp, WentDown, FrameCame, Ticked, Submitted, Activated, Deactivated, Released, TitleAdded, TitleRemoved, Parts, Node, link_at, down}
+use Rattle.exchange_rules.specs.State.{Happening, CameUp, WentDown, FrameCame, Ticked, Submitted, Activated, Deactivated, Released, TitleAdded, TitleSet, TitleRemoved, Parts, Node, link_at, down}
 use Rattle.exchange_rules.specs.ChangingOver.{changeover_of}
 use Rattle.exchange_rules.specs.Exchange.{apply, with_timers, tick}
 use Rattle.exchange_rules.specs.Sending.{after_take}
@@ -206,6 +206,7 @@ own-of (Activated its emergency) l own link of e = of
 own-of (Deactivated its) l own link of e = of
 own-of (Released its) l own link of e = of
 own-of (TitleAdded row is_memory_refused) l own link of e = of
+own-of (TitleSet row is_memory_refused) l own link of e = of
 own-of (TitleRemoved key digits) l own link of e = of
 own-of (CameUp its) l own link of e = own
 own-of (WentDown its) l own link of e = own

@@ -5,7 +5,7 @@ use Rattle.signalling_types.specs.Message.{Message}
 use Rattle.settings.specs.Configuration.{Configuration}
 use Rattle.m2pa_codec.specs.Frames.{FrameValue, spelled, link_status}
 use Rattle.changeover.specs.Changeover.{users_of}
-use Rattle.exchange_rules.specs.State.{Happening, CameUp, WentDown, FrameCame, Ticked, Submitted, Activated, Deactivated, Released, TitleAdded, TitleRemoved}
+use Rattle.exchange_rules.specs.State.{Happening, CameUp, WentDown, FrameCame, Ticked, Submitted, Activated, Deactivated, Released, TitleAdded, TitleSet, TitleRemoved}
 use Rattle.exchange_rules.specs.Exchange.{after, frame_to_take, taken, wants_of}
 use Rattle.exchange_rules.specs.First.{Abstract, first_state}
 use Rattle.exchange_rules.specs.Queues.{whole}
@@ -182,6 +182,7 @@ IsOwn (Activated link emergency) = Unit {0}
 IsOwn (Deactivated link) = Unit {0}
 IsOwn (Released link) = Unit {0}
 IsOwn (TitleAdded row is_memory_refused) = Unit {0}
+IsOwn (TitleSet row is_memory_refused) = Unit {0}
 IsOwn (TitleRemoved key digits) = Unit {0}
 
 -- an endpoint doesn't keep a wish that its link doesn't have: if it wants an association, or begins to, its link wants
@@ -224,6 +225,7 @@ MayBring own other (Activated link emergency) = ⊥
 MayBring own other (Deactivated link) = ⊥
 MayBring own other (Released link) = ⊥
 MayBring own other (TitleAdded row is_memory_refused) = ⊥
+MayBring own other (TitleSet row is_memory_refused) = ⊥
 MayBring own other (TitleRemoved key digits) = ⊥
 
 abbrev pub MayDo : (own other : Configuration) → (there : Node) → Doing → Node → Type 0

@@ -11,10 +11,10 @@ use Rattle.exchange.specs.Calls.{Kept}
 use Rattle.exchange.specs.declared.event.Event.{Event}
 use Rattle.exchange.specs.declared.event.Event.TheVariants as event
 use Rattle.exchange.specs.declared.event.Order.{Order}
-use Rattle.exchange.specs.declared.event.Order.TheVariants.{Activate, Deactivate, Release, AddTitle, RemoveTitle}
+use Rattle.exchange.specs.declared.event.Order.TheVariants.{Activate, Deactivate, Release, AddTitle, SetTitle, RemoveTitle}
 use Rattle.exchange_rules.specs.Exchange.{after, outcome_of}
 use Rattle.exchange_rules.specs.Queues.{whole}
-use Rattle.exchange_rules.specs.State.{Happening, CameUp, WentDown, FrameCame, Ticked, Submitted, Activated, Deactivated, Released, TitleAdded, TitleRemoved}
+use Rattle.exchange_rules.specs.State.{Happening, CameUp, WentDown, FrameCame, Ticked, Submitted, Activated, Deactivated, Released, TitleAdded, TitleSet, TitleRemoved}
 use Rattle.signalling_types.specs.declared.outcome.Outcome.{Outcome}
 use Rattle.sctp_gate.specs.Calling as calling
 use Rattle.node_rules.specs.Worlds.{IsOwn}
@@ -111,6 +111,7 @@ own-order (Activate link emergency) outcome = tt
 own-order (Deactivate link) outcome = tt
 own-order (Release link) outcome = tt
 own-order (AddTitle row) outcome = tt
+own-order (SetTitle row) outcome = tt
 own-order (RemoveTitle key digits) outcome = tt
 
 own-so : (e : Event) (outcome : Outcome) → is_own e ≡ true → IsOwn (exchanges.happened e outcome)
@@ -132,6 +133,7 @@ same-exchange (Activated link emergency) x = refl
 same-exchange (Deactivated link) x = refl
 same-exchange (Released link) x = refl
 same-exchange (TitleAdded row is_memory_refused) x = refl
+same-exchange (TitleSet row is_memory_refused) x = refl
 same-exchange (TitleRemoved key digits) x = refl
 
 node-happens : (what : Happening) (was is : KeptNode) (n : Node) → NodeStands was n → exchanges.StandsFor is.exchange (after whole what n.books.exchange) → is.ports ≡ was.ports

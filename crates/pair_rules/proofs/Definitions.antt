@@ -26,7 +26,7 @@ pub use Rattle.exchange_rules.specs.Frames.{Carrying, accept, act_by_data, empty
 pub use Rattle.exchange_rules.specs.State.{CameUp, Happening, FrameCame, Submitted, down, is_link, in_service, link_at, links_with, flagged, flagged_late, note_outcome, Node, Done, answer, Parts, with_parts, Found, refuse, lost_any, Noted, late_any}
 pub use Rattle.exchange_rules.specs.Routing.{all_wait, waits, is_held_at, is_flow_held, entry_of, peer_of, set_of, no_room, is_share_full, no_room_on, queue_on, link_of, facts, network_of, goes_by, sets_in}
 pub use Rattle.exchange_rules.specs.Laws.{accept_data, accept_frame, accept_text}
-pub use Rattle.exchange_rules.specs.Messages.{no_room_for, is_user, local, do_test, distribute, do_management, do_order, do_acknowledgement, is_adjacent, manage, on_management, sccp, link_with_code, submit_to, whither_goes, deliver, deliver_to, on_unitdata, with_titles, add_title, add_title_unless, remove_title, title_refusal}
+pub use Rattle.exchange_rules.specs.Messages.{no_room_for, is_user, local, do_test, distribute, do_management, do_order, do_acknowledgement, is_adjacent, manage, on_management, sccp, link_with_code, submit_to, whither_goes, deliver, deliver_to, on_unitdata, with_titles, add_title, set_title, add_title_unless, remove_title, title_refusal, title_set_refusal}
 pub use Rattle.exchange_rules.specs.LinkTests.{testing}
 pub use Rattle.exchange_rules.specs.Telling.{send, management_to, send_anew, send_routed}
 pub use Rattle.exchange_rules.specs.Opening.{period_of, open_link, wanted, association_up, may_open, wanted_down, activate, association_down, deactivate, end_association, fail_if_up, set_active}
@@ -65,7 +65,7 @@ pub use Rattle.pair_moves.specs.Passing.{BecomeAt, MayGo}
 pub use Rattle.pair_moves.specs.Returning.{MayOpen, opened_end, AddsOnly, StaysOrIsHeld}
 pub use Rattle.pair_moves.specs.Sayings.{Reading, Saying, Order, Answer, Declaration, is_user_message, is_answer, is_order, is_untrue, UserMessage, Confirmation, is_of_flow, is_same_flow}
 pub use Rattle.pair_rules.specs.Laws.{messages_in, Word, is_down_at, is_incomplete_at, word_of, SayTheirWord, about, word_in, word_read, words_are_read}
-pub use Rattle.pair_rules.specs.Pairs.{AddsTitle, DeliversStatus, Doing, DoublesStatus, LosesStatus, RemovesTitle, Streams, Submits, Takes, Delivers, Loses, Ticks, Activates, Deactivates, Releases, OpensFirst, OpensSecond, PairState, Step, AtNear, AtFar, after_steps, did, may_follow, may_open_at, opens_first, opens_second, turn, turned, in_flight, first_pair, deliver_frame, without_data, without_status, End, happens, change_statuses, take_frame}
+pub use Rattle.pair_rules.specs.Pairs.{AddsTitle, SetsTitle, DeliversStatus, Doing, DoublesStatus, LosesStatus, RemovesTitle, Streams, Submits, Takes, Delivers, Loses, Ticks, Activates, Deactivates, Releases, OpensFirst, OpensSecond, PairState, Step, AtNear, AtFar, after_steps, did, may_follow, may_open_at, opens_first, opens_second, turn, turned, in_flight, first_pair, deliver_frame, without_data, without_status, End, happens, change_statuses, take_frame}
 pub use Rattle.pair_rules.specs.Promises.{LostNothing, queue_of, AreJoined, waiting_on}
 pub use Rattle.route_management.specs.Told.{ToldTable, is_own_point, told_at, adjacent_place}
 pub use Rattle.routes.specs.Routes.{chosen_link, Choice, taken_by, sets_of, members, first_route, Facts, with_link, first_routes, routes_to, with_second_joined}

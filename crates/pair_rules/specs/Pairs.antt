@@ -10,7 +10,7 @@ use Rattle.changeover.specs.Changeover.{users_of, may_restart}
 use Rattle.exchange_rules.specs.Conserving.{brought_in}
 use Rattle.exchange_rules.specs.declared.wants.Wants.{Wants}
 use Rattle.exchange_rules.specs.declared.wants.Wants.TheVariants.{Open}
-use Rattle.exchange_rules.specs.State.{Happening, CameUp, WentDown, FrameCame, Ticked, Submitted, Activated, Deactivated, Released, TitleAdded, TitleRemoved, down}
+use Rattle.exchange_rules.specs.State.{Happening, CameUp, WentDown, FrameCame, Ticked, Submitted, Activated, Deactivated, Released, TitleAdded, TitleSet, TitleRemoved, down}
 use Rattle.exchange_rules.specs.ChangingOver.{changeover_of}
 use Rattle.exchange_rules.specs.First.{Abstract, first_state}
 use Rattle.exchange_rules.specs.Queues.{whole}
@@ -64,6 +64,7 @@ pub data Doing : Type 0 where
   Releases : (link : ℕ) → Doing
   -- the operator adds a translation row, if memory for it isn't refused, or removes one
   AddsTitle : (row : TitleEntry) (is_memory_refused : Bool) → Doing
+  SetsTitle : (row : TitleEntry) (is_memory_refused : Bool) → Doing
   RemovesTitle : (key : TitleKey) (digits : List ℕ) → Doing
   -- a link opens at this end, which is the first of the two; or this end follows the other
   OpensFirst : (link : ℕ) → Doing
@@ -230,6 +231,7 @@ did (Activates link emergency) p = happens (Activated link emergency) p
 did (Deactivates link) p = happens (Deactivated link) p
 did (Releases link) p = happens (Released link) p
 did (AddsTitle row is_memory_refused) p = happens (TitleAdded row is_memory_refused) p
+did (SetsTitle row is_memory_refused) p = happens (TitleSet row is_memory_refused) p
 did (RemovesTitle key digits) p = happens (TitleRemoved key digits) p
 did (OpensFirst link) p = opens_first (wants_of p.near.exchange link) (may_open_at p.far link) link p
 did (OpensSecond link) p = opens_second (wants_of p.near.exchange link) (may_follow p.near link) link p

@@ -12,6 +12,7 @@ pub mod TableRows
 pub mod OneRow
 pub mod SortedRows
 pub mod OtherRows
+pub mod SetRows
 pub mod RowWays
 pub mod Translating
 pub mod KeyRows

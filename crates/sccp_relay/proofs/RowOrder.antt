@@ -1,5 +1,5 @@
 -- Sorted rows, before an index, at it and after it.
-use Rattle.sccp_relay.proofs.Basics.{◌≡◌, ℕ, zero, suc, ◌<◌, ◌≤◌, Bool, true, false, not, List, [], ◌∷◌, ◌++◌, length, get_or, take, drop, refl, sym, ap, subst, ◌∙◌, ◌⊎◌, inl, inr, cond, drop-cons, arith, take-append-drop, append-nil, drop_all, filter-append, list_any-append, bytes_decides, is_eq-slice_cmp, nat_list_cmp_total, IsTotalOrder, AllByRecursion, AllWithin, filter, insert, remove, IsPartitionedBy, IsPartitionPoint, is_lt, is_eq, is_gt, ordering_reverse, Ordering, Less, Equal, Greater, TitleEntry, row_place, place_order, is_before, is_at, is_behind, IsOrdered, has_row, with_row, StandsAt, FitsAt}
+use Rattle.sccp_relay.proofs.Basics.{◌≡◌, ℕ, zero, suc, ◌<◌, ◌≤◌, Bool, true, false, not, List, [], ◌∷◌, ◌++◌, length, get_or, take, drop, refl, sym, ap, subst, ◌∙◌, ◌⊎◌, inl, inr, cond, drop-cons, arith, length-take-le, set, set_at, take-append-drop, append-nil, drop_all, filter-append, list_any-append, bytes_decides, is_eq-slice_cmp, nat_list_cmp_total, IsTotalOrder, AllByRecursion, AllWithin, filter, insert, remove, IsPartitionedBy, IsPartitionPoint, is_lt, is_eq, is_gt, ordering_reverse, Ordering, Less, Equal, Greater, TitleEntry, row_place, place_order, is_before, is_at, is_behind, IsOrdered, has_row, with_row, StandsAt, FitsAt}
 use Rattle.std.proofs.lemmas.Option.{get_or_from_slice_get}
 
 -- ---- the order of places
@@ -63,7 +63,7 @@ tells-before place (row ∷ rows) h =
       found = rw h.0 t.found;
     }
 
-tells-behind : (place : List ℕ) (rows : List TitleEntry) → AreBehind place rows → Tells place rows [] rows rows false
+pub tells-behind : (place : List ℕ) (rows : List TitleEntry) → AreBehind place rows → Tells place rows [] rows rows false
 tells-behind place [] h = record { before = refl; behind = refl; other = refl; found = refl }
 tells-behind place (row ∷ rows) h =
     let t = tells-behind place rows h.1 in
@@ -88,7 +88,7 @@ tells-append place xs a b c ys d e f there s t = record {
   found = rw (list_any-append (is_at place) xs ys, s.found, t.found) refl;
 }
 
-all-behind : (place : List ℕ) (row : TitleEntry) (rows : List TitleEntry) → (place_order (row_place row) place ≡ Equal) ⊎ (place_order (row_place row) place ≡ Greater)
+pub all-behind : (place : List ℕ) (row : TitleEntry) (rows : List TitleEntry) → (place_order (row_place row) place ≡ Equal) ⊎ (place_order (row_place row) place ≡ Greater)
     → AllByRecursion (λ other. place_order (row_place row) (row_place other) ≡ Less) rows → AreBehind place rows
 all-behind place row [] e h = tt
 all-behind place row (other ∷ rows) e h = (greater-then (row_place other) (row_place row) place h.0 e, all-behind place row rows e h.1)
@@ -141,12 +141,20 @@ pub greater-neither : (o : Ordering) → is_lt o ≡ false → is_eq o ≡ false
 greater-neither Greater e f = refl
 greater-neither o e f = absurd cc
 
+replaced : (place : List ℕ) (rows : List TitleEntry) (i : ℕ) (old : TitleEntry) → Tells place rows (take i rows ++ []) ([] ++ drop (suc i) rows) (remove rows i) true
+    → i < length rows → old ≡ get_or rows i old → (row : TitleEntry) → row_place row ≡ place → set rows i row ≡ with_row row rows
+replaced place rows i old t lt e row at =
+    let cut : drop i rows ≡ old ∷ drop (suc i) rows = drop-cons rows i old lt ∙ ap (λ (r : TitleEntry). r ∷ drop (suc i) rows) (sym e) in
+    let whole : take i rows ++ (old ∷ drop (suc i) rows) ≡ rows = ap (λ (r : List TitleEntry). take i rows ++ r) (sym cut) ∙ take-append-drop i rows in
+    ap (λ (r : List TitleEntry). set r i row) (sym whole) ∙ set_at (take i rows) old (drop (suc i) rows) row i (length-take-le i rows (omega (arith, lt)))
+    ∙ sym (rw (at, t.before, t.behind, append-nil (take i rows)) refl)
+
 pub stands-at : (place : List ℕ) (rows : List TitleEntry) (i : ℕ) (row : TitleEntry) → IsOrdered rows → Splits place rows i → i < length rows
     → row ≡ get_or rows i row → is_eq (place_order (row_place row) place) ≡ true → StandsAt rows place i
 stands-at place rows i row h split lt e at =
     let t = tells-found place rows i row h split.0 lt e (equal-is_eq _ at) in
     let same : row_place row ≡ place = (bytes_decides (row_place row) place).0 (sym (is_eq-slice_cmp (row_place row) place) ∙ at) in
-    record { within = lt; there = t.found; removed = sym t.other; row = λ other f. ap row_place (sym (get_or_from_slice_get rows i other row f) ∙ sym e) ∙ same }
+    record { within = lt; there = t.found; removed = sym t.other; replaced = replaced place rows i row t lt e; row = λ other f. ap row_place (sym (get_or_from_slice_get rows i other row f) ∙ sym e) ∙ same }
 
 inserted : (place : List ℕ) (rows : List TitleEntry) (i : ℕ) → Tells place rows (take i rows ++ []) ([] ++ drop i rows) (take i rows ++ drop i rows) false
     → (row : TitleEntry) → row_place row ≡ place → insert rows i row ≡ with_row row rows

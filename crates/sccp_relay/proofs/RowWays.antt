@@ -1,5 +1,5 @@
 -- The ways to rows: which digits they have, which row each leads to, and what remains with one row more or less.
-use Rattle.sccp_relay.proofs.Basics.{false_from_ne_true, ◌≡◌, ℕ, zero, suc, ◌+◌, ◌<◌, ◌^◌, ◌/◌, ◌%◌, Bool, true, false, cond, List, [], ◌∷◌, ◌++◌, length, get_or, take, drop, Option, Some, None, refl, sym, ap, subst, ◌∙◌, arith, append-nil, take-append-drop, take_more, All-append, All-cons, All-drop, All-from_recursion, All-more, All-take, bytes_decides, AllByRecursion, insert, remove, All, Result, Ok, Err, OnOk, is_err, is_ok, bytes_eq, DigitMap, with_value, without, TitleKey, TitleEntry, IsOrdered, key_of, row_place, place_order, IsRow, key_digits, way_of, lead_of, leads_of}
+use Rattle.sccp_relay.proofs.Basics.{false_from_ne_true, ◌≡◌, ℕ, zero, suc, ◌+◌, ◌<◌, ◌^◌, ◌/◌, ◌%◌, Bool, true, false, cond, List, [], ◌∷◌, ◌++◌, length, get_or, take, drop, Option, Some, None, refl, sym, ap, subst, ◌∙◌, arith, append-nil, take-append-drop, take_more, All-append, All-cons, All-drop, All-from_recursion, All-more, All-take, bytes_decides, AllByRecursion, StandsAt, get_or_default, if◌then◌else◌, is_some, insert, remove, set, slice_get-get_or, All, Result, Ok, Err, OnOk, is_err, is_ok, bytes_eq, DigitMap, with_value, without, TitleKey, TitleEntry, IsOrdered, key_of, row_place, place_order, IsRow, key_digits, way_of, lead_of, leads_of}
 use Rattle.std.proofs.Common.{Less}
 use Rattle.sccp_relay.proofs.RowOrder.{each-at}
 use Rattle.sccp_relay.proofs.OneRow.{apart}
@@ -144,6 +144,50 @@ leads-removed (first ∷ rows) (suc i) row h lt e = λ j. λ way.
     with-if (bytes_eq way (way_of first)) (bytes_eq way (way_of row)) (lead_of first) None (leads_of (remove rows i) way) (leads_of rows way)
     (λ yes. unequal way (way_of row) (λ same. ways-apart first row less (sym ((bytes_decides way (way_of first)).0 yes) ∙ same)))
     (λ no. ap (λ (map : List ℕ → Option ℕ). map way) (leads-removed rows i row h.1 (omega (arith, lt)) e)) j
+
+-- ---- a row in place of another
+
+-- the way to a row at a place
+abbrev way_at : List ℕ → List ℕ
+way_at (translation ∷ plan ∷ nature ∷ digits) = key_digits (record { translation = translation; plan = plan; nature = nature }) ++ digits
+way_at place = []
+
+pub way-at : (row other : TitleEntry) → row_place row ≡ row_place other → way_of row ≡ way_of other
+way-at row other e = ap way_at e
+
+again : (t : Bool) (a b : ℕ) (o : Option ℕ) → cond t (Some a) o ≡ cond t (Some a) (cond t (Some b) o)
+again true a b o = refl
+again false a b o = refl
+
+pub leads-replaced : (rows : List TitleEntry) (i : ℕ) (old row : TitleEntry) → IsOrdered rows → i < length rows → get_or rows i old ≡ old → way_of old ≡ way_of row
+    → leads_of (set rows i row) ≡ with_value (leads_of rows) (way_of row) (lead_of row)
+leads-replaced [] i old row h lt e w = absurd (omega (arith, lt))
+leads-replaced (first ∷ rows) zero old row h lt e w = λ j. λ way.
+    let same : way_of first ≡ way_of row = ap way_of e ∙ w in
+    (again (bytes_eq way (way_of row)) (lead_of row) (lead_of first) (leads_of rows way)
+    ∙ ap (λ (x : List ℕ). cond (bytes_eq way (way_of row)) (Some (lead_of row)) (cond (bytes_eq way x) (Some (lead_of first)) (leads_of rows way))) (sym same)) j
+leads-replaced (first ∷ rows) (suc i) old row h lt e w = λ j. λ way.
+    let less : place_order (row_place first) (row_place old) ≡ Less =
+    subst (λ (r : TitleEntry). place_order (row_place first) (row_place r) ≡ Less) e (each-at _ rows h.0 i old (omega (arith, lt))) in
+    with-if (bytes_eq way (way_of first)) (bytes_eq way (way_of row)) (lead_of first) (Some (lead_of row)) (leads_of (set rows i row) way) (leads_of rows way)
+    (λ yes. unequal way (way_of row) (λ same. ways-apart first old less (sym ((bytes_decides way (way_of first)).0 yes) ∙ same ∙ sym w)))
+    (λ no. ap (λ (map : List ℕ → Option ℕ). map way) (leads-replaced rows i old row h.1 (omega (arith, lt)) e w)) j
+
+some-led : (o : Option ℕ) → (o ≡ None → ⊥) → is_some o ≡ true
+some-led None h = absurd (h refl)
+some-led (Some lead) h = refl
+
+-- what a trie leads to that had a way to the old row
+pub led-anew : (rows : List TitleEntry) (i : ℕ) (row : TitleEntry) (before after : DigitMap) → IsOrdered rows → StandsAt rows (row_place row) i → before ≡ leads_of rows
+    → after ≡ (if is_some (before (way_of row)) then with_value before (way_of row) (lead_of row) else before) → after ≡ leads_of (set rows i row)
+led-anew rows i row before after h at e f =
+    let old = get_or rows i row in
+    let is : get_or rows i old ≡ old = get_or_default rows i old row at.within in
+    let way : way_of old ≡ way_of row = way-at old row (at.row old (slice_get-get_or rows i row at.within)) in
+    let there : is_some (before (way_of row)) ≡ true =
+    some-led (before (way_of row)) (λ none. way-leads rows i old at.within is (ap (leads_of rows) way ∙ ap (λ (map : DigitMap). map (way_of row)) (sym e) ∙ none)) in
+    f ∙ ap (λ (t : Bool). cond t (with_value before (way_of row) (lead_of row)) before) there
+    ∙ ap (λ (map : DigitMap). with_value map (way_of row) (lead_of row)) e ∙ sym (leads-replaced rows i old row h at.within is way)
 
 -- ---- a row after the others
 

@@ -1,5 +1,5 @@
 -- What remains of a table with one row more or less.
-use Rattle.sccp_relay.proofs.Basics.{◌≡◌, ℕ, suc, ◌<◌, ◌≤◌, Bool, true, false, cond, List, ◌∷◌, length, take, drop, sym, subst, arith, length-append, length-take, length-drop, insert, remove, TITLES, TitleEntry, row_place, IsOrdered, with_row, without_row, StandsAt, FitsAt}
+use Rattle.sccp_relay.proofs.Basics.{◌≡◌, ℕ, suc, ◌<◌, ◌≤◌, Bool, true, false, cond, List, ◌∷◌, length, take, drop, sym, subst, arith, length-append, length-set, length-take, length-drop, insert, remove, set, TITLES, TitleEntry, row_place, IsOrdered, with_row, without_row, StandsAt, FitsAt}
 use Rattle.sccp_relay.proofs.RowOrder.{ordered-with_row, ordered-filter}
 
 pub record IsFine (rows : List TitleEntry) : Type 0 where
@@ -12,6 +12,13 @@ fine-added old lent new place i row false h room same fit e n = rw n (record { o
 fine-added old lent new place i row true h room same fit e n = rw n (record {
   ordered = subst IsOrdered (sym (subst (λ (rows : List TitleEntry). insert rows i row ≡ with_row row rows) same (fit.inserted row e))) (ordered-with_row row old h);
   fits = omega (arith, room, length-append (take i old) (row ∷ drop i old), length-take i old, length-drop i old);
+})
+
+pub fine-replaced : (old lent new : List TitleEntry) (place : List ℕ) (i : ℕ) (row : TitleEntry) → IsOrdered old → length old ≤ TITLES → lent ≡ old → StandsAt lent place i
+    → row_place row ≡ place → new ≡ set old i row → IsFine new
+fine-replaced old lent new place i row h room same at e n = rw n (record {
+  ordered = subst IsOrdered (sym (subst (λ (rows : List TitleEntry). set rows i row ≡ with_row row rows) same (at.replaced row e))) (ordered-with_row row old h);
+  fits = omega (arith, room, length-set old i row);
 })
 
 pub fine-removed : (old lent new : List TitleEntry) (place : List ℕ) (i : ℕ) → IsOrdered old → length old ≤ TITLES → lent ≡ old → StandsAt lent place i → new ≡ remove old i → IsFine new

@@ -47,7 +47,7 @@ IsOrdered (row ∷ rows) =
 abbrev pub has_row : List TitleEntry → List ℕ → Bool
 has_row rows place = list_any (is_at place) rows
 
--- the rows with one more, at its place
+-- the rows with this one at its place: one more, or in place of the one that was there
 abbrev pub with_row : TitleEntry → List TitleEntry → List TitleEntry
 with_row row rows = filter (is_before (row_place row)) rows ++ row ∷ filter (is_behind (row_place row)) rows
 
@@ -70,3 +70,7 @@ add_refusal rows row =
     if has_row rows (row_place row) then Some DuplicateRow
     else if nat_le TITLES (length rows) then Some TableFull
     else None
+
+-- why a row that would replace the one at its place is refused: none is there, and it can't be added
+abbrev pub set_refusal : List TitleEntry → TitleEntry → Option Cause
+set_refusal rows row = if has_row rows (row_place row) then None else add_refusal rows row

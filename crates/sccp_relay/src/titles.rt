@@ -2,7 +2,7 @@
 
 ghost use Rattle.std.specs.Prelude.{◌≡◌, ◌≤◌, length, slice_get, Some, None, Err, IfOk, IfErr, OnOk, OnErr, IsOk, IsOkUnless, IsTrue, ◌↔◌};
 ghost use Rattle.std.specs.List.{IsDistinct};
-ghost use Rattle.sccp_relay.specs.Rows.{IsOrdered, place_of, has_row, with_row, without_row, add_refusal, is_same_place};
+ghost use Rattle.sccp_relay.specs.Rows.{IsOrdered, place_of, row_place, has_row, with_row, without_row, add_refusal, set_refusal, is_same_place};
 ghost use Rattle.sccp_relay.specs.Statuses as rule;
 ghost use Rattle.sccp_relay.specs.SubsystemTests.{due_tests, ticked};
 ghost use Rattle.sccp_relay.specs.Translation.{translation};
@@ -83,6 +83,18 @@ impl Titles {
         ensures memory { add_refusal self.old.rows row ≡ None → IsOkUnless result Cause.NoMemory }
     {
         self.translations.add(row)
+    }
+
+    /// Puts a row in the place of the one of its key and digits, or adds it, as `Translations::set` does. A refusal
+    /// leaves all as it was.
+    pub fn set(&mut self, row: TitleRow) -> Result<(), Cause>
+        ensures set { OnOk result (self.new ≡ record self.old { rows = with_row row self.old.rows }) }
+        ensures unchanged { OnErr result (self.new ≡ self.old) }
+        ensures replaced { IsTrue (has_row self.old.rows (row_place row)) → IsOk result }
+        ensures refused { (cause : Cause) → set_refusal self.old.rows row ≡ Some cause → result ≡ Err cause }
+        ensures memory { set_refusal self.old.rows row ≡ None → IsOkUnless result Cause.NoMemory }
+    {
+        self.translations.set(row)
     }
 
     /// Removes the row of this key and exactly these digits, as `Translations::remove` does. A refusal leaves all as it

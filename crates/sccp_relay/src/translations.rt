@@ -5,7 +5,7 @@ ghost use Rattle.std.specs.List.{IsDistinct, insert, list_any};
 ghost use Rattle.std.specs.Result.{is_ok};
 ghost use Rattle.sccp_relay.specs.Digits.{with_value};
 ghost use Rattle.sccp_relay.specs.Nodes.{stored};
-ghost use Rattle.sccp_relay.specs.Rows.{IsOrdered, place_of, has_row, with_row, without_row, add_refusal, is_same_place, table_of};
+ghost use Rattle.sccp_relay.specs.Rows.{IsOrdered, place_of, row_place, has_row, with_row, without_row, add_refusal, set_refusal, is_same_place, table_of};
 ghost use Rattle.sccp_relay.specs.Statuses.{is_for, leads_to};
 ghost use Rattle.sccp_relay.specs.Translation.{translation, IsTranslation};
 ghost use Rattle.sccp_relay.specs.Ways.{IsRow, way_of, lead_of};
@@ -13,7 +13,7 @@ ghost use Rattle.sccp_relay.specs.Ways.{IsRow, way_of, lead_of};
 use crate::Trie;
 use crate::places::{has_key, key_of, place, row_at, sort};
 use crate::subsystem::Subsystem;
-use crate::ways::{MORE, enter, key_digits, row_led, trie_of, way_of};
+use crate::ways::{MORE, enter, key_digits, replace, row_led, trie_of, way_of};
 use sccp_codec::TitleKey;
 use settings::{TitleRoute, TitleRow};
 use signalling_types::{Cause, Limits};
@@ -111,6 +111,26 @@ impl Translations {
             Ok(()) => Ok(()),
             Err(_) => Err(Cause::NoMemory),
         }
+    }
+
+    /// Puts a row in the place of the one of its key and digits, or adds it if there is none, as `add` does. It finds the
+    /// place by binary search. A row that is replaced needs no memory, and moves no other.
+    ///
+    /// Refused as `add` refuses, but never if there is a row of its key and digits. A refusal leaves the table as it
+    /// was.
+    pub fn set(&mut self, row: TitleRow) -> Result<(), Cause>
+        ensures set { OnOk result (self.new ≡ with_row row self.old) }
+        ensures unchanged { OnErr result (self.new ≡ self.old) }
+        ensures replaced { IsTrue (has_row self.old (row_place row)) → IsOk result }
+        ensures refused { (cause : Cause) → set_refusal self.old row ≡ Some cause → result ≡ Err cause }
+        ensures memory { set_refusal self.old row ≡ None → IsOkUnless result Cause.NoMemory }
+    {
+        let Ok(place) = place(&self.rows, key_of(&row), row.digits()) else {
+            return self.add(row);
+        };
+        replace(&mut self.trie, &row);
+        self.rows[place] = row;
+        Ok(())
     }
 
     /// Removes the row of this key and exactly these digits. It finds it by binary search, and moves the rows after it.

@@ -1,6 +1,6 @@
 //! Values by lists of digits.
 
-ghost use Rattle.std.specs.Prelude.{◌≡◌, ◌+◌, ◌^◌, ◌<◌, ◌≤◌, All, length, Some, None, Err, IsSome, OnOk, OnErr, IfSome, IsOkUnless};
+ghost use Rattle.std.specs.Prelude.{◌≡◌, ◌+◌, ◌^◌, ◌<◌, ◌≤◌, All, length, Some, None, Err, IsSome, OnOk, OnErr, IfSome, IsOkUnless, if◌then◌else◌, is_some};
 ghost use Rattle.std.specs.Vec.{vec_len, vec_capacity};
 ghost use Rattle.sccp_relay.specs.Digits.{nothing, with_value, without, behind, longest, found_at};
 ghost use Rattle.sccp_relay.specs.Nodes.{IsTree, KeepsWays, child, node_of, reached, root, stored, stored_from};
@@ -71,6 +71,19 @@ impl Trie {
         let at = way_to(&mut self.nodes, digits);
         put(&mut self.nodes, at, Some(value));
         Ok(())
+    }
+
+    /// Stores this value at digits at which one is stored, and returns the old one. None, and nothing changed, if there
+    /// is none. It needs no memory.
+    pub fn replace(&mut self, digits: &[u8], value: u32) -> Option<u32>
+        ensures value { result ≡ stored self.old digits.now }
+        ensures replaced { stored self.new ≡ (if is_some (stored self.old digits.now)
+            then with_value (stored self.old) digits.now value else stored self.old) }
+    {
+        let at = node_of(&self.nodes, digits)?;
+        let old = value_at(&self.nodes, at)?;
+        put(&mut self.nodes, at, Some(value));
+        Some(old)
     }
 
     /// Removes the value at digits, and returns it. None, and nothing changed, if there is none.

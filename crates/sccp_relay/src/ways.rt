@@ -1,6 +1,6 @@
 //! How a row is found by its digits, and where it leads, as one number.
 
-ghost use Rattle.std.specs.Prelude.{◌≡◌, ◌%◌, ◌^◌, ◌<◌, All, IfSome, IfOk, OnOk, OnErr, None, is_some};
+ghost use Rattle.std.specs.Prelude.{◌≡◌, ◌%◌, ◌^◌, ◌<◌, All, IfSome, IfOk, OnOk, OnErr, None, if◌then◌else◌, is_some};
 ghost use Rattle.sccp_relay.specs.Digits.{with_value};
 ghost use Rattle.sccp_relay.specs.Nodes.{stored};
 ghost use Rattle.settings.specs.TitleRanges.{HasTitleRanges, HasChangeRanges};
@@ -158,6 +158,15 @@ pub(crate) fn enter(trie: &mut Trie, row: &TitleRow) -> Result<(), TrieFault>
     ensures row { IsRow row.now }
 {
     trie.insert(way_of(row).as_slice(), lead_of(row))
+}
+
+/// Makes a trie that leads to a row of this way lead to this one in its place. Nothing changes if it leads to none.
+pub(crate) fn replace(trie: &mut Trie, row: &TitleRow)
+    ensures replaced { stored trie.new ≡ (if is_some (stored trie.old (way_of row.now))
+        then with_value (stored trie.old) (way_of row.now) (lead_of row.now) else stored trie.old) }
+    ensures row { IsRow row.now }
+{
+    let _ = trie.replace(way_of(row).as_slice(), lead_of(row));
 }
 
 /// A trie that leads to each of these rows, no two with the same way.

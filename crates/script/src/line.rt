@@ -81,8 +81,8 @@ pub enum Line<'a> {
         /// The service information octet, and the signalling information field after it.
         octets: HexOctets<'a>,
     },
-    /// `activate LINK`, then perhaps `emergency`; `deactivate LINK`, `release LINK`, `title add ..` or `title remove
-    /// ..`: an order of the operator.
+    /// `activate LINK`, then perhaps `emergency`; `deactivate LINK`, `release LINK`, `title add ..`, `title set ..` or
+    /// `title remove ..`: an order of the operator.
     Order {
         /// The order.
         order: OrderText<'a>,

@@ -126,6 +126,15 @@ impl Exchange {
         handled_or_refused(self.titles.add(row))
     }
 
+    /// An operator sets a translation row: it replaces the one of its key and digits, which needs no memory, or is added
+    /// if there is none. If that is refused, TableFull or NoMemory, nothing changes.
+    pub(super) fn set_title(&mut self, row: TitleRow) -> Outcome
+        ensures { Ends self.old result self.new
+            (rule.set_title row (is_memory_refused result) self.old.node) }
+    {
+        handled_or_refused(self.titles.set(row))
+    }
+
     /// An operator removes the translation row of this key and these digits; NoSuchName if there is none.
     pub(super) fn remove_title(&mut self, key: TitleKey, digits: &[u8]) -> Outcome
         ensures { Ends self.old result self.new (rule.remove_title key digits.now self.old.node) }

@@ -9,10 +9,10 @@ ghost use Rattle.exchange.specs.KeptQueues.{kept};
 ghost use Rattle.exchange_rules.specs.Queues.{whole};
 ghost use Rattle.exchange_rules.specs.Places.{HasPlacesFor};
 ghost use Rattle.sccp_relay.specs.Rows.{IsOrdered};
-ghost use Rattle.exchange.specs.Views.{link_view, route_view};
+ghost use Rattle.exchange.specs.Views.{link_view, obstacle_at, route_view};
 
 use super::Exchange;
-use crate::view::{LinkStanding, LinkView, NewNotices, RouteView, status_shown};
+use crate::view::{LinkStanding, LinkView, NewNotices, Obstacle, RouteView, status_shown};
 use circular_buffer::HeapCircularBuffer;
 use sccp_relay::Titles;
 use settings::{LinkId, Notice, Settings, TitleRow};
@@ -141,6 +141,30 @@ impl Exchange {
             last_sent: sequence.last_sent(),
             last_accepted: sequence.last_accepted(),
         })
+    }
+
+    /// What keeps a link that is in service from carrying user messages: the first that holds of its first test, which
+    /// it hasn't passed, an outage of the peer's processor, and a peer that is busy, as one whose processor is out also
+    /// is. `None` if nothing does, if the link isn't in service, or if there is no such link.
+    pub fn obstacle(&self, link: LinkId) -> Option<Obstacle>
+        ensures obstacle { (a : Abstract) → StandsFor self.now a → result ≡ obstacle_at a link }
+        ensures kept_obstacle { result ≡ obstacle_at self.now link }
+    {
+        if !self.links.has(link) {
+            return None;
+        }
+        let state = self.links.state(link);
+        if !state.is_in_service() {
+            None
+        } else if !state.carries_traffic() {
+            Some(Obstacle::Untested)
+        } else if state.is_peer_out() {
+            Some(Obstacle::PeerOutage)
+        } else if state.is_peer_busy() {
+            Some(Obstacle::PeerBusy)
+        } else {
+            None
+        }
     }
 
     /// A destination as it is shown, by its number in the order of the settings; `None` if it isn't there.

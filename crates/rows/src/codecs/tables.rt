@@ -32,6 +32,7 @@ pub(crate) fn digits_of(said: &mut Said, trie: &mut Trie, row: &str) {
     match (word(row, 1), number_of(row, 3)) {
         ("longest", _) => said.show(&trie.longest(digits)),
         ("remove", _) => said.show(&trie.remove(digits)),
+        ("replace", Some(value)) => said.show(&trie.replace(digits, value)),
         (_, Some(value)) if are_digits(digits) => said.show(&trie.insert(digits, value)),
         _ => said.say("no value at digits"),
     }
@@ -51,9 +52,13 @@ pub(crate) fn titles(said: &mut Said, table: &mut Titles, row: &str) {
     match (word(row, 1), key(row)) {
         ("entry", _) => say_row(said, table.row(number(row, 2)).ok_or(Cause::NoSuchName)),
         ("fill", Some(key)) => fill(said, table, key),
-        ("add", Some(key)) => match (new_row(key, digits, row), change(row)) {
-            (Some(new), Some(change)) => said.show(&table.add(new.with_change(change))),
-            _ => said.say("no row"),
+        ("add", Some(key)) => match changed_row(key, digits, row) {
+            Some(new) => said.show(&table.add(new)),
+            None => said.say("no row"),
+        },
+        ("set", Some(key)) => match changed_row(key, digits, row) {
+            Some(new) => said.show(&table.set(new)),
+            None => said.say("no row"),
         },
         ("backup", Some(key)) => match new_row(key, digits, row) {
             Some(new) => said.show(&table.add(backed_up(new, row))),
@@ -77,6 +82,11 @@ fn key(row: &str) -> Option<TitleKey> {
 /// The new row of a row.
 fn new_row(key: TitleKey, digits: &[u8], row: &str) -> Option<TitleRow> {
     row_to(key, digits, number_of(row, 6)?, number_of(row, 7))
+}
+
+/// The new row of a row, with its change of titles.
+fn changed_row(key: TitleKey, digits: &[u8], row: &str) -> Option<TitleRow> {
+    Some(new_row(key, digits, row)?.with_change(change(row)?))
 }
 
 /// A row that leads to a point, routed there by a subsystem, if one is named, or else by its title.
