@@ -1,7 +1,7 @@
 -- The first of all faults is the first fault.
-use Rattle.settings.proofs.Basics.{refl, sym, ap, subst, ◌∙◌, ◌≡◌, ◌<◌, ℕ, Bool, true, false, not, ◌&&◌, ◌||◌, cond, nat_eq, nat_le, List, [], ◌∷◌, ◌++◌, length, map, Option, None, Some, ℤ, pos, negsuc, String, is_some, string_bytes, string_eq, list_any, list_all, arith, nat_tests, int_eq, bytes_eq, bytes_eq-Decides, Decides-int_eq, AllByRecursion, first_of, all_of, behind, all_behind, fault_unless, entries_checks, entries_fault, numbers_fault, is_within, natural, range_fault, optional_fault, far_point_fault, has_repeat, count_fault, route_fault, ssn_fault, digits_fault, first_fault, scalars_checks, scalars_fault, set_checks, set_fault, link_tests_checks, link_tests_fault, timers_fault, bar_fault, ticks_fault, timers_written, ticks_in, timer_in, and_parts, sets_fault, links_fault, link_fault, link_name_fault, link_set_fault, link_slc_fault, has_link_code, destination_fault, destination_point_fault, set_list_fault, joined_fault, has_destination, is_set_name, set_place, destinations_fault, titles_fault, title_fault, title_numbers_fault, title_digits_fault, title_target_fault, title_change_fault, title_numbers_checks, title_change_checks, is_same_title, is_by_title, unreached_fault, reached_fault, tables_fault, arrays_fault, own_point, ticks_before_bar, ticks_checks, late_timers_checks, timers_checks, set_count_fault, sets_checks, link_set_check, link_slc_check, link_checks, link_count_fault, links_checks, has_point, destination_point_check, known_check, set_list_check, destination_checks, destination_count_fault, destinations_checks, title_digits_check, is_by_number, title_target_checks, title_checks, title_count_fault, titles_checks, reached_checks, unreached_checks, routes_fault, arrays_checks, lists_checks, all_checks, all_faults, first_in, points_of, is_name, DraftFault, Draft, TimersDraft, SetDraft, LinkDraft, DestinationDraft, TitleDraft, LinkTestsDraft, FaultKind, Key, Range, Duplicate, UnknownName, TooMany, Own, Network, Window, Pool, Users, Subsystems, Timer, L4e, Sst, LinkSet, LinkSlc, LinkShare, Link, DestinationPoint, DestinationSets, TitleDigits, TitlePoint, TitleBackup, TitleRoute, TitleSsn, Title, WINDOW, POOL, TICKS, LINKS, SETS, TITLES, SETS_PER_DESTINATION}
+use Rattle.settings.proofs.Basics.{refl, sym, ap, ◌∙◌, ◌≡◌, ℕ, Bool, true, false, not, ◌&&◌, ◌||◌, nat_eq, List, [], ◌∷◌, ◌++◌, length, Option, None, Some, ℤ, pos, negsuc, is_some, string_bytes, string_eq, list_any, list_all, arith, nat_tests, int_eq, bytes_eq, bytes_eq-Decides, AllByRecursion, first_of, all_of, behind, all_behind, fault_unless, entries_checks, entries_fault, numbers_fault, is_within, natural, range_fault, optional_fault, far_point_fault, has_repeat, count_fault, route_fault, ssn_fault, digits_fault, first_fault, scalars_checks, scalars_fault, set_checks, set_fault, link_tests_checks, link_tests_fault, timers_fault, bar_fault, ticks_fault, timers_written, ticks_in, timer_in, and_parts, sets_fault, links_fault, link_fault, link_name_fault, has_link_code, destination_fault, destination_point_fault, set_list_fault, joined_fault, has_destination, is_set_name, set_place, destinations_fault, titles_fault, title_fault, title_numbers_fault, title_digits_fault, title_target_fault, title_change_fault, title_numbers_checks, title_change_checks, is_same_title, is_by_title, unreached_fault, reached_fault, tables_fault, arrays_fault, own_point, ticks_before_bar, ticks_checks, late_timers_checks, timers_checks, set_count_fault, sets_checks, link_checks, link_count_fault, links_checks, has_point, destination_checks, destination_count_fault, destinations_checks, title_digits_check, is_by_number, title_target_checks, title_checks, title_count_fault, titles_checks, reached_checks, unreached_checks, routes_fault, arrays_checks, all_checks, all_faults, first_in, is_name, DraftFault, Draft, TimersDraft, SetDraft, LinkDraft, DestinationDraft, TitleDraft, Key, Range, Duplicate, UnknownName, Users, Subsystems, Timer, L4e, Sst, LinkSet, LinkSlc, LinkShare, DestinationPoint, DestinationSets, TitleDigits, TitlePoint, TitleBackup, TitleRoute, TitleSsn, POOL, TICKS, SETS_PER_DESTINATION}
 use Rattle.settings.proofs.Entries.{first_of-one}
-use Rattle.settings.proofs.Rows.{each_push, two_none, three_none, passes, each_entry, within_from_test}
+use Rattle.settings.proofs.Rows.{each_push, two_none, three_none, passes, each_entry}
 use Rattle.settings.specs.declared.draft.DestinationDraft.{DestinationDraft}
 use Rattle.std.specs.Prelude.{codes}
 

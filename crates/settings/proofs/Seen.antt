@@ -1,10 +1,10 @@
 -- The points of destinations, and the keys of translation rows, that were seen.
-use Rattle.settings.proofs.Basics.{refl, sym, ap, ◌∙◌, ◌≡◌, ◌≢◌, ◌≤◌, ◌<◌, ◌^◌, ◌+◌, ℕ, ℤ, pos, negsuc, Bool, true, false, not, cond, ◌||◌, ◌&&◌, nat_lt, nat_le, nat_eq, List, [], ◌∷◌, ◌++◌, Option, None, Some, length, replicate, slice_set, get_or, take, drop, arith, common_steps, nat_tests, length-set, length-replicate, string_bytes, list_any, list_all, int_eq, bytes_eq, Decides-int_eq, bytes_eq-Decides, and_parts, if◌then◌else◌, is_digit, first_of, behind, fault_unless, digits_fault, is_same_title, title_numbers_fault, title_digits_check, seen_at, seen_with, AreSeen, has_point, far_point_fault, destination_point_check, AreOf, has_key, title_key, DestinationDraft, TitleDraft, DraftFault, Key, Range, Duplicate, TitleDigits, DestinationPoint, TITLE_DIGITS}
+use Rattle.settings.proofs.Basics.{refl, sym, ap, ◌∙◌, ◌≡◌, ◌≢◌, ◌≤◌, ◌<◌, ◌^◌, ◌+◌, ℕ, ℤ, pos, negsuc, Bool, true, false, not, cond, ◌||◌, ◌&&◌, nat_lt, nat_le, nat_eq, List, [], ◌∷◌, ◌++◌, None, length, replicate, slice_set, get_or, take, arith, common_steps, nat_tests, length-set, length-replicate, string_bytes, list_any, list_all, int_eq, bytes_eq, Decides-int_eq, bytes_eq-Decides, and_parts, if◌then◌else◌, is_digit, first_of, behind, fault_unless, digits_fault, is_same_title, title_numbers_fault, title_digits_check, seen_with, AreSeen, has_point, AreOf, has_key, title_key, DestinationDraft, TitleDraft, Key, Range, Duplicate, TitleDigits, TITLE_DIGITS}
 use Rattle.std.proofs.lemmas.List.{get_or-replicate, get_or-set_same, get_or-set_other}
 use Rattle.std.proofs.lemmas.List.Folds.{list_any-append}
 use Rattle.settings.specs.declared.titles.TitleKey.{TitleKey}
 use Rattle.settings.proofs.Rows.{two_pass}
-use Rattle.settings.proofs.FirstOfAll.{keep, same_number, far_within}
+use Rattle.settings.proofs.FirstOfAll.{keep, same_number}
 
 -- ---- points
 pub none_seen : (seen : List Bool) → seen ≡ replicate (2 ^ 14) false → AreSeen seen []

@@ -1,8 +1,7 @@
 -- Faults that are told one after another.
-use Rattle.settings.proofs.Basics.{refl, ap, sym, cond, ◌∙◌, ◌≡◌, ◌≢◌, ◌≤◌, ◌<◌, ◌+◌, inl, inr, ℕ, Bool, true, false, nat_lt, List, [], ◌∷◌, ◌++◌, Option, Some, None, length, take, drop, get_or, arith, common_steps, nat_tests, append_assoc, first_of, all_of, all_behind, tell, tell_all, entries_checks, own_point, scalars_checks, lists_checks, timers_checks, arrays_checks, all_checks, DraftFault, Draft}
+use Rattle.settings.proofs.Basics.{refl, ap, sym, ◌∙◌, ◌≡◌, ◌≢◌, ◌≤◌, ◌<◌, ◌+◌, inl, inr, ℕ, List, [], ◌∷◌, ◌++◌, Option, Some, None, length, take, drop, get_or, arith, common_steps, append_assoc, first_of, all_of, all_behind, tell, tell_all, entries_checks, own_point, scalars_checks, lists_checks, timers_checks, arrays_checks, all_checks, DraftFault, Draft}
 use Rattle.std.specs.Prelude.{◌⊎◌}
-use Rattle.std.proofs.lemmas.List.{length-append, take-append-le}
-use Rattle.settings.specs.declared.faults.TheConstants.{MOST_FAULTS}
+use Rattle.std.proofs.lemmas.List.{length-append, append-nil}
 
 pub then_tell : (told : List DraftFault) (a b : List (Option DraftFault)) → tell_all (tell_all told a) b ≡ tell_all told (a ++ b)
 then_tell told [] b = refl
@@ -26,35 +25,21 @@ pub told_all : {A : Type 0} (f : List A → A → List (Option DraftFault)) (xs 
 told_all f xs i told all l h = rw (no_checks f xs i l) at h
 
 -- ---- how many are told
--- if all are told that may be, no more are
-pub stays : (told : List DraftFault) (checks : List (Option DraftFault)) → MOST_FAULTS ≤ length told → tell_all told checks ≡ told
-stays told [] h = refl
-stays told (None ∷ rest) h = stays told rest h
-stays told (Some fault ∷ rest) h = let full : nat_lt (length told) MOST_FAULTS ≡ false = grind (arith, nat_tests) in rw full (stays told rest h)
-
 grows : (told : List DraftFault) (checks : List (Option DraftFault)) → length told ≤ length (tell_all told checks)
 grows told [] = omega arith
 grows told (None ∷ rest) = grows told rest
-grows told (Some fault ∷ rest) = by (nat_lt (length told) MOST_FAULTS) (grows (told ++ fault ∷ []) rest) (grows told rest)
-  where
-    by : (b : Bool) → length (told ++ fault ∷ []) ≤ length (tell_all (told ++ fault ∷ []) rest) → length told ≤ length (tell_all told rest) → length told ≤ length (tell_all (cond b (told ++ fault ∷ []) told) rest)
-    by true h k = omega (arith, length-append told (fault ∷ []), h)
-    by false h k = k
+grows told (Some fault ∷ rest) = let more = grows (told ++ fault ∷ []) rest in omega (arith, length-append told (fault ∷ []), more)
 
 none_told : (told : List DraftFault) (checks : List (Option DraftFault)) → first_of checks ≡ None → tell_all told checks ≡ told
 none_told told [] h = refl
 none_told told (None ∷ rest) h = none_told told rest h
 none_told told (Some fault ∷ rest) h = cc
 
--- where no more are told, there was nothing to tell, or all were told that may be
-no_more : (told : List DraftFault) (checks : List (Option DraftFault)) → length (tell_all told checks) ≡ length told → (first_of checks ≡ None) ⊎ (MOST_FAULTS ≤ length told)
-no_more told [] h = inl refl
+-- where no more are told, there was nothing to tell
+no_more : (told : List DraftFault) (checks : List (Option DraftFault)) → length (tell_all told checks) ≡ length told → first_of checks ≡ None
+no_more told [] h = refl
 no_more told (None ∷ rest) h = no_more told rest h
-no_more told (Some fault ∷ rest) h = by (nat_lt (length told) MOST_FAULTS) refl h
-  where
-    by : (b : Bool) → nat_lt (length told) MOST_FAULTS ≡ b → length (tell_all (cond b (told ++ fault ∷ []) told) rest) ≡ length told → (Some fault ≡ None) ⊎ (MOST_FAULTS ≤ length told)
-    by true e k = let more = grows (told ++ fault ∷ []) rest in absurd (omega (arith, length-append told (fault ∷ []), more, k))
-    by false e k = inr (grind (arith, nat_tests))
+no_more told (Some fault ∷ rest) h = let more = grows (told ++ fault ∷ []) rest in absurd (omega (arith, length-append told (fault ∷ []), more, h))
 
 -- ---- checks behind the faults of others, which were told in two pieces
 both_none : (a b : List (Option DraftFault)) → first_of a ≡ None → first_of b ≡ None → first_of (a ++ b) ≡ None
@@ -87,28 +72,11 @@ in_row before a between b behind last after_a after_between after_b after p =
     ∙ then_tell (tell_all before a) between (b ++ (behind ++ last))
     ∙ then_tell before a (between ++ (b ++ (behind ++ last))))
 
--- where all were told that may be, no more are told
-full_stays : (before : List DraftFault) (a between b behind last : List (Option DraftFault)) (after_a after_between after_b after : List DraftFault) → Pieces before a between b behind after_a after_between after_b after → (MOST_FAULTS ≤ length before) ⊎ (MOST_FAULTS ≤ length after_between) → tell_all after last ≡ after
-full_stays before a between b behind last after_a after_between after_b after p h =
-    let one : length before ≤ length after_a = rw p.a_told (grows before a) in
-    let two : length after_a ≤ length after_between = rw p.between_told (grows after_a between) in
-    let three : length after_between ≤ length after_b = rw p.b_told (grows after_between b) in
-    let four : length after_b ≤ length after = rw p.behind_told (grows after_b behind) in
-    stays after last (elim h [ inl e ↦ omega (arith, one, two, three, four, e) | inr e ↦ omega (arith, three, four, e) ])
-
 -- if neither of the two told any, what stands behind both is told
 pub told_behind : (before : List DraftFault) (a between b behind last : List (Option DraftFault)) (after_a after_between after_b after : List DraftFault) → Pieces before a between b behind after_a after_between after_b after → length after_a ≡ length before → length after_b ≡ length after_between → tell_all after last ≡ tell_all before (a ++ (between ++ (b ++ (behind ++ all_behind (first_of (a ++ b)) last))))
 told_behind before a between b behind last after_a after_between after_b after p e f =
-    by (first_of (a ++ b)) refl ∙ in_row before a between b behind (all_behind (first_of (a ++ b)) last) after_a after_between after_b after p
-  where
-    some : (fault : DraftFault) → first_of (a ++ b) ≡ Some fault → (first_of a ≡ None) ⊎ (MOST_FAULTS ≤ length before) → (first_of b ≡ None) ⊎ (MOST_FAULTS ≤ length after_between) → (MOST_FAULTS ≤ length before) ⊎ (MOST_FAULTS ≤ length after_between)
-    some fault g (inr full) k = inl full
-    some fault g (inl none) (inr full) = inr full
-    some fault g (inl none) (inl too) = let both = both_none a b none too in cc
-
-    by : (found : Option DraftFault) → first_of (a ++ b) ≡ found → tell_all after last ≡ tell_all after (all_behind found last)
-    by None g = refl
-    by (Some fault) g = full_stays before a between b behind last after_a after_between after_b after p (some fault g (no_more before a (rw (← p.a_told) e)) (no_more after_between b (rw (← p.b_told) f)))
+    let none : first_of (a ++ b) ≡ None = both_none a b (no_more before a (rw (← p.a_told) e)) (no_more after_between b (rw (← p.b_told) f)) in
+    rw none (in_row before a between b behind last after_a after_between after_b after p)
 
 -- if one of them told some, it isn't
 pub not_told_behind : (before : List DraftFault) (a between b behind last : List (Option DraftFault)) (after_a after_between after_b after : List DraftFault) → Pieces before a between b behind after_a after_between after_b after → (length after_a ≢ length before) ⊎ (length after_b ≢ length after_between) → after ≡ tell_all before (a ++ (between ++ (b ++ (behind ++ all_behind (first_of (a ++ b)) last))))
@@ -122,28 +90,11 @@ not_told_behind before a between b behind last after_a after_between after_b aft
     ]
     by (Some fault) g = refl
 
--- ---- as many as are told
-take_whole : {A : Type 0} (n : ℕ) (xs : List A) → length xs ≤ n → xs ≡ take n (xs ++ [])
-take_whole n xs h = grind (arith, common_steps)
-
-take_same : {A : Type 0} (n : ℕ) (xs ys zs : List A) → n ≤ length xs → take n (xs ++ ys) ≡ take n (xs ++ zs)
-take_same n xs ys zs h = take-append-le n xs ys h ∙ sym (take-append-le n xs zs h)
-
-fits : (told : List DraftFault) (fault : DraftFault) → nat_lt (length told) MOST_FAULTS ≡ true → length (told ++ fault ∷ []) ≤ MOST_FAULTS
-fits told fault e = rw (length-append told (fault ∷ [])) (grind (arith, nat_tests))
-
-full : (n : ℕ) → nat_lt n MOST_FAULTS ≡ false → MOST_FAULTS ≤ n
-full n e = grind (arith, nat_tests)
-
--- what is told is the front of what there is
-pub told_front : (told : List DraftFault) (checks : List (Option DraftFault)) → length told ≤ MOST_FAULTS → tell_all told checks ≡ take MOST_FAULTS (told ++ all_of checks)
-told_front told [] h = take_whole MOST_FAULTS told h
-told_front told (None ∷ rest) h = told_front told rest h
-told_front told (Some fault ∷ rest) h = by (nat_lt (length told) MOST_FAULTS) refl (told_front (told ++ fault ∷ []) rest) (told_front told rest h)
-  where
-    by : (b : Bool) → nat_lt (length told) MOST_FAULTS ≡ b → (length (told ++ fault ∷ []) ≤ MOST_FAULTS → tell_all (told ++ fault ∷ []) rest ≡ take MOST_FAULTS ((told ++ fault ∷ []) ++ all_of rest)) → tell_all told rest ≡ take MOST_FAULTS (told ++ all_of rest) → tell_all (cond b (told ++ fault ∷ []) told) rest ≡ take MOST_FAULTS (told ++ fault ∷ all_of rest)
-    by true e k m = k (fits told fault e) ∙ ap (take MOST_FAULTS) (append_assoc told (fault ∷ []) (all_of rest))
-    by false e k m = m ∙ take_same MOST_FAULTS told (all_of rest) (fault ∷ all_of rest) (full (length told) e)
+-- ---- all that there are
+pub told_found : (told : List DraftFault) (checks : List (Option DraftFault)) → tell_all told checks ≡ told ++ all_of checks
+told_found told [] = sym (append-nil told)
+told_found told (None ∷ rest) = told_found told rest
+told_found told (Some fault ∷ rest) = told_found (told ++ fault ∷ []) rest ∙ append_assoc told (fault ∷ []) (all_of rest)
 
 -- the pieces of settings, told in a row
 pub all_told : (told a b c all : List DraftFault) (d : Draft) (own : ℕ) → own ≡ own_point d.own → a ≡ tell_all told (scalars_checks d) → b ≡ tell_all a (lists_checks d) → c ≡ tell_all b (timers_checks d.timers) → all ≡ tell_all c (arrays_checks own d) → all ≡ tell_all told (all_checks d)

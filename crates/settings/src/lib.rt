@@ -38,7 +38,7 @@ pub use draft::{
     TitleDraft,
 };
 pub use fault::{DraftFault, FaultKind};
-pub use faults::{MOST_FAULTS, all_faults, all_faults_begin};
+pub use faults::{all_faults, all_faults_begin};
 pub use key::{Key, TimerKey};
 pub use link_row::LinkRow;
 pub use point::{POINT_OCTETS, PointFormat, parse_point, point_text};

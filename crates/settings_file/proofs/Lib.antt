@@ -10,9 +10,10 @@ pub mod Sources
 pub mod Within
 pub mod Filling
 pub mod Noting
-pub mod Keeping
 pub mod Placed
 pub mod Placing
 pub mod Mending
 pub mod Doubting
 pub mod Beginning
+pub mod ToldAll
+pub mod Linking

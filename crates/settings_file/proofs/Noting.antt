@@ -3,15 +3,23 @@ use Rattle.settings_file.proofs.Basics.{◌≡◌, ℕ, ◌+◌, ◌<◌, ◌≤
 use Rattle.settings_file.proofs.Basics.{Result, Ok, Err, inl, inr}
 use Rattle.std.specs.Prelude.{IfOk, OnOk, ◌≢◌}
 use Rattle.std.specs.Result.{result_unwrap_or}
-use Rattle.settings_file.specs.AllFaults.{noted, all_noted, each_check, fault_in}
+use Rattle.settings_file.specs.AllFaults.{each_check, fault_in}
+use Rattle.settings_file.specs.Noted.{noted, all_noted}
 use Rattle.settings_file.specs.Faults.{AnswersOrNoMemory, no_memory}
 use Rattle.settings_file.specs.Mended.{or_else}
 use Rattle.toml.specs.Data.{Data}
 use Rattle.toml.specs.declared.value.Value.{Value}
 
-pub then_note : (faults : List SettingsFault) (a b : List (Option SettingsFault)) → all_noted (all_noted faults a) b ≡ all_noted faults (a ++ b)
+pub then_note : {F : Type 0} (faults : List F) (a b : List (Option F)) → all_noted (all_noted faults a) b ≡ all_noted faults (a ++ b)
 then_note faults [] b = refl
 then_note faults (check ∷ a) b = then_note (noted faults check) a b
+
+pub three_noted : {F : Type 0} (faults : List F) (a b c : List (Option F)) → all_noted (all_noted (all_noted faults a) b) c ≡ all_noted faults (a ++ (b ++ c))
+three_noted faults a b c = then_note (all_noted faults a) b c ∙ then_note faults a (b ++ c)
+
+pub five_noted : {F : Type 0} (faults : List F) (a b c d e : List (Option F))
+    → all_noted (all_noted (all_noted (all_noted (all_noted faults a) b) c) d) e ≡ all_noted faults (a ++ (b ++ (c ++ (d ++ e))))
+five_noted faults a b c d e = three_noted (all_noted (all_noted faults a) b) c d e ∙ three_noted faults a b (c ++ (d ++ e))
 
 pub four_noted : (faults : List SettingsFault) (a b c d : List (Option SettingsFault))
     → all_noted (all_noted (all_noted (all_noted faults a) b) c) d ≡ all_noted faults (a ++ (b ++ (c ++ d)))

@@ -5,7 +5,7 @@ use Rattle.std.proofs.Common.{arith}
 use Rattle.std.proofs.lemmas.Bool.Decides.{nat_tests}
 use Rattle.std.proofs.lemmas.List.{take-append-drop}
 use Rattle.std.proofs.lemmas.Slice.Eq.{bytes_eq-Decides}
-use Rattle.settings_file.specs.TextPlaces.{StandsAt, IsPartOf, IsPlaceOfPart, first_place, place_behind}
+use Rattle.settings_file.specs.TextPlaces.{StandsAt, are_before_name, are_behind_name, IsPartOf, IsPlaceOfPart, first_place, place_behind}
 use Rattle.settings_file.specs.declared.text_places.TextPlace.{TextPlace}
 
 pub word-stands : (text before rest word : List ℕ) (at : ℕ) (place : TextPlace) → before ≡ take at text → rest ≡ drop at text
@@ -25,14 +25,18 @@ word-stands text before rest word at place b r h p =
 not_empty : (word : List ℕ) → false ≡ (length word == 0) → word ≡ [] → ⊥
 not_empty word some none = grind (arith, nat_tests, ap (λ (w : List ℕ). length w) none)
 
-pub part-of : (path behind word : List ℕ) (from len : ℕ) → behind ≡ drop from path → word ≡ take len behind → false ≡ (length word == 0) → IsPartOf word path
-part-of path behind word from len b w some =
-    let joined : word ++ drop len behind ≡ drop from path = ap (λ (front : List ℕ). front ++ drop len behind) w ∙ take-append-drop len behind ∙ b in
+pub part-of : (path before behind word rest : List ℕ) (from len : ℕ) → before ≡ take from path → behind ≡ drop from path → word ≡ take len behind → rest ≡ drop len behind
+    → false ≡ (length word == 0) → are_before_name before ≡ true → are_behind_name rest ≡ true → IsPartOf word path
+part-of path before behind word rest from len b d w r some begins ends =
+    let joined : word ++ rest ≡ behind = rw (w, r) (take-append-drop len behind) in
+    let whole : before ++ behind ≡ path = rw (b, d) (take-append-drop from path) in
     record {
-      before = take from path;
-      behind = drop len behind;
+      before = before;
+      behind = rest;
       some = not_empty word some;
-      path_is = sym (take-append-drop from path) ∙ ap (λ (rest : List ℕ). take from path ++ rest) (sym joined);
+      path_is = sym (ap (λ (x : List ℕ). before ++ x) joined ∙ whole);
+      begins = begins;
+      ends = ends;
     }
 
 pub part-stands : (text path word : List ℕ) (found : Option TextPlace) → IsPartOf word path → IfSome found (λ place. StandsAt text place word) → IfSome found (IsPlaceOfPart text path)

@@ -1,11 +1,12 @@
 -- All faults of a settings file of version 4: those of reading, of each key its own, the keys in the order in which they
--- are read; and behind them those of the settings that were read. A file of another version has its first fault alone.
-use Rattle.std.specs.Prelude.{◌≡◌, ◌⊎◌, ℕ, ◌+◌, true, false, List, [], ◌∷◌, ◌++◌, map, filter, take, Option, Some, None, Result, Ok, Err}
+-- are read; behind them those of the settings that were read; and last those of the server's settings. A file of another
+-- version has its first fault alone.
+use Rattle.std.specs.Prelude.{◌≡◌, ◌⊎◌, ℕ, ◌+◌, true, false, List, [], ◌∷◌, ◌++◌, map, Option, Some, None, Result, Ok, Err}
 use Rattle.std.specs.Result.{result_err}
 use Rattle.toml.specs.Data.{Data, Members}
 use Rattle.settings.specs.AllFaults.{all_faults}
-use Rattle.settings.specs.declared.faults.TheConstants.{MOST_FAULTS}
 use Rattle.settings.specs.declared.draft.Draft.{Draft}
+use Rattle.settings.specs.declared.fault.DraftFault.{DraftFault}
 use Rattle.settings.specs.declared.key.Key.{Key}
 use Rattle.settings.specs.declared.key.Key.TheVariants as key
 use Rattle.settings.specs.declared.key.TimerKey.{TimerKey}
@@ -16,8 +17,14 @@ use Rattle.settings_file.specs.declared.fault.SettingsFault.TheVariants.{Kind}
 use Rattle.settings_file.specs.declared.fault.SettingsFault.TheVariants as file
 use Rattle.settings_file.specs.declared.faults.arrays.Array.{Array}
 use Rattle.settings_file.specs.declared.faults.arrays.Array.TheVariants.{Sets, Links, Destinations, Titles}
+use Rattle.settings_file.specs.declared.serve.fault.ServeFault.{ServeFault}
+use Rattle.settings_file.specs.declared.serve.fault.ServeFault.TheVariants.{Settings}
+use Rattle.settings_file.specs.Addresses.{Spelling}
+use Rattle.settings_file.specs.AllServeFaults.{server_faults}
 use Rattle.settings_file.specs.Mended.{or_else, mended}
-use Rattle.settings_file.specs.Following.{is_other, standing}
+use Rattle.settings_file.specs.Following.{standing}
+use Rattle.settings_file.specs.Noted.{all_noted}
+use Rattle.settings_file.specs.ToldFaults.{all_told}
 use Rattle.settings_file.specs.KnownKeys.{has_fourth}
 use Rattle.settings_file.specs.Written.{written}
 use Rattle.settings_file.specs.NodeKeys.{found_at, integer_at, optional_integer_at, truth_at, text_at, optional_text_at}
@@ -30,15 +37,6 @@ use Rattle.settings_file.specs.Timers.{optional_ticks_at, table_at}
 -- the fault of what was read, if it has one
 abbrev pub fault_in : {A : Type 0} → Result A SettingsFault → Option SettingsFault
 fault_in read = result_err read
-
--- a fault that was found, behind those before it
-abbrev pub noted : List SettingsFault → Option SettingsFault → List SettingsFault
-noted faults None = faults
-noted faults (Some fault) = faults ++ fault ∷ []
-
-abbrev pub all_noted : List SettingsFault → List (Option SettingsFault) → List SettingsFault
-all_noted faults [] = faults
-all_noted faults (check ∷ rest) = all_noted (noted faults check) rest
 
 -- the numbers and lists that a file begins with
 abbrev pub leading_checks : Members → List (Option SettingsFault)
@@ -192,27 +190,26 @@ reading_checks t = leading_checks t ++ (service_checks t ++ (timers_checks t ++ 
 unfoldable pub reading_faults : Members → List SettingsFault
 reading_faults t = all_noted [] (reading_checks t)
 
--- as many faults as are told
-abbrev pub as_told : {A : Type 0} → List A → List A
-as_told faults = take MOST_FAULTS faults
+-- faults of the node's settings, among those of a file
+abbrev pub checked_fault : DraftFault → ServeFault
+checked_fault found = Settings (file.Draft found)
 
--- the faults of settings, as faults of a file
-abbrev pub checked_faults : Draft → List SettingsFault
-checked_faults draft = map file.Draft (as_told (all_faults draft))
+-- the first fault; behind it those of reading, those of the settings that were read, but for those that only follow, and
+-- those of the server's settings
+abbrev pub told_faults : (first : ServeFault) → (reading : List SettingsFault) → (checked : List DraftFault)
+    → (server : List ServeFault) → List ServeFault
+told_faults first reading checked server =
+    all_told (first ∷ []) (map Settings reading ++ (map checked_fault (standing reading checked) ++ server))
 
--- the first fault; those of reading; and behind them those of settings that don't only follow from others
-abbrev pub told_faults : (first : SettingsFault) → (reading checked : List SettingsFault) → List SettingsFault
-told_faults first reading checked = as_told (first ∷ filter (is_other first) (reading ++ standing reading checked))
-
--- these are all faults of a document of version 4, which is read with this one: those of reading it, and those of the
--- settings that it says, where a value that can't be read counts as a malformed one
-pub record AreOfFourth (t : Members) (first : SettingsFault) (faults : List SettingsFault) : Type 0 where
+-- these are all faults of a document of version 4, which is read with this one: those of reading it, those of the
+-- settings that it says, where a value that can't be read counts as a malformed one, and those of its server
+pub record AreOfFourth (t : Members) (first : ServeFault) (faults : List ServeFault) : Type 0 where
   pub draft : Draft
   pub says : written draft ≡ mended t
-  pub found : faults ≡ told_faults first (as_told (reading_faults t)) (checked_faults draft)
+  pub found : (s : Spelling) → faults ≡ told_faults first (reading_faults t) (all_faults draft) (server_faults s t)
 
 -- all faults of a document, whose first is this one
-abbrev pub AreAllFaults : Members → (first : SettingsFault) → List SettingsFault → Type 0
+abbrev pub AreAllFaults : Members → (first : ServeFault) → List ServeFault → Type 0
 AreAllFaults t first faults =
     ((has_fourth t ≡ false) × (faults ≡ first ∷ []))
     ⊎ ((has_fourth t ≡ true) × AreOfFourth t first faults)

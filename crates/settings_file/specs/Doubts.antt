@@ -12,36 +12,37 @@ use Rattle.settings.specs.declared.key.TimerKey.{TimerKey}
 use Rattle.settings.specs.declared.key.TimerKey.TheVariants.{L1, L2, L3, L4, L6, L7, T1, T2, T3, T4, T6, T8, T10}
 use Rattle.settings.specs.declared.key.TimerKey.TheVariants.{Slt1, Slt2, L4e, Sst, T2Bar}
 use Rattle.settings.specs.declared.timer_ticks.TimerTicks.{TimerTicks}
+use Rattle.settings_file.specs.declared.doubts.timers.TimeRange.{TimeRange}
 use Rattle.settings_file.specs.KnownKeys.{has_fourth}
 use Rattle.settings_file.specs.Sentences.{IsAbout, AreEach}
 use Rattle.settings_file.specs.Keyed.{serve_at, tick_ms_at}
 use Rattle.settings_file.specs.Shapes.{and_then}
 use Rattle.settings_file.specs.Ticks.{tick_if_told, ticks_lasting}
 
--- a timer, and how long it lasts in the standard: the shortest and the longest time, in milliseconds
-abbrev pub TimeRange : Type 0
-TimeRange = TimerKey × ℕ × ℕ
+-- a timer lasts from the shortest to the longest time in the standard, in milliseconds
+abbrev pub lasting : TimerKey → (least_ms most_ms : ℕ) → TimeRange
+lasting timer least_ms most_ms = record { timer = timer; least_ms = least_ms; most_ms = most_ms }
 
 -- the timers with the ranges that standards have: Q.703 §12.3 at 64 kbit/s, Q.704 §16.8, Q.707 §5.5. Of an SST (Q.714)
 -- the range depends on what came before, so it has none here
 abbrev pub time_ranges : List TimeRange
 time_ranges =
-    (L1, 40000, 50000)
-    ∷ (L2, 5000, 150000)
-    ∷ (L3, 1000, 2000)
-    ∷ (L4, 7500, 9500)
-    ∷ (L6, 3000, 6000)
-    ∷ (L7, 500, 2000)
-    ∷ (T1, 500, 1200)
-    ∷ (T2, 700, 2000)
-    ∷ (T3, 500, 1200)
-    ∷ (T4, 500, 1200)
-    ∷ (T6, 500, 1200)
-    ∷ (T8, 800, 1200)
-    ∷ (T10, 30000, 60000)
-    ∷ (Slt1, 4000, 12000)
-    ∷ (Slt2, 30000, 90000)
-    ∷ (L4e, 400, 600)
+    lasting L1 40000 50000
+    ∷ lasting L2 5000 150000
+    ∷ lasting L3 1000 2000
+    ∷ lasting L4 7500 9500
+    ∷ lasting L6 3000 6000
+    ∷ lasting L7 500 2000
+    ∷ lasting T1 500 1200
+    ∷ lasting T2 700 2000
+    ∷ lasting T3 500 1200
+    ∷ lasting T4 500 1200
+    ∷ lasting T6 500 1200
+    ∷ lasting T8 800 1200
+    ∷ lasting T10 30000 60000
+    ∷ lasting Slt1 4000 12000
+    ∷ lasting Slt2 30000 90000
+    ∷ lasting L4e 400 600
     ∷ []
 
 -- how many ticks a timer runs, if there is one
@@ -83,7 +84,7 @@ each_key keys i (a ∷ rest) = keys i a ++ each_key keys (i + 1) rest
 
 -- a timer that lasts less or longer than the standard has it
 abbrev pub doubtful_timer : (tick_ms : ℕ) → TimerTicks → ℕ → TimeRange → List Key
-doubtful_timer tick_ms t i range = key_if (are_outside tick_ms range.1 range.2 (ticks_of t range.0)) (Timer range.0)
+doubtful_timer tick_ms t i range = key_if (are_outside tick_ms range.least_ms range.most_ms (ticks_of t range.timer)) (Timer range.timer)
 
 abbrev pub doubtful_timers_if : (clock : Option ℕ) → TimerTicks → List Key
 doubtful_timers_if None t = []

@@ -17,9 +17,8 @@ pub mod Values
 pub mod KnownKeys
 pub mod Mended
 pub mod Following
-pub mod AllFaults
+pub mod Noted
 pub mod TextPlaces
-pub mod PlacedSentences
 pub mod Warnings
 pub mod ServeKeys
 pub mod ServeFaults
@@ -35,4 +34,8 @@ pub mod Served
 pub mod ServedInside
 pub mod CaptureKeys
 pub mod ServeReading
+pub mod AllServeFaults
+pub mod ToldFaults
+pub mod AllFaults
+pub mod PlacedSentences
 pub mod Doubts

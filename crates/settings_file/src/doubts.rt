@@ -17,7 +17,7 @@ use crate::places::{about, value_at};
 use crate::ticks::tick_if_told;
 use settings::{Key, LinkRow, Settings};
 use std::alloc::{AllocError, Global};
-use toml::Table;
+use toml::{Table, Value};
 
 /// Warnings of values of one file, at most.
 pub const MOST_DOUBTS: usize = 20;
@@ -25,7 +25,7 @@ pub const MOST_DOUBTS: usize = 20;
 /// A warning for each of the first 20 values that are hardly meant, in the document of a settings file of version 4 of this
 /// name, which says these settings: timers that last less or longer than a standard has it, if the file's server says
 /// how long a tick is; shares above the pool; and points of titles that are neither destinations nor the node's own.
-/// Each ends with a line feed: `node.toml: timers.l1 is 45000, and Q.703 has 40 to 50 s`.
+/// Each ends with a line feed: `node.toml: timers.l1 is 45000, in ticks of 100 ms, and Q.703 has 40 to 50 s`.
 ///
 /// `AllocError` if memory ran out.
 pub fn value_warnings(
@@ -155,9 +155,26 @@ fn doubt(alloc: Global, file: &str, document: &Table, key: Key) -> Result<String
     };
     match value_at(document, &row) {
         Some(value) => {
-            let wrong = value_is(alloc, value, why)?;
+            let why = in_ticks(alloc, document, value, key, why)?;
+            let wrong = value_is(alloc, value, why.as_str())?;
             about(alloc, file, document, &row, wrong.as_str())
         }
         None => about(alloc, file, document, &row, why),
+    }
+}
+
+/// Why a value is hardly meant; of a number of ticks also how long they are.
+fn in_ticks(
+    alloc: Global,
+    document: &Table,
+    value: &Value,
+    key: Key,
+    why: &str,
+) -> Result<String, AllocError> {
+    match (key, value, tick_if_told(document)) {
+        (Key::Timer(_), Value::Integer(_), Some(tick_ms)) => {
+            format!(in alloc; "in ticks of {tick_ms} ms, {why}")
+        }
+        _ => String::from_str(alloc, why),
     }
 }

@@ -115,13 +115,6 @@ pub(crate) fn key_front(key: Key) -> &'static str
     key_row(key).front
 }
 
-/// The index of the entry of an array that a key is in.
-pub(crate) fn key_entry(key: Key) -> Option<usize>
-    ensures { result ≡ key_index key }
-{
-    key_row(key).entry
-}
-
 pub(crate) fn key_row(key: Key) -> KeyRow
     ensures { row_place result ≡ key_place key }
 {

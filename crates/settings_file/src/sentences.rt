@@ -1,9 +1,8 @@
 //! The sentence that says what is wrong with a settings file.
 
-ghost use Rattle.std.specs.Prelude.{◌≡◌, Some, IfOk, IfSome, string_bytes};
+ghost use Rattle.std.specs.Prelude.{◌≡◌, Some, IfOk, string_bytes};
 ghost use Rattle.settings.specs.declared.key.Key.{Key};
 ghost use Rattle.settings_file.specs.Sentences.{IsAbout, Names, key_of};
-ghost use Rattle.settings_file.specs.PlacedSentences.{AreSentences, IsSentence, IsPlaceOfKey, IsPlaceOfFault, placed};
 
 use crate::key_rows::{
     FAR_POINT_ALONE, INTEGER, KeyRow, POINT_ALONE, SHORT_NAME, TICKS_ALONE, key_row,
@@ -11,7 +10,6 @@ use crate::key_rows::{
 use crate::known_keys::{has_since, version_of};
 use crate::phrases::{missing, must_be, value_is};
 use crate::places::{about, value_at};
-use crate::text_places::{TextPlace, text_place};
 use crate::versions::Since;
 use crate::{SettingsFault, versions};
 use settings::{DraftFault, FaultKind, Key};
@@ -42,79 +40,6 @@ pub fn sentence(
     };
     let wrong = wrong(alloc, &row, value_at(document, &row), fault)?;
     about(alloc, file, document, &row, wrong.as_str())
-}
-
-/// The sentences that say what these faults are, in their order, in the document and the text of a settings file of this
-/// name, each with a line feed. In a file of version 4 the line and the column of the fault's key are behind the name:
-/// `node.toml:14:1: link[2] "e2": slc is 16, must be 0 to 15`. Where the key isn't in the text they are those of the
-/// table that it is missing in, if that is there.
-///
-/// `AllocError` if memory ran out.
-pub fn all_sentences(
-    alloc: Global,
-    file: &str,
-    text: &[u8],
-    document: &Table,
-    faults: &[SettingsFault],
-) -> Result<String, AllocError>
-    ensures { IfOk result (λ sentences. AreSentences file.now text.now faults.now (string_bytes sentences)) }
-{
-    let mut sentences = String::new(alloc);
-    for i in 0..faults.len() {
-        let placed = placed_sentence(alloc, file, text, document, faults[i])?;
-        sentences.push_str(placed.as_str())?;
-    }
-    Ok(sentences)
-}
-
-/// The sentence that says what this fault is, with the place of its key behind the file's name.
-fn placed_sentence(
-    alloc: Global,
-    file: &str,
-    text: &[u8],
-    document: &Table,
-    fault: SettingsFault,
-) -> Result<String, AllocError>
-    ensures { IfOk result (λ sentence. IsSentence file.now text.now fault (string_bytes sentence)) }
-{
-    match place_in(text, document, fault) {
-        Some(place) => sentence_at(alloc, file, place, document, fault),
-        None => sentence(alloc, file, document, fault),
-    }
-}
-
-/// The sentence that says what this fault is, with this place behind the file's name.
-fn sentence_at(
-    alloc: Global,
-    file: &str,
-    place: TextPlace,
-    document: &Table,
-    fault: SettingsFault,
-) -> Result<String, AllocError>
-    ensures names { IfOk result (λ sentence. Names (placed file.now place) (string_bytes sentence)) }
-    ensures key { IfOk result (λ sentence. (key : Key) → key_of fault ≡ Some key
-        → IsAbout (placed file.now place) key (string_bytes sentence)) }
-{
-    let TextPlace { line, column } = place;
-    let placed = format!(in alloc; "{file}:{line}:{column}")?;
-    sentence(alloc, placed.as_str(), document, fault)
-}
-
-/// The place of the key of this fault in the text of a file, if it is of version 4.
-fn place_in(text: &[u8], document: &Table, fault: SettingsFault) -> Option<TextPlace>
-    ensures { IfSome result (IsPlaceOfFault text.now fault) }
-{
-    if !has_additions(document) {
-        return None;
-    }
-    place_at(text, key_of(fault)?)
-}
-
-/// The place of this key in the text of a file.
-fn place_at(text: &[u8], key: Key) -> Option<TextPlace>
-    ensures { IfSome result (IsPlaceOfKey text.now key) }
-{
-    text_place(text, &key_row(key))
 }
 
 /// The key that a fault of a document is at.

@@ -2,9 +2,10 @@
 
 mod scanning;
 mod seeking;
+mod words;
 
 ghost use Rattle.std.specs.Prelude.{◌≡◌, ◌≤◌, ◌^◌, IfSome};
-ghost use Rattle.settings_file.specs.TextPlaces.{IsPlaceOf, IsPlaceOfPart, IsPlaceAround, StandsAt, first_place, place_after, place_behind};
+ghost use Rattle.settings_file.specs.TextPlaces.{are_before_name, are_behind_name, IsPlaceOf, IsPlaceOfPart, IsPlaceAround, StandsAt, first_place, place_after, place_behind};
 
 use crate::key_rows::KeyRow;
 use crate::text_places::scanning::Scanner;
@@ -41,7 +42,7 @@ impl TextPlace {
 }
 
 /// The place of a key of this row in the text of a settings file; or if the scan doesn't find it, that of the table or
-/// the entry that it is in. There the last name of its path stands, or a part of the path to it.
+/// the entry that it is in. There the last name of its path stands, or names of the path to it.
 ///
 /// It follows headers of tables, dotted keys, and braces of tables and of entries; of an entry in braces the place is where
 /// they open.
@@ -80,16 +81,43 @@ fn around_place(text: &[u8], path: &[u8], around: Around) -> Option<TextPlace>
     }
 }
 
-/// The place of a part of a path, if it stands there.
+/// The place of names of a path, if they stand there.
 fn part_place(text: &[u8], path: &[u8], part: Part) -> Option<TextPlace>
     ensures { IfSome result (IsPlaceOfPart text.now path.now) }
 {
-    let (_, behind) = path.split_at_checked(part.from)?;
-    let (word, _) = behind.split_at_checked(part.len)?;
+    let (before, behind) = path.split_at_checked(part.from)?;
+    let (word, rest) = behind.split_at_checked(part.len)?;
     if word.is_empty() {
         return None;
     }
+    if !are_before_name(before) {
+        return None;
+    }
+    if !are_behind_name(rest) {
+        return None;
+    }
     place_of(text, part.at, word)
+}
+
+/// Whether octets of a path end where a name begins.
+fn are_before_name(octets: &[u8]) -> bool
+    ensures { result ≡ are_before_name octets.now }
+{
+    let mut is = true;
+    for octet in octets {
+        is = *octet == b'.';
+    }
+    is
+}
+
+/// Whether octets of a path begin where a name ends.
+fn are_behind_name(octets: &[u8]) -> bool
+    ensures { result ≡ are_behind_name octets.now }
+{
+    match octets {
+        [] => true,
+        [octet, ..] => *octet == b'.',
+    }
 }
 
 /// The place of the octet at this index, if this word stands there.

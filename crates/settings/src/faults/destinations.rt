@@ -13,7 +13,7 @@ use crate::destinations::{are_names, has_name_twice, joined};
 use crate::faults::numbers::{behind, count_check, ensure_check, far_point_check, first};
 use crate::faults::points::SeenPoints;
 use crate::faults::sets::set_count_check;
-use crate::faults::told::Told;
+use crate::faults::told::tell;
 use crate::sets::set_place;
 use crate::{DestinationDraft, DraftFault, FaultKind, Key, SetDraft};
 use signalling_types::Limits;
@@ -83,37 +83,38 @@ fn joined_check(earlier: &[DestinationDraft], destination: &DestinationDraft) ->
 
 /// Tells the faults of a destination, after the destinations before it, whose points were seen.
 fn tell_destination(
-    told: &mut Told,
+    told: &mut Vec<DraftFault>,
     own: u16,
     sets: &[SetDraft],
     seen: &mut SeenPoints,
     earlier: &[DestinationDraft],
     destination: &DestinationDraft,
-)
+) -> Result<(), AllocError>
     requires { AreSeen seen.old earlier.now }
-    ensures told { told.new
-        ≡ tell_all told.old (destination_checks own sets.now earlier.now destination.now) }
+    ensures told { OnOk result (told.new.items
+        ≡ tell_all told.old.items (destination_checks own sets.now earlier.now destination.now)) }
     ensures seen { seen.new ≡ seen_with seen.old destination.now.point }
 {
     let key = Key::DestinationSets(earlier.len());
     let point = point_check(own, seen, earlier, destination);
     let names = set_list_check(sets, &destination.sets, key);
     let joined = joined_check(earlier, destination);
-    told.tell(point);
-    told.tell(names);
-    told.tell(behind(names, joined));
+    tell(told, point)?;
+    tell(told, names)?;
+    tell(told, behind(names, joined))?;
+    Ok(())
 }
 
 /// Tells the faults of each destination.
 fn tell_each(
     alloc: Global,
-    told: &mut Told,
+    told: &mut Vec<DraftFault>,
     own: u16,
     sets: &[SetDraft],
     destinations: &[DestinationDraft],
 ) -> Result<(), AllocError>
-    ensures { OnOk result (told.new
-        ≡ tell_all told.old (entries_checks (destination_checks own sets.now) [] destinations.now)) }
+    ensures { OnOk result (told.new.items
+        ≡ tell_all told.old.items (entries_checks (destination_checks own sets.now) [] destinations.now)) }
 {
     let mut seen = SeenPoints::none(alloc)?;
     for i in 0..destinations.len() {
@@ -124,7 +125,7 @@ fn tell_each(
             &mut seen,
             &destinations[..i],
             &destinations[i],
-        );
+        )?;
     }
     Ok(())
 }
@@ -133,16 +134,16 @@ fn tell_each(
 #[tactic(auto, unfolding(crate::specs::AllFaults::destinations_checks))]
 pub(crate) fn tell_destinations(
     alloc: Global,
-    told: &mut Told,
+    told: &mut Vec<DraftFault>,
     own: u16,
     sets: &[SetDraft],
     destinations: &[DestinationDraft],
 ) -> Result<(), AllocError>
     ensures { OnOk result
-        (told.new ≡ tell_all told.old (destinations_checks own sets.now destinations.now)) }
+        (told.new.items ≡ tell_all told.old.items (destinations_checks own sets.now destinations.now)) }
 {
     let count = count_check(destinations.len(), Limits::DESTINATIONS, Key::Destination);
-    told.tell(count);
+    tell(told, count)?;
     if count.is_some() {
         return Ok(());
     }

@@ -1,6 +1,6 @@
 //! The faults of links.
 
-ghost use Rattle.std.specs.Prelude.{◌≡◌, ◌≤◌, [], None, length};
+ghost use Rattle.std.specs.Prelude.{◌≡◌, ◌≤◌, [], None, length, OnOk};
 ghost use Rattle.settings.specs.Checks.{entries_checks};
 ghost use Rattle.settings.specs.FirstFault.{link_name_fault};
 ghost use Rattle.settings.specs.AllFaults.{set_count_fault, link_set_check, link_slc_check, link_checks, link_count_fault, links_checks};
@@ -10,12 +10,13 @@ use crate::faults::numbers::{
     behind, count_check, ensure_check, first, optional_check, range_check,
 };
 use crate::faults::sets::set_count_check;
-use crate::faults::told::Told;
+use crate::faults::told::tell;
 use crate::links::{has_link_code, has_link_named};
 use crate::names::{ensure_name, is_name};
 use crate::sets::set_place;
 use crate::{DraftFault, FaultKind, Key, LinkDraft, SetDraft};
 use signalling_types::Limits;
+use std::alloc::AllocError;
 
 /// The name of a link, after the links before it.
 fn name_check(earlier: &[LinkDraft], link: &LinkDraft) -> Option<DraftFault>
@@ -56,33 +57,52 @@ fn slc_check(sets: &[SetDraft], earlier: &[LinkDraft], link: &LinkDraft) -> Opti
 }
 
 /// Tells the faults of a link, after the links before it.
-fn tell_link(told: &mut Told, sets: &[SetDraft], earlier: &[LinkDraft], link: &LinkDraft)
-    ensures { told.new ≡ tell_all told.old (link_checks sets.now earlier.now link.now) }
+fn tell_link(
+    told: &mut Vec<DraftFault>,
+    sets: &[SetDraft],
+    earlier: &[LinkDraft],
+    link: &LinkDraft,
+) -> Result<(), AllocError>
+    ensures { OnOk result (told.new.items ≡ tell_all told.old.items (link_checks sets.now earlier.now link.now)) }
 {
     let share = Key::LinkShare(earlier.len());
-    told.tell(name_check(earlier, link));
-    told.tell(set_check(sets, earlier, link));
-    told.tell(slc_check(sets, earlier, link));
-    told.tell(optional_check(link.share, 1, Limits::POOL as u16, share));
+    tell(told, name_check(earlier, link))?;
+    tell(told, set_check(sets, earlier, link))?;
+    tell(told, slc_check(sets, earlier, link))?;
+    tell(
+        told,
+        optional_check(link.share, 1, Limits::POOL as u16, share),
+    )?;
+    Ok(())
 }
 
 /// Tells the faults of each link.
-fn tell_each(told: &mut Told, sets: &[SetDraft], links: &[LinkDraft])
-    ensures { told.new ≡ tell_all told.old (entries_checks (link_checks sets.now) [] links.now) }
+fn tell_each(
+    told: &mut Vec<DraftFault>,
+    sets: &[SetDraft],
+    links: &[LinkDraft],
+) -> Result<(), AllocError>
+    ensures { OnOk result (told.new.items ≡ tell_all told.old.items (entries_checks (link_checks sets.now) [] links.now)) }
 {
     for i in 0..links.len() {
-        tell_link(told, sets, &links[..i], &links[i]);
+        tell_link(told, sets, &links[..i], &links[i])?;
     }
+    Ok(())
 }
 
 /// Tells the faults of the links.
 #[tactic(auto, unfolding(crate::specs::AllFaults::links_checks))]
-pub(crate) fn tell_links(told: &mut Told, sets: &[SetDraft], links: &[LinkDraft])
-    ensures { told.new ≡ tell_all told.old (links_checks sets.now links.now) }
+pub(crate) fn tell_links(
+    told: &mut Vec<DraftFault>,
+    sets: &[SetDraft],
+    links: &[LinkDraft],
+) -> Result<(), AllocError>
+    ensures { OnOk result (told.new.items ≡ tell_all told.old.items (links_checks sets.now links.now)) }
 {
     let count = count_check(links.len(), Limits::LINKS, Key::Link);
-    told.tell(count);
+    tell(told, count)?;
     if count.is_none() {
-        tell_each(told, sets, links);
+        tell_each(told, sets, links)?;
     }
+    Ok(())
 }

@@ -10,7 +10,7 @@ ghost use Rattle.settings.specs.Told.{tell_all};
 
 use crate::digits::{added_digits, digits};
 use crate::faults::numbers::{behind, ensure_check, first, optional_check, range_check};
-use crate::faults::told::Told;
+use crate::faults::told::tell;
 use crate::titles::{TitleKey, is_by_title, title_key, title_numbers};
 use crate::{ChangeDraft, DraftFault, FaultKind, Key, TitleDraft};
 use indexmap::IndexSet;
@@ -69,12 +69,23 @@ fn digits_check(
 }
 
 /// Tells the faults of the translation type, the numbering plan and the nature of address of a row at this index.
-fn tell_numbers(told: &mut Told, place: usize, title: &TitleDraft)
-    ensures { told.new ≡ tell_all told.old (title_numbers_checks place title.now) }
+fn tell_numbers(
+    told: &mut Vec<DraftFault>,
+    place: usize,
+    title: &TitleDraft,
+) -> Result<(), AllocError>
+    ensures { OnOk result (told.new.items ≡ tell_all told.old.items (title_numbers_checks place title.now)) }
 {
-    told.tell(range_check(title.translation, 0, 255, Key::TitleTranslation(place)));
-    told.tell(range_check(title.plan, 0, 15, Key::TitlePlan(place)));
-    told.tell(range_check(title.nature, 0, 127, Key::TitleNature(place)));
+    tell(
+        told,
+        range_check(title.translation, 0, 255, Key::TitleTranslation(place)),
+    )?;
+    tell(told, range_check(title.plan, 0, 15, Key::TitlePlan(place)))?;
+    tell(
+        told,
+        range_check(title.nature, 0, 127, Key::TitleNature(place)),
+    )?;
+    Ok(())
 }
 
 /// The route of a row.
@@ -95,14 +106,28 @@ fn ssn_check(by_number: bool, ssn: Option<i64>, key: Key) -> Option<DraftFault>
 }
 
 /// Tells the faults of where a row at this index leads to.
-fn tell_target(told: &mut Told, place: usize, title: &TitleDraft)
-    ensures { told.new ≡ tell_all told.old (title_target_checks place title.now) }
+fn tell_target(
+    told: &mut Vec<DraftFault>,
+    place: usize,
+    title: &TitleDraft,
+) -> Result<(), AllocError>
+    ensures { OnOk result (told.new.items ≡ tell_all told.old.items (title_target_checks place title.now)) }
 {
     let by_number = title.route.as_str() == "ssn";
-    told.tell(range_check(title.point, 0, 16_383, Key::TitlePoint(place)));
-    told.tell(optional_check(title.backup, 0, 16_383, Key::TitleBackup(place)));
-    told.tell(route_check(title.route.as_str(), Key::TitleRoute(place)));
-    told.tell(ssn_check(by_number, title.ssn, Key::TitleSsn(place)));
+    tell(
+        told,
+        range_check(title.point, 0, 16_383, Key::TitlePoint(place)),
+    )?;
+    tell(
+        told,
+        optional_check(title.backup, 0, 16_383, Key::TitleBackup(place)),
+    )?;
+    tell(
+        told,
+        route_check(title.route.as_str(), Key::TitleRoute(place)),
+    )?;
+    tell(told, ssn_check(by_number, title.ssn, Key::TitleSsn(place)))?;
+    Ok(())
 }
 
 /// The digits that a row puts on in front of a title.
@@ -113,40 +138,61 @@ fn added_check(text: &str, key: Key) -> Option<DraftFault>
 }
 
 /// Tells the faults of how a row at this index changes titles.
-fn tell_change(told: &mut Told, place: usize, change: &ChangeDraft)
-    ensures { told.new ≡ tell_all told.old (title_change_checks place change.now) }
+fn tell_change(
+    told: &mut Vec<DraftFault>,
+    place: usize,
+    change: &ChangeDraft,
+) -> Result<(), AllocError>
+    ensures { OnOk result (told.new.items ≡ tell_all told.old.items (title_change_checks place change.now)) }
 {
     let most = Limits::TITLE_DIGITS as u16;
-    told.tell(optional_check(change.plan, 0, 15, Key::TitleNewPlan(place)));
-    told.tell(optional_check(change.nature, 0, 127, Key::TitleNewNature(place)));
-    told.tell(range_check(change.removed, 0, most, Key::TitleRemove(place)));
-    told.tell(added_check(change.added.as_str(), Key::TitleAdd(place)));
+    tell(
+        told,
+        optional_check(change.plan, 0, 15, Key::TitleNewPlan(place)),
+    )?;
+    tell(
+        told,
+        optional_check(change.nature, 0, 127, Key::TitleNewNature(place)),
+    )?;
+    tell(
+        told,
+        range_check(change.removed, 0, most, Key::TitleRemove(place)),
+    )?;
+    tell(
+        told,
+        added_check(change.added.as_str(), Key::TitleAdd(place)),
+    )?;
+    Ok(())
 }
 
 /// Tells the faults of a translation row, after the rows before it, which were seen.
 #[tactic(auto, unfolding(crate::specs::AllFaults::title_checks))]
 fn tell_title(
-    told: &mut Told,
+    told: &mut Vec<DraftFault>,
     seen: &mut IndexSet<TitleKey>,
     earlier: &[TitleDraft],
     title: &TitleDraft,
 ) -> Result<(), AllocError>
     requires { AreOf seen.old.keys earlier.now }
-    ensures told { OnOk result (told.new ≡ tell_all told.old (title_checks earlier.now title.now)) }
+    ensures told { OnOk result (told.new.items ≡ tell_all told.old.items (title_checks earlier.now title.now)) }
     ensures seen { OnOk result (AreOf seen.new.keys (earlier.now ++ title.now ∷ [])) }
 {
     let place = earlier.len();
     let digits = digits_check(seen, earlier, title)?;
-    tell_numbers(told, place, title);
-    told.tell(digits);
-    tell_target(told, place, title);
-    tell_change(told, place, &title.change);
+    tell_numbers(told, place, title)?;
+    tell(told, digits)?;
+    tell_target(told, place, title)?;
+    tell_change(told, place, &title.change)?;
     Ok(())
 }
 
 /// Tells the faults of each translation row.
-fn tell_each(alloc: Global, told: &mut Told, titles: &[TitleDraft]) -> Result<(), AllocError>
-    ensures { OnOk result (told.new ≡ tell_all told.old (entries_checks title_checks [] titles.now)) }
+fn tell_each(
+    alloc: Global,
+    told: &mut Vec<DraftFault>,
+    titles: &[TitleDraft],
+) -> Result<(), AllocError>
+    ensures { OnOk result (told.new.items ≡ tell_all told.old.items (entries_checks title_checks [] titles.now)) }
 {
     let mut seen = IndexSet::with_capacity(alloc, titles.len())?;
     for i in 0..titles.len() {
@@ -159,17 +205,17 @@ fn tell_each(alloc: Global, told: &mut Told, titles: &[TitleDraft]) -> Result<()
 #[tactic(auto, unfolding(crate::specs::AllFaults::titles_checks))]
 pub(crate) fn tell_titles(
     alloc: Global,
-    told: &mut Told,
+    told: &mut Vec<DraftFault>,
     titles: &[TitleDraft],
 ) -> Result<(), AllocError>
-    ensures { OnOk result (told.new ≡ tell_all told.old (titles_checks titles.now)) }
+    ensures { OnOk result (told.new.items ≡ tell_all told.old.items (titles_checks titles.now)) }
 {
     let count = ensure_check(
         titles.len() <= Limits::TITLES,
         FaultKind::TooMany,
         Key::Title,
     );
-    told.tell(count);
+    tell(told, count)?;
     if count.is_some() {
         return Ok(());
     }

@@ -1,7 +1,7 @@
 //! Timers that last less or longer than a standard has it.
 
 ghost use Rattle.std.specs.Prelude.{◌≡◌, ◌≤◌, ◌++◌, IfSome, OnOk};
-ghost use Rattle.settings_file.specs.Doubts.{time_ranges, ticks_of, are_outside, each_key, doubtful_timer, doubtful_timers_if};
+ghost use Rattle.settings_file.specs.Doubts.{lasting, time_ranges, ticks_of, are_outside, each_key, doubtful_timer, doubtful_timers_if};
 
 use crate::doubts::doubt_if;
 use crate::ticks::ticks_lasting;
@@ -11,30 +11,47 @@ use std::alloc::AllocError;
 /// How many timers have a range.
 const RANGED: usize = 16;
 
-/// A timer, and the shortest and the longest time that it lasts in the standard, in milliseconds.
-type TimeRange = (TimerKey, u32, u32);
+/// How long a timer lasts in the standard.
+#[derive(Clone, Copy)]
+struct TimeRange {
+    timer: TimerKey,
+    /// The shortest time, in milliseconds.
+    least_ms: u32,
+    /// The longest time, in milliseconds.
+    most_ms: u32,
+}
+
+fn lasting(timer: TimerKey, least_ms: u32, most_ms: u32) -> TimeRange
+    ensures { result ≡ lasting timer least_ms most_ms }
+{
+    TimeRange {
+        timer,
+        least_ms,
+        most_ms,
+    }
+}
 
 /// The timers with the ranges of Q.703 §12.3 at 64 kbit/s, Q.704 §16.8 and Q.707 §5.5.
 fn time_ranges() -> [TimeRange; RANGED]
     ensures { result ≡ time_ranges }
 {
     [
-        (TimerKey::L1, 40_000, 50_000),
-        (TimerKey::L2, 5_000, 150_000),
-        (TimerKey::L3, 1_000, 2_000),
-        (TimerKey::L4, 7_500, 9_500),
-        (TimerKey::L6, 3_000, 6_000),
-        (TimerKey::L7, 500, 2_000),
-        (TimerKey::T1, 500, 1_200),
-        (TimerKey::T2, 700, 2_000),
-        (TimerKey::T3, 500, 1_200),
-        (TimerKey::T4, 500, 1_200),
-        (TimerKey::T6, 500, 1_200),
-        (TimerKey::T8, 800, 1_200),
-        (TimerKey::T10, 30_000, 60_000),
-        (TimerKey::Slt1, 4_000, 12_000),
-        (TimerKey::Slt2, 30_000, 90_000),
-        (TimerKey::L4e, 400, 600),
+        lasting(TimerKey::L1, 40_000, 50_000),
+        lasting(TimerKey::L2, 5_000, 150_000),
+        lasting(TimerKey::L3, 1_000, 2_000),
+        lasting(TimerKey::L4, 7_500, 9_500),
+        lasting(TimerKey::L6, 3_000, 6_000),
+        lasting(TimerKey::L7, 500, 2_000),
+        lasting(TimerKey::T1, 500, 1_200),
+        lasting(TimerKey::T2, 700, 2_000),
+        lasting(TimerKey::T3, 500, 1_200),
+        lasting(TimerKey::T4, 500, 1_200),
+        lasting(TimerKey::T6, 500, 1_200),
+        lasting(TimerKey::T8, 800, 1_200),
+        lasting(TimerKey::T10, 30_000, 60_000),
+        lasting(TimerKey::Slt1, 4_000, 12_000),
+        lasting(TimerKey::Slt2, 30_000, 90_000),
+        lasting(TimerKey::L4e, 400, 600),
     ]
 }
 
@@ -108,9 +125,9 @@ fn doubt_timer(
     requires { 1 ≤ tick_ms }
     ensures { OnOk result (doubts.new.items ≡ doubts.old.items ++ doubtful_timer tick_ms ticks i range) }
 {
-    let (timer, low, high) = range;
-    let is = are_outside(tick_ms, low, high, ticks_of(ticks, timer));
-    doubt_if(is, doubts, Key::Timer(timer))
+    let ticks = ticks_of(ticks, range.timer);
+    let is = are_outside(tick_ms, range.least_ms, range.most_ms, ticks);
+    doubt_if(is, doubts, Key::Timer(range.timer))
 }
 
 /// The same of each of these timers.

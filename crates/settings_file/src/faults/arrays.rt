@@ -2,7 +2,8 @@
 
 ghost use Rattle.std.specs.Prelude.{◌≡◌, OnOk, map};
 ghost use Rattle.toml.specs.View.{view, table_view};
-ghost use Rattle.settings_file.specs.AllFaults.{all_noted, entry_checks_of, each_check, array_key, array_checks};
+ghost use Rattle.settings_file.specs.AllFaults.{entry_checks_of, each_check, array_key, array_checks};
+ghost use Rattle.settings_file.specs.Noted.{all_noted};
 ghost use Rattle.settings_file.specs.AllFaults.{titles_checks_in, arrays_checks};
 ghost use Rattle.settings_file.specs.NodeKeys.{found_at, entries_at};
 ghost use Rattle.settings_file.specs.declared.faults.arrays.Array.TheVariants.{Titles};

@@ -2,7 +2,8 @@
 
 ghost use Rattle.std.specs.Prelude.{◌≡◌, OnOk};
 ghost use Rattle.toml.specs.View.{view, table_view};
-ghost use Rattle.settings_file.specs.AllFaults.{set_checks_in, link_checks_in, destination_checks_in, title_checks_in, all_noted};
+ghost use Rattle.settings_file.specs.AllFaults.{set_checks_in, link_checks_in, destination_checks_in, title_checks_in};
+ghost use Rattle.settings_file.specs.Noted.{all_noted};
 ghost use Rattle.settings_file.specs.AllFaults.{title_key_checks, title_target_checks, title_change_checks};
 
 use crate::arrays::ssn;

@@ -3,7 +3,8 @@
 ghost use Rattle.std.specs.Prelude.{◌≡◌, ◌≤◌, OnOk, IfSome};
 ghost use Rattle.std.specs.Option.{option_map};
 ghost use Rattle.toml.specs.View.{table_view};
-ghost use Rattle.settings_file.specs.AllFaults.{leading_checks, service_checks, timer_keys, each_timer, timers_checks, all_noted};
+ghost use Rattle.settings_file.specs.AllFaults.{leading_checks, service_checks, timer_keys, each_timer, timers_checks};
+ghost use Rattle.settings_file.specs.Noted.{all_noted};
 
 use crate::fault::SettingsFault;
 use crate::faults::noting::note;

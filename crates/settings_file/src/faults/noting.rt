@@ -2,7 +2,8 @@
 
 ghost use Rattle.std.specs.Prelude.{◌≡◌, ◌≢◌, Err, IfOk, OnOk};
 ghost use Rattle.std.specs.Result.{result_unwrap_or};
-ghost use Rattle.settings_file.specs.AllFaults.{noted, fault_in};
+ghost use Rattle.settings_file.specs.AllFaults.{fault_in};
+ghost use Rattle.settings_file.specs.Noted.{noted};
 ghost use Rattle.settings_file.specs.Faults.{no_memory};
 
 use crate::fault::SettingsFault;
@@ -10,10 +11,7 @@ use settings::DraftFault;
 use std::alloc::AllocError;
 
 /// Notes a fault, if one was found. The error means that memory ran out.
-pub(crate) fn note(
-    faults: &mut Vec<SettingsFault>,
-    check: Option<SettingsFault>,
-) -> Result<(), AllocError>
+pub(crate) fn note<F: Drop>(faults: &mut Vec<F>, check: Option<F>) -> Result<(), AllocError>
     ensures { OnOk result (faults.new.items ≡ noted faults.old.items check) }
 {
     if let Some(fault) = check {

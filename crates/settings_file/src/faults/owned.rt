@@ -2,7 +2,8 @@
 
 ghost use Rattle.std.specs.Prelude.{◌≡◌, [], true, map, IfOk, OnOk, string_bytes};
 ghost use Rattle.toml.specs.View.{table_view};
-ghost use Rattle.settings_file.specs.AllFaults.{noted, fault_in};
+ghost use Rattle.settings_file.specs.AllFaults.{fault_in};
+ghost use Rattle.settings_file.specs.Noted.{noted};
 ghost use Rattle.settings_file.specs.Mended.{or_else};
 ghost use Rattle.settings_file.specs.NodeKeys.{name_at, names_at, text_at, optional_text_at, integers_if_any_at};
 

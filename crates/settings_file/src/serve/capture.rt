@@ -78,7 +78,7 @@ fn limits_in(
 
 /// How many octets a file may have.
 #[tactic(auto, unfolding(crate::specs::CaptureKeys::size_in))]
-fn size_in(value: &Value) -> Result<u64, ServeFault>
+pub(crate) fn size_in(value: &Value) -> Result<u64, ServeFault>
     ensures { result ≡ size_in (view value.now) }
 {
     match value.as_integer() {
@@ -128,7 +128,7 @@ fn unit_octets(unit: &[u8]) -> Option<u64>
 
 /// How many files there may be.
 #[tactic(auto, unfolding(crate::specs::CaptureKeys::files_in))]
-fn files_in(value: &Value) -> Result<u32, ServeFault>
+pub(crate) fn files_in(value: &Value) -> Result<u32, ServeFault>
     ensures { result ≡ files_in (view value.now) }
 {
     let files = integer_in(value, ServeFault::Kind(ServeKey::CaptureFiles))?;

@@ -1,13 +1,13 @@
 //! How the association of each link comes about.
 
-ghost use Rattle.std.specs.Prelude.{◌≡◌, [], length, map, true, IfOk, is_some};
+ghost use Rattle.std.specs.Prelude.{◌≡◌, [], map, true, IfOk};
 ghost use Rattle.std.specs.List.{list_any};
 ghost use Rattle.toml.specs.View.{view, table_view};
 ghost use Rattle.settings_file.specs.Addresses.{Spelling};
 ghost use Rattle.settings_file.specs.Faults.{Answers};
 ghost use Rattle.settings_file.specs.ServeFaults.{AnswersOrNoMemory};
-ghost use Rattle.settings_file.specs.Endpoints.{listens_on, is_taken, has_same_peer, has_source, have_source, listening_in, without, without_in, without_sctp, listen_in, connect_in};
-ghost use Rattle.settings_file.specs.Endpoints.{sctp_port_at, tries_at, port_fixed_at, apart, remote_in, endpoint_at, endpoint_in, endpoints_behind, links_at, endpoints_at};
+ghost use Rattle.settings_file.specs.Endpoints.{listens_on, is_taken, has_source, have_source, listening_in, without, without_in, without_sctp, listen_in, connect_in};
+ghost use Rattle.settings_file.specs.Endpoints.{endpoint_at, endpoint_in, endpoints_behind, links_at, endpoints_at};
 
 use crate::fault::SettingsFault;
 use crate::key_rows::key_name;
@@ -15,18 +15,14 @@ use crate::serve::address::{address_in, is_address_of};
 use crate::serve::fault::ServeFault;
 use crate::serve::hosts::from;
 use crate::serve::key::ServeKey;
-use crate::serve::keys::{found_at, truth_or};
-use crate::serve::paths::{addresses, behind_first, entries, first_or, others, reached};
-use crate::serve::sctp::Remote;
+use crate::serve::keys::found_at;
+use crate::serve::remotes::remote_in;
 use crate::serve::server::{Endpoint, OwnAddresses};
-use crate::shapes::{array_in, integer_in, table_in, value};
+use crate::shapes::{array_in, table_in, value};
 use settings::Key;
 use std::alloc::Global;
 use std::net::SocketAddr;
 use toml::{Table, Value};
-
-/// The SCTP port of an end if its key is left out: the registered one of M2PA.
-const M2PA_PORT: u16 = 3565;
 
 /// Whether one of these links listens on an address.
 fn is_link_on(links: &[Endpoint], address: SocketAddr) -> bool
@@ -45,17 +41,17 @@ fn is_taken(own: OwnAddresses, before: &[Endpoint], address: SocketAddr) -> bool
         || is_link_on(before, address)
 }
 
-/// Where the link after these listens, which is where nothing else does.
+/// Where link `i` listens, which is where nothing else does.
 #[tactic(auto, unfolding(crate::specs::Endpoints::listening_in))]
 fn listening_in(
     own: OwnAddresses,
     before: &[Endpoint],
+    i: usize,
     value: &Value,
 ) -> Result<SocketAddr, ServeFault>
-    ensures { (s : Spelling)
-        → result ≡ listening_in s own before.now (length before.now) (view value.now) }
+    ensures { (s : Spelling) → result ≡ listening_in s own before.now i (view value.now) }
 {
-    let key = ServeKey::LinkListen(before.len());
+    let key = ServeKey::LinkListen(i);
     let address = address_in(value, key)?;
     if is_taken(own, before, address) {
         return Err(ServeFault::Duplicate(key));
@@ -64,7 +60,7 @@ fn listening_in(
 }
 
 /// Refuses a key that a link may not have together with its other keys.
-fn without(link: &Table, key: ServeKey) -> Result<(), ServeFault>
+pub(crate) fn without(link: &Table, key: ServeKey) -> Result<(), ServeFault>
     ensures { result ≡ without key (table_view link.now) }
 {
     match found_at(link, key) {
@@ -96,20 +92,20 @@ fn without_sctp(is_fourth: bool, link: &Table, i: usize) -> Result<(), ServeFaul
     without_in(is_fourth, link, ServeKey::LinkAddresses(i))
 }
 
-/// Where the link after these listens, which has no other key of the three.
+/// Where link `i` listens, which has no other key of the three.
 #[tactic(auto, unfolding(crate::specs::Endpoints::listen_in))]
 fn listen_in(
     own: OwnAddresses,
     is_fourth: bool,
     before: &[Endpoint],
+    i: usize,
     link: &Table,
     value: &Value,
 ) -> Result<SocketAddr, ServeFault>
     ensures { (s : Spelling) → result
-        ≡ listen_in s own is_fourth before.now (length before.now) (table_view link.now) (view value.now) }
+        ≡ listen_in s own is_fourth before.now i (table_view link.now) (view value.now) }
 {
-    let i = before.len();
-    let address = listening_in(own, before, value)?;
+    let address = listening_in(own, before, i, value)?;
     without(link, ServeKey::LinkConnect(i))?;
     without_sctp(is_fourth, link, i)?;
     Ok(address)
@@ -130,107 +126,21 @@ fn connect_in(
     Ok(address)
 }
 
-#[tactic(auto, unfolding(crate::specs::Endpoints::sctp_port_at))]
-fn sctp_port(link: &Table, key: ServeKey) -> Result<u16, ServeFault>
-    ensures { result ≡ sctp_port_at key (table_view link.now) }
-{
-    let Some(value) = found_at(link, key) else {
-        return Ok(M2PA_PORT);
-    };
-    let port = integer_in(value, ServeFault::Kind(key))?;
-    match u16::try_from(port) {
-        Ok(port) if port > 0 => Ok(port),
-        _ => Err(ServeFault::Range(key)),
-    }
-}
-
-/// Whether an end sends INIT.
-#[tactic(auto, unfolding(crate::specs::Endpoints::tries_at))]
-fn tries(link: &Table, i: usize) -> Result<bool, ServeFault>
-    ensures { result ≡ tries_at i (table_view link.now) }
-{
-    truth_or(link, ServeKey::LinkTries(i), true)
-}
-
-/// Whether an INIT of the peer counts only from its UDP port.
-#[tactic(auto, unfolding(crate::specs::Endpoints::port_fixed_at))]
-fn port_fixed(is_fourth: bool, link: &Table, i: usize) -> Result<bool, ServeFault>
-    ensures { result ≡ port_fixed_at is_fourth i (table_view link.now) }
-{
-    if !is_fourth {
-        return Ok(false);
-    }
-    truth_or(link, ServeKey::LinkRemotePortFixed(i), false)
-}
-
-fn has_peer(links: &[Endpoint], remote: &Remote) -> bool
-    ensures { result ≡ list_any (has_same_peer remote.now) links.now }
-{
-    links.iter().any(|link| link.has_peer(remote))
-}
-
-/// Refuses a peer that one of these links has.
-#[tactic(auto, unfolding(crate::specs::Endpoints::apart))]
-fn apart(before: &[Endpoint], remote: &Remote) -> Result<(), ServeFault>
-    ensures { result ≡ apart before.now (length before.now) remote.now }
-{
-    if has_peer(before, remote) {
-        return Err(ServeFault::Duplicate(ServeKey::LinkRemote(before.len())));
-    }
-    Ok(())
-}
-
-/// The link after these over SCTP, whose peer is where this value says.
-#[tactic(auto, unfolding(crate::specs::Endpoints::remote_in))]
-fn remote_in(
-    own: OwnAddresses,
-    is_fourth: bool,
-    before: &[Endpoint],
-    link: &Table,
-    value: &Value,
-) -> Result<Remote, ServeFault>
-    ensures value { (s : Spelling) → result
-        ≡ remote_in s own is_fourth before.now (length before.now) (table_view link.now) (view value.now) }
-    ensures source { IfOk result (λ _. is_some own.udp ≡ true) }
-{
-    let i = before.len();
-    let entries = entries(is_fourth, value);
-    let told = address_in(first_or(value, entries), ServeKey::LinkRemote(i))?;
-    let address = reached(own.udp, i, told)?;
-    let others = others(own.udp, i, address, behind_first(entries))?;
-    let own_port = sctp_port(link, ServeKey::LinkSctpPort(i))?;
-    let far_port = sctp_port(link, ServeKey::LinkRemoteSctpPort(i))?;
-    let tries = tries(link, i)?;
-    let is_port_fixed = port_fixed(is_fourth, link, i)?;
-    let addresses = addresses(is_fourth, link, i)?;
-    let remote = Remote {
-        address,
-        others,
-        addresses,
-        own_port,
-        far_port,
-        tries,
-        is_port_fixed,
-    };
-    apart(before, &remote)?;
-    Ok(remote)
-}
-
-/// How the association of the link after these comes about, whose table this is.
+/// How the association of link `i` comes about, whose table this is, beside those of these links.
 #[tactic(auto, unfolding(crate::specs::Endpoints::endpoint_at))]
-fn endpoint_at(
+pub(crate) fn endpoint_at(
     own: OwnAddresses,
     is_fourth: bool,
     before: &[Endpoint],
+    i: usize,
     link: &Table,
 ) -> Result<Endpoint, ServeFault>
     ensures value { (s : Spelling) → result
-        ≡ endpoint_at s own is_fourth before.now (length before.now) (table_view link.now) }
+        ≡ endpoint_at s own is_fourth before.now i (table_view link.now) }
     ensures source { IfOk result (λ e. has_source own.udp e ≡ true) }
 {
-    let i = before.len();
     if let Some(value) = found_at(link, ServeKey::LinkListen(i)) {
-        let address = listen_in(own, is_fourth, before, link, value)?;
+        let address = listen_in(own, is_fourth, before, i, link, value)?;
         let host = from(is_fourth, link, i)?;
         return Ok(Endpoint::Listen(address, host));
     }
@@ -241,7 +151,7 @@ fn endpoint_at(
     }
     match found_at(link, ServeKey::LinkRemote(i)) {
         Some(value) => {
-            let remote = remote_in(own, is_fourth, before, link, value)?;
+            let remote = remote_in(own, is_fourth, before, i, link, value)?;
             Ok(Endpoint::Remote(remote))
         }
         None => Err(ServeFault::Missing(ServeKey::LinkListen(i))),
@@ -259,9 +169,10 @@ fn endpoint_in(
     ensures value { (s : Spelling) → result ≡ endpoint_in s own is_fourth before.now (view value.now) }
     ensures source { IfOk result (λ e. has_source own.udp e ≡ true) }
 {
-    let entry = Key::LinkEntry(before.len());
-    let link = table_in(value, ServeFault::Settings(SettingsFault::Kind(entry)))?;
-    endpoint_at(own, is_fourth, before, link)
+    let i = before.len();
+    let entry = ServeFault::Settings(SettingsFault::Kind(Key::LinkEntry(i)));
+    let link = table_in(value, entry)?;
+    endpoint_at(own, is_fourth, before, i, link)
 }
 
 /// How the association of each of the links comes about.
@@ -285,7 +196,7 @@ fn each_endpoint(
 
 /// The links of a file.
 #[tactic(auto, unfolding(crate::specs::Endpoints::links_at))]
-fn links(table: &Table) -> Result<&[Value], ServeFault>
+pub(crate) fn links(table: &Table) -> Result<&[Value], ServeFault>
     ensures { Answers (λ links. map view links.now) (links_at (table_view table.now)) result }
 {
     let missing = ServeFault::Settings(SettingsFault::Missing(Key::Link));

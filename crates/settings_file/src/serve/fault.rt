@@ -1,10 +1,16 @@
 //! What is wrong with the settings of a server.
 
+ghost use Rattle.std.specs.Option.{option_map};
 ghost use Rattle.std.specs.Prelude.{◌≡◌, Some};
+ghost use Rattle.settings_file.specs.Places.{row_place};
 ghost use Rattle.settings_file.specs.ServeFaults.{fault_line, fault_of};
+ghost use Rattle.settings_file.specs.ServeSentences.{place_of};
 
 use crate::fault::SettingsFault;
+use crate::key_rows::KeyRow;
+use crate::sentences::key_of;
 use crate::serve::key::ServeKey;
+use crate::serve::key_rows::key_row;
 use settings::DraftFault;
 use std::alloc::{AllocError, AllocFailed};
 use std::error::Error;
@@ -32,6 +38,23 @@ pub enum ServeFault {
     Duplicate(ServeKey),
     /// Memory ran out.
     NoMemory,
+}
+
+/// The row of the key that a fault is at, if it is at one.
+pub(crate) fn row_of(fault: ServeFault) -> Option<KeyRow>
+    ensures { option_map row_place result ≡ place_of fault }
+{
+    match fault {
+        ServeFault::Settings(found) => {
+            let key = key_of(found)?;
+            Some(crate::key_rows::key_row(key))
+        }
+        ServeFault::Missing(key)
+        | ServeFault::Kind(key)
+        | ServeFault::Range(key)
+        | ServeFault::Duplicate(key) => Some(key_row(key)),
+        ServeFault::NoMemory => None,
+    }
 }
 
 impl fmt::Display for ServeFault {

@@ -45,7 +45,7 @@ const USUAL: SctpTimes = SctpTimes {
 };
 
 /// The times and tries if a file says nothing of them.
-fn usual_times(is_fourth: bool) -> SctpTimes
+pub(crate) fn usual_times(is_fourth: bool) -> SctpTimes
     ensures value { result ≡ usual_times is_fourth }
     ensures within { AreWithin result }
 {
@@ -68,7 +68,7 @@ struct Limits {
 }
 
 /// A timeout of the table `sctp`, in milliseconds.
-fn timeout(table: Option<&Table>, key: ServeKey, usual: u32) -> Result<u32, ServeFault>
+pub(crate) fn timeout(table: Option<&Table>, key: ServeKey, usual: u32) -> Result<u32, ServeFault>
     requires above { 10 ≤ usual }
     requires below { usual ≤ 60000 }
     ensures value { result
@@ -85,7 +85,7 @@ fn timeout(table: Option<&Table>, key: ServeKey, usual: u32) -> Result<u32, Serv
 }
 
 /// A number of tries of the table `sctp`.
-fn tries(table: Option<&Table>, key: ServeKey, usual: u32) -> Result<u32, ServeFault>
+pub(crate) fn tries(table: Option<&Table>, key: ServeKey, usual: u32) -> Result<u32, ServeFault>
     requires above { 1 ≤ usual }
     requires below { usual ≤ 100 }
     ensures value { result
@@ -102,7 +102,7 @@ fn tries(table: Option<&Table>, key: ServeKey, usual: u32) -> Result<u32, ServeF
 }
 
 /// The time between heartbeats of the table `sctp`, in milliseconds.
-fn heartbeat(table: Option<&Table>, usual: u32) -> Result<u32, ServeFault>
+pub(crate) fn heartbeat(table: Option<&Table>, usual: u32) -> Result<u32, ServeFault>
     requires above { 100 ≤ usual }
     requires below { usual ≤ 600000 }
     ensures value { result ≡ heartbeat_at usual (option_map (λ table. table_view table.now) table.entry) }
@@ -195,7 +195,7 @@ fn times_in(table: Option<&Table>, usual: SctpTimes) -> Result<SctpTimes, ServeF
 
 /// The table `sctp` of `serve`, if there is one.
 #[tactic(auto, unfolding(crate::specs::Times::sctp_at))]
-fn sctp_in(serve: &Table) -> Result<Option<&Table>, ServeFault>
+pub(crate) fn sctp_in(serve: &Table) -> Result<Option<&Table>, ServeFault>
     ensures { Answers (λ sctp. option_map (λ table. table_view table.now) sctp) (sctp_at (table_view serve.now)) result }
 {
     match found_at(serve, ServeKey::Sctp) {

@@ -1,7 +1,7 @@
 //! Which of the words of a settings file is a key.
 
 use crate::key_rows::KeyRow;
-use crate::text_places::scanning::{Word, WordKind};
+use crate::text_places::words::{Word, WordKind};
 
 /// A part of the path of a key, and where it stands in the text.
 #[derive(Clone, Copy)]

@@ -7,5 +7,5 @@ use Rattle.settings.proofs.faults.tell_all.Goals as goal
 pub returns : goal.returns
 returns c =
     let fits : SFits w64 c.args.draft.now.own = search rules in
-    all_told c.args.told.now c.tell_scalars.new.told c.tell_lists.new.told c.tell_timers.new.told c.tell_arrays.new.told c.args.draft.now c.own_point.result
-    (c.own_point.ensures ∙ ap own_point (to_z-of_z _ _ fits)) c.tell_scalars.ensures c.in_ok-tell_lists.ensures c.tell_timers.ensures c.in_ok-tell_arrays.ensures
+    all_told c.args.told.now.items _ _ _ _ c.args.draft.now c.own_point.result
+    (c.own_point.ensures ∙ ap own_point (to_z-of_z _ _ fits)) c.in_ok-tell_scalars.ensures c.in_ok-tell_lists.ensures c.in_ok-tell_timers.ensures c.in_ok-tell_arrays.ensures

@@ -5,9 +5,9 @@ use Rattle.settings.proofs.faults.sets.tell_unreached.Goals as goal
 pub loop-i-preserved : goal.loop-i-preserved
 loop-i-preserved c =
     let l : c.loop-i.i < length c.args.sets.now = omega (arith, c.loop-i-test.true) in
-    told_entry (reached_checks c.args.destinations.now) c.args.sets.now c.loop-i.i c.index-sets-i.result _ _ _ _ l c.index-sets-i.is c.tell_unreached_set.ensures c.loop-i.invariant
+    told_entry (reached_checks c.args.destinations.now) c.args.sets.now c.loop-i.i c.index-sets-i.result _ _ _ _ l c.index-sets-i.is c.in_ok-tell_unreached_set.ensures c.loop-i.invariant
 
 pub returns : goal.returns
 returns c =
     let l : length c.args.sets.now ≤ c.loop-i.i = omega (arith, c.loop-i-test.false) in
-    told_all (reached_checks c.args.destinations.now) c.args.sets.now c.loop-i.i c.loop-i.told _ l c.loop-i.invariant
+    told_all (reached_checks c.args.destinations.now) c.args.sets.now c.loop-i.i _ _ l c.loop-i.invariant

@@ -2,4 +2,4 @@ use Rattle.settings.proofs.Basics.{◌≡◌, [], take, drop, entries_checks, ti
 use Rattle.settings.proofs.faults.timers.tell_each.Given as goal
 
 abbrev pub invariant-loop-i : goal.invariant-loop-i
-invariant-loop-i l = tell_all l.told (entries_checks ticks_checks (take l.i l.timers) (drop l.i l.timers)) ≡ tell_all l.fn.told (entries_checks ticks_checks [] l.timers)
+invariant-loop-i l = tell_all l.told.items (entries_checks ticks_checks (take l.i l.timers) (drop l.i l.timers)) ≡ tell_all l.fn.told.items (entries_checks ticks_checks [] l.timers)

@@ -1,6 +1,6 @@
-use Rattle.settings.proofs.Basics.{◌<◌, ◌≤◌, ◌+◌, length, take, arith, subst, title_checks, AreOf}
-use Rattle.settings.proofs.Seen.{seen_more, one_more}
-use Rattle.settings.proofs.Telling.{told_entry, told_all}
+use Rattle.settings.proofs.Basics.{◌<◌, length, arith, subst, title_checks, AreOf}
+use Rattle.settings.proofs.Seen.{one_more}
+use Rattle.settings.proofs.Telling.{told_entry}
 use Rattle.settings.proofs.faults.titles.tell_each.Goals as goal
 
 pub loop-i-preserved : goal.loop-i-preserved

@@ -4,5 +4,5 @@ use Rattle.settings.proofs.faults.titles.tell_each.Given as goal
 abbrev pub invariant-loop-i : goal.invariant-loop-i
 invariant-loop-i l = record {
   seen : AreOf l.seen.keys (take l.i l.titles);
-  told : tell_all l.told (entries_checks title_checks (take l.i l.titles) (drop l.i l.titles)) ≡ tell_all l.fn.told (entries_checks title_checks [] l.titles);
+  told : tell_all l.told.items (entries_checks title_checks (take l.i l.titles) (drop l.i l.titles)) ≡ tell_all l.fn.told.items (entries_checks title_checks [] l.titles);
 }

@@ -1,5 +1,6 @@
 use Rattle.settings_file.proofs.Basics.{◌≡◌, drop, map, view}
-use Rattle.settings_file.specs.AllFaults.{all_noted, each_check, entry_checks_of}
+use Rattle.settings_file.specs.AllFaults.{each_check, entry_checks_of}
+use Rattle.settings_file.specs.Noted.{all_noted}
 use Rattle.settings_file.proofs.faults.arrays.note_each.Given as goal
 
 abbrev pub invariant-loop-i : goal.invariant-loop-i
