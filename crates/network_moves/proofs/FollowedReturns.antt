@@ -1,7 +1,7 @@
 -- Moves of a link that opens are followed, and those that break a node outside a group are none to it.
 use Rattle.network_moves.proofs.Basics.{◌≡◌, ◌≢◌, ℕ, Bool, true, false, not, ◌&&◌, ◌||◌, ◌≤◌, ◌^◌, [], ◌∷◌, ◌++◌, count_by, nat_eq, nat_lt, drop, refl, ap, sym, ◌∙◌, subst, arith, if◌then◌else◌, ⊎_elim, cases_eq}
 use Rattle.network_moves.proofs.Definitions.{Message, Near, Far, Saying, UserMessage, Order, Answer, Other, one_if, LinkEnd, Line, Node, Network, Shape, Place, line_at, point_at, node_at, Gone, MayOpen, with_wait, with_completion, opened_first, opened_second, with_service, closed_line, OpensFirst, OpensSecond, Enters, Breaks, ReleasesBar, HearsUnreasonableOrder, HearsUnreasonableAnswer}
-use Rattle.network_moves.specs.Returning.{Strays, StartsAgain, restarted, strayed}
+use Rattle.network_moves.specs.Returning.{GivesUpFollowing, Strays, StartsAgain, restarted, strayed, unled}
 use Rattle.network_moves.specs.Groups.{says_of_group}
 use Rattle.network_moves.specs.Sayings.{is_elsewhere, saying}
 use Rattle.network_moves.specs.Moves as moves
@@ -98,6 +98,15 @@ module _ (shape : Shape) (read : Message → Saying) (group : ℕ → Bool) (for
       breaking m.place _ _ m.after
       (apart-line shape read group for_group p q m.place (with_wait y false) _ m.after.lines m.after.here m.after.others
       (λ out g. apart-less shape read group for_group m.place (with_wait y false) y (record { near = l.near; far = l.far; to_far = l.to_far; to_near = l.to_near }) g)
+      (λ g none out. none) a)
+
+  pub follows-gives_up_following : GivesUpFollowing shape read p q → Follows shape read group for_group q k
+  follows-gives_up_following m =
+      let y : Line = line_at p m.place in
+      let l : IsLess shape read group for_group y y = same-lines shape read group for_group p q k a h m.place in
+      breaking m.place _ _ m.after
+      (apart-line shape read group for_group p q m.place (unled y) _ m.after.lines m.after.here m.after.others
+      (λ out g. apart-less shape read group for_group m.place (unled y) y (record { near = l.near; far = l.far; to_far = l.to_far; to_near = l.to_near }) g)
       (λ g none out. none) a)
 
   pub follows-unreasonable_order : HearsUnreasonableOrder shape read p q → Follows shape read group for_group q k

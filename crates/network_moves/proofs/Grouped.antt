@@ -16,7 +16,7 @@ use Rattle.network_moves.proofs.Following.{last-append, moves-append, Follows, b
 use Rattle.network_moves.proofs.FollowedNodes.{follows-submits, follows-makes, follows-ends, follows-gives_up, follows-discards, follows-places}
 use Rattle.network_moves.proofs.FollowedFrames.{follows-sends_status, follows-sends_message, follows-sends_empty, follows-hears_status, follows-takes_status, follows-doubles_status, follows-drops, follows-takes_empty, follows-takes_message}
 use Rattle.network_moves.proofs.FollowedFailures.{follows-falls, follows-orders, follows-completes_by_order, follows-answers_order, follows-completes_by_answer, follows-ends_wait, follows-completes_by_time}
-use Rattle.network_moves.proofs.FollowedReturns.{follows-opens_first, follows-opens_second, follows-enters, follows-releases_bar, follows-unreasonable_order, follows-unreasonable_answer, follows-strays, follows-starts_again}
+use Rattle.network_moves.proofs.FollowedReturns.{follows-opens_first, follows-opens_second, follows-enters, follows-releases_bar, follows-gives_up_following, follows-unreasonable_order, follows-unreasonable_answer, follows-strays, follows-starts_again}
 
 module _ (shape : Shape) (read : Message → Saying) (group : ℕ → Bool) (for_group : Message → Bool) where
   -- ---- one move
@@ -48,6 +48,7 @@ module _ (shape : Shape) (read : Message → Saying) (group : ℕ → Bool) (for
   follows c p q k a h (moves.opens_second m) = follows-opens_second shape read group for_group p q k a h m
   follows c p q k a h (moves.enters m) = follows-enters shape read group for_group p q k a h m
   follows c p q k a h (moves.releases_bar m) = follows-releases_bar shape read group for_group p q k a h m
+  follows c p q k a h (moves.gives_up_following m) = follows-gives_up_following shape read group for_group p q k a h m
   follows c p q k a h (moves.hears_unreasonable_order m) = follows-unreasonable_order shape read group for_group p q k a h m
   follows c p q k a h (moves.hears_unreasonable_answer m) = follows-unreasonable_answer shape read group for_group p q k a h m
   follows c p q k a h (moves.strays m) = follows-strays shape read group for_group p q k a h m
@@ -116,6 +117,7 @@ module _ (shape : Shape) (read : Message → Saying) (group : ℕ → Bool) (for
   lasts p q (moves.opens_second m) = still p q m.after.broken
   lasts p q (moves.enters m) = still p q m.after.broken
   lasts p q (moves.releases_bar m) = still-one p q (point_at shape m.place) m.after.broken m.after.others_broken
+  lasts p q (moves.gives_up_following m) = still-one p q (point_at shape m.place) m.after.broken m.after.others_broken
   lasts p q (moves.hears_unreasonable_order m) = still-one p q (point_at shape m.place) m.after.broken m.after.others_broken
   lasts p q (moves.hears_unreasonable_answer m) = still-one p q (point_at shape m.place) m.after.broken m.after.others_broken
   lasts p q (moves.strays m) = still-one p q (point_at shape m.place) m.after.broken m.after.others_broken

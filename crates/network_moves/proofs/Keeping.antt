@@ -49,6 +49,7 @@ module _ (shape : Shape) (read : Message → Saying) where
   kept p q (moves.opens_second m) = step p q m.after.broken (sound-opens_second shape read p q m)
   kept p q (moves.enters m) = step p q m.after.broken (sound-enters shape read p q m)
   kept p q (moves.releases_bar m) = λ h. broken (point_at shape m.place) m.after.broken
+  kept p q (moves.gives_up_following m) = λ h. broken (point_at shape m.place) m.after.broken
   kept p q (moves.hears_unreasonable_order m) = λ h. broken (point_at shape m.place) m.after.broken
   kept p q (moves.hears_unreasonable_answer m) = λ h. broken (point_at shape m.place) m.after.broken
   kept p q (moves.strays m) = λ h. broken (point_at shape m.place) m.after.broken

@@ -420,6 +420,11 @@ module _ (shape : Shape) (read : Message → Saying) where
     lasts-move (moves.releases_bar m) =
         let y : Line = line_at p m.place in
         by-break m.place _ _ m.after (with-end y _ refl (end-waits y.near false (λ e. false_is_true e) (here-line m.place).near) (here-line m.place)) (here-bag m.place)
+    lasts-move (moves.gives_up_following m) =
+        let l : LastsLine (line_at p m.place) = here-line m.place in
+        by-break m.place _ _ m.after
+        (record { near = l.near; far = l.far; near_plain = l.near_plain; far_plain = l.far_plain; to_far = l.to_far; to_near = l.to_near })
+        (here-bag m.place)
     lasts-move (moves.hears_unreasonable_order m) =
         let y : Line = line_at p m.place in
         by-break m.place _ _ m.after (completed-line m.place Gone y.near.awaited gone-over m.incomplete)

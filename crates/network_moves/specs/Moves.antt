@@ -9,7 +9,7 @@ use Rattle.network_moves.specs.Carrying.{Drops, TakesEmpty, TakesMessage}
 use Rattle.network_moves.specs.Failing.{Falls, Orders, CompletesByOrder, AnswersOrder, CompletesByAnswer, EndsWait}
 use Rattle.network_moves.specs.Failing.{CompletesByTime}
 use Rattle.network_moves.specs.Returning.{OpensFirst, OpensSecond, Enters}
-use Rattle.network_moves.specs.Returning.{ReleasesBar, HearsUnreasonableOrder, HearsUnreasonableAnswer, Strays, StartsAgain}
+use Rattle.network_moves.specs.Returning.{ReleasesBar, GivesUpFollowing, HearsUnreasonableOrder, HearsUnreasonableAnswer, Strays, StartsAgain}
 
 module _ (shape : Shape) (read : Message → Saying) where
   -- a move of one node, with the ends of its links
@@ -40,6 +40,7 @@ module _ (shape : Shape) (read : Message → Saying) where
     opens_second : OpensSecond shape p q → Move p q
     enters : Enters shape p q → Move p q
     releases_bar : ReleasesBar shape read p q → Move p q
+    gives_up_following : GivesUpFollowing shape read p q → Move p q
     hears_unreasonable_order : HearsUnreasonableOrder shape read p q → Move p q
     hears_unreasonable_answer : HearsUnreasonableAnswer shape read p q → Move p q
     strays : Strays shape read p q → Move p q

@@ -29,7 +29,7 @@ module _ (shape : Shape) (read : Message → Saying) (p q : Network) where
     pub other : read message ≡ Other
     pub after : NodeBecomes shape p q point (record (p.node point) { bag = message ∷ (p.node point).bag })
 
-  -- a user message is received by the node, or refused by name (Q.704 §2.3)
+  -- a user message is received by the node, or refused by name (Q.704 §2.4)
   pub record Ends : Type 0 where
     pub point : ℕ
     pub message : Message

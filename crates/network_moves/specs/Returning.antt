@@ -77,6 +77,10 @@ strayed z to_far told_far follows = record (restarted z) {
   far_may_follow = follows;
 }
 
+-- a line whose near end may not follow the far one
+abbrev pub unled : Line → Line
+unled z = record z { near_may_follow = false }
+
 -- an end may open again: it is down, its changeover is complete, and no answer is awaited for it
 pub record MayOpen (x : LinkEnd) : Type 0 where
   pub down : x.up ≡ false
@@ -130,6 +134,11 @@ module _ (shape : Shape) (read : Message → Saying) (p q : Network) where
     pub place : Place
     pub awaited : (line_at p place).near.awaited ≡ true
     pub after : Breaks shape p q place (with_wait (line_at p place) false) (node_at shape p place)
+
+  -- an end gives up following the other one, which may be up for long, and have sent
+  pub record GivesUpFollowing : Type 0 where
+    pub place : Place
+    pub after : Breaks shape p q place (unled (line_at p place)) (node_at shape p place)
 
   -- an order has a number that no count has: its changeover is complete without one (Q.704 §5.6). What notices of loss
   -- name then doesn't matter, since the node is broken

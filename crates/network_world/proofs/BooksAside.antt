@@ -8,7 +8,7 @@ use Rattle.exchange_rules.specs.declared.wants.Wants.{Wants}
 use Rattle.exchange_rules.specs.declared.wants.Wants.TheVariants as wants
 use Rattle.exchange_rules.specs.Exchange.{frame_to_take, wants_of}
 use Rattle.exchange_rules.specs.Queues.{whole}
-use Rattle.pair_rules.specs.Pairs.{Doing, Submits, Takes, Delivers, DeliversStatus, LosesStatus, DoublesStatus, Loses, Ticks, Activates, Deactivates, Releases, AddsTitle, RemovesTitle, OpensFirst, OpensSecond, Streams, in_flight, may_follow, with_status_twice, without_data, without_status}
+use Rattle.pair_rules.specs.Pairs.{Doing, Submits, Takes, Delivers, DeliversStatus, LosesStatus, DoublesStatus, Loses, Ticks, Activates, Deactivates, Releases, AddsTitle, SetsTitle, RemovesTitle, OpensFirst, OpensSecond, Streams, in_flight, may_follow, with_status_twice, without_data, without_status}
 use Rattle.network_rules.specs.Anew.{Change, GivesUp, Restarts, Steps, after_all, after_change, begun_anew, given_up, restarted}
 use Rattle.network_rules.specs.Networks.{NetworkNode, NetworkState, Place, change_statuses, changed, comes_up, deliver_frame, did, did_here, end_of, is_led, may_open_there, opens_first, opens_second, other_end, place_there, reaches, sends, take_frame}
 
@@ -47,6 +47,7 @@ here-same (Activates link emergency) x = refl
 here-same (Deactivates link) x = refl
 here-same (Releases link) x = refl
 here-same (AddsTitle row is_memory_refused) x = refl
+here-same (SetsTitle row is_memory_refused) x = refl
 here-same (RemovesTitle key digits) x = refl
 here-same (OpensSecond link) x = followed (wants_of x.exchange link) (may_follow (end_of x) link) link x
 here-same (Takes link) x = refl
@@ -148,6 +149,7 @@ module _ (w : NetworkState) where
   did-same (Deactivates link) point = here (Deactivates link) point
   did-same (Releases link) point = here (Releases link) point
   did-same (AddsTitle row refused) point = here (AddsTitle row refused) point
+  did-same (SetsTitle row refused) point = here (SetsTitle row refused) point
   did-same (RemovesTitle key digits) point = here (RemovesTitle key digits) point
   did-same (OpensSecond link) point = here (OpensSecond link) point
 

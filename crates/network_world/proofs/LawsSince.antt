@@ -1,14 +1,13 @@
 -- What a network promises since its books began anew.
 use Rattle.std.specs.Prelude.{All}
-use Rattle.std.proofs.lemmas.List.Elements.{All-head, All-tail}
-use Rattle.std.proofs.Common.{◌≡◌, ◌<◌, ℕ, List, [], ◌∷◌, length, refl, ap, sym, subst, ◌∙◌}
+use Rattle.std.proofs.Common.{◌≡◌, ◌<◌, ℕ, List, length, ap, sym, subst, ◌∙◌}
 use Rattle.settings.specs.Configuration.{Configuration}
 use Rattle.settings.specs.Sharing.{SharesSet}
 use Rattle.exchange_rules.specs.Routing.{peer_of}
 use Rattle.pair_rules.specs.Sharing.{AreSharing}
 use Rattle.neighbour_rules.specs.Anew.{IsQuietPair, LostNothingSince}
-use Rattle.network_rules.specs.Anew.{BothKeep, Change, GivesUp, HaveLostNothingSince, HoldBetween, HoldThroughout, IsQuietNetwork, IsStepOrThird, Restarts, Steps, after_all, begun_anew}
-use Rattle.network_rules.specs.Networks.{NetworkState, Step, after_step, after_steps, first_network}
+use Rattle.network_rules.specs.Anew.{BothKeep, Change, HaveLostNothingSince, HoldBetween, HoldThroughout, IsQuietNetwork, IsStepOrThird, after_all, begun_anew}
+use Rattle.network_rules.specs.Networks.{NetworkState, first_network}
 use Rattle.network_rules.specs.Pairs.{pair_of}
 use Rattle.network_rules.specs.Totals.{ComeToPoint, IsAccounted, IsJoined}
 use Rattle.network_rules.proofs.Accounted.{accounts-anew}
@@ -16,28 +15,16 @@ use Rattle.network_rules.proofs.Anew.{neighbours-anew, quiet-between}
 use Rattle.network_rules.proofs.Joined.{placed-well}
 use Rattle.network_rules.proofs.Reached.{changes-keep}
 use Rattle.network_rules.proofs.ToPoint.{ends-meet-anew}
+use Rattle.node_law.specs.Anew.{IsStep}
+use Rattle.node_law.proofs.AnewNetworks.{AreOfSteps, of-steps}
 use Rattle.network_world.specs.KeptNodes.{KeptNode}
 use Rattle.network_world.specs.KeptNetworks.{points_of}
-use Rattle.network_world.specs.NetworkAnew.{ComeToEachSince, HoldsSince, IsChanged, IsStep, KeptBetween, QuietBetween, RunsSince, since}
+use Rattle.network_world.specs.NetworkAnew.{ComeToEachSince, HoldsSince, IsChanged, KeptBetween, QuietBetween, RunsSince, since}
 use Rattle.network_world.specs.NetworkPromised.{ShareAll, ShareSet}
 use Rattle.network_world.proofs.AsKept.{IsKept}
 use Rattle.network_world.proofs.ChangedFits.{from-fits}
 use Rattle.network_world.proofs.Runs.{runs-kept}
 use Rattle.network_world.proofs.Shown as shown
-
--- ---- steps alone
-
-record AreOfSteps (changes : List Change) (w : NetworkState) : Type 0 where
-  steps : List Step
-  by : after_all changes w ≡ after_steps steps w
-
-of-steps : (changes : List Change) → All IsStep changes → (w : NetworkState) → AreOfSteps changes w
-of-steps [] each w = record { steps = []; by = refl }
-of-steps (Steps step ∷ changes) each w =
-    let rest : AreOfSteps changes (after_step step w) = of-steps changes (All-tail IsStep (Steps step) changes each) (after_step step w) in
-    record { steps = step ∷ rest.steps; by = rest.by }
-of-steps (Restarts point ∷ changes) each w = absurd (All-head IsStep (Restarts point) changes each)
-of-steps (GivesUp point link ∷ changes) each w = absurd (All-head IsStep (GivesUp point link) changes each)
 
 -- ---- settings stay
 

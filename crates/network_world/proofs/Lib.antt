@@ -21,6 +21,7 @@ pub mod NetworkSteps
 pub mod NetworkTurns
 pub mod Linked
 pub mod NodeLaws
+pub mod NodeLawsSince
 pub mod Shown
 pub mod NetworkLaws
 pub mod LeadingOut

@@ -108,6 +108,7 @@ module _ (k : List KeptNode) (w : NetworkState) (s : NetworkStandsFor k w) (near
   here (pairs.Deactivates link) = tt
   here (pairs.Releases link) = tt
   here (pairs.AddsTitle row is_memory_refused) = tt
+  here (pairs.SetsTitle row is_memory_refused) = tt
   here (pairs.RemovesTitle key digits) = tt
   here (pairs.OpensFirst link) = tt
   here (pairs.OpensSecond link) = tt

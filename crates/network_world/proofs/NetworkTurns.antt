@@ -12,7 +12,7 @@ use Rattle.exchange_rules.specs.First.{IsSound}
 use Rattle.exchange_rules.specs.Messages.{link_with_code}
 use Rattle.exchange_rules.specs.Queues.{whole}
 use Rattle.exchange_rules.specs.Routing.{adjacent_of}
-use Rattle.pair_rules.specs.Pairs.{Doing, Submits, Takes, Delivers, DeliversStatus, LosesStatus, DoublesStatus, Loses, Ticks, Activates, Deactivates, Releases, AddsTitle, RemovesTitle, OpensFirst, OpensSecond}
+use Rattle.pair_rules.specs.Pairs.{Doing, Submits, Takes, Delivers, DeliversStatus, LosesStatus, DoublesStatus, Loses, Ticks, Activates, Deactivates, Releases, AddsTitle, SetsTitle, RemovesTitle, OpensFirst, OpensSecond}
 use Rattle.neighbour_rules.specs.Neighbours.{end_there}
 use Rattle.network_rules.specs.Networks.{NetworkNode, NetworkState, Place, Step, changed, did, did_here, first_node, may_open_there, opens_first, other_end, place_there, sends, take_frame}
 use Rattle.network_rules.specs.Outside.{Within}
@@ -183,6 +183,7 @@ module _ (k : List KeptNode) (w : NetworkState) (s : IsKept k w) where
     did-turn (Deactivates link) = here-turn (Deactivates link)
     did-turn (Releases link) = here-turn (Releases link)
     did-turn (AddsTitle row refused) = here-turn (AddsTitle row refused)
+    did-turn (SetsTitle row refused) = here-turn (SetsTitle row refused)
     did-turn (RemovesTitle key digits) = here-turn (RemovesTitle key digits)
     did-turn (OpensSecond link) = here-turn (OpensSecond link)
 

@@ -15,7 +15,7 @@ use Rattle.exchange_rules.specs.Queues.{whole}
 use Rattle.exchange_rules.specs.State as happening
 use Rattle.exchange_rules.specs.State.{Asking, Happens, Happening}
 use Rattle.exchange_rules.proofs.LastingPlaces.{places-first, places-stay}
-use Rattle.pair_rules.specs.Pairs.{Doing, Submits, Takes, Delivers, DeliversStatus, LosesStatus, DoublesStatus, Loses, Ticks, Activates, Deactivates, Releases, AddsTitle, RemovesTitle, OpensFirst, OpensSecond, in_flight, may_follow, with_status_twice, without_data, without_status}
+use Rattle.pair_rules.specs.Pairs.{Doing, Submits, Takes, Delivers, DeliversStatus, LosesStatus, DoublesStatus, Loses, Ticks, Activates, Deactivates, Releases, AddsTitle, SetsTitle, RemovesTitle, OpensFirst, OpensSecond, in_flight, may_follow, with_status_twice, without_data, without_status}
 use Rattle.network_rules.specs.Networks.{NetworkNode, NetworkState, Place, change_statuses, changed, comes_up, deliver_frame, did, did_here, end_of, first_network, first_node, happens, is_led, may_open_there, opens_first, opens_second, other_end, reaches, sends, submit, take_frame}
 use Rattle.network_world.specs.NetworkStands.{IsNetworkReached}
 use Rattle.network_rules.specs.Outside.{HearsOutside, Move, OpensOutside, Within, after_move, after_moves, hears, hears_outside, leads_out, opens_outside, speaks_within}
@@ -144,6 +144,7 @@ module _ (c : Configuration) (x : NetworkNode) (f : FitsTo c x) where
   here-fits (Deactivates link) = happens-fits _
   here-fits (Releases link) = happens-fits _
   here-fits (AddsTitle row is_memory_refused) = happens-fits _
+  here-fits (SetsTitle row is_memory_refused) = happens-fits _
   here-fits (RemovesTitle key digits) = happens-fits _
   here-fits (OpensSecond link) = second-fits (wants_of x.exchange link) (may_follow (end_of x) link) link
   here-fits (Takes link) = f
@@ -196,6 +197,7 @@ module _ (settings : (point : ℕ) → Configuration) where
   did-fit (Deactivates link) point w all = changed-fit point (did_here (Deactivates link)) w all (λ c x f. here-fits c x f (Deactivates link))
   did-fit (Releases link) point w all = changed-fit point (did_here (Releases link)) w all (λ c x f. here-fits c x f (Releases link))
   did-fit (AddsTitle row refused) point w all = changed-fit point (did_here (AddsTitle row refused)) w all (λ c x f. here-fits c x f (AddsTitle row refused))
+  did-fit (SetsTitle row refused) point w all = changed-fit point (did_here (SetsTitle row refused)) w all (λ c x f. here-fits c x f (SetsTitle row refused))
   did-fit (RemovesTitle key digits) point w all = changed-fit point (did_here (RemovesTitle key digits)) w all (λ c x f. here-fits c x f (RemovesTitle key digits))
   did-fit (OpensSecond link) point w all = changed-fit point (did_here (OpensSecond link)) w all (λ c x f. here-fits c x f (OpensSecond link))
 

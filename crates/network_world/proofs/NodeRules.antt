@@ -6,7 +6,7 @@ use Rattle.signalling_types.specs.declared.outcome.Outcome.{Outcome}
 use Rattle.settings.specs.Configuration.{Configuration}
 use Rattle.exchange_rules.specs.declared.wants.Wants.{Wants}
 use Rattle.exchange_rules.specs.declared.wants.Wants.TheVariants as wants
-use Rattle.exchange_rules.specs.State.{Happening, CameUp, WentDown, FrameCame, Ticked, Submitted, Activated, Deactivated, Released, TitleAdded, TitleRemoved}
+use Rattle.exchange_rules.specs.State.{Happening, CameUp, WentDown, FrameCame, Ticked, Submitted, Activated, Deactivated, Released, TitleAdded, TitleSet, TitleRemoved}
 use Rattle.exchange_rules.specs.Conserving.{brought_in}
 use Rattle.exchange_rules.specs.Queues.{whole}
 use Rattle.exchange_rules.specs.Exchange.{outcome_of, wants_of}
@@ -16,7 +16,7 @@ use Rattle.exchange_rules.specs.First.{Abstract, IsSound}
 use Rattle.exchange.specs.Calls.{Kept, StandsFor, kept_of}
 use Rattle.exchange.specs.KeptQueues.{kept}
 use Rattle.exchange.proofs.Standing.{stands-after, stands-outcome}
-use Rattle.pair_rules.specs.Pairs.{Doing, Submits, Takes, Delivers, DeliversStatus, LosesStatus, DoublesStatus, Loses, Ticks, Activates, Deactivates, Releases, AddsTitle, RemovesTitle, OpensFirst, OpensSecond, Streams, in_flight, may_follow, with_status_twice, without_data, without_status}
+use Rattle.pair_rules.specs.Pairs.{Doing, Submits, Takes, Delivers, DeliversStatus, LosesStatus, DoublesStatus, Loses, Ticks, Activates, Deactivates, Releases, AddsTitle, SetsTitle, RemovesTitle, OpensFirst, OpensSecond, Streams, in_flight, may_follow, with_status_twice, without_data, without_status}
 use Rattle.network_rules.specs.Networks.{NetworkNode, change_statuses, deliver_frame, did_here, end_of, entered_by, happens, opens_second, refused_by, submit}
 use Rattle.network_world.specs.KeptSites.{newly_brought, newly_carried, site_changes, site_follows}
 use Rattle.network_world.specs.KeptNodes.{NodeTurn, arrivals, entered_of, kept_node_of, node_did, node_happens, node_hears, node_of_site, node_submits, refused_of, site_of_node}
@@ -162,6 +162,7 @@ module _ (x : NetworkNode) (sound : IsSound x.exchange) (places : HasAllPlaces x
   here-same (Deactivates link) = happens-same (Deactivated link)
   here-same (Releases link) = happens-same (Released link)
   here-same (AddsTitle row is_memory_refused) = happens-same (TitleAdded row is_memory_refused)
+  here-same (SetsTitle row is_memory_refused) = happens-same (TitleSet row is_memory_refused)
   here-same (RemovesTitle key digits) = happens-same (TitleRemoved key digits)
   here-same (OpensSecond link) = follow-by (wants_of a link) (may_follow (end_of x) link) link
   here-same (Takes link) = record { outcome_same = refl; node = itself }

@@ -11,7 +11,7 @@ use Rattle.exchange_rules.specs.declared.wants.Wants.TheVariants as wants
 use Rattle.exchange_rules.specs.Exchange.{wants_of}
 use Rattle.exchange.specs.Views.{may_restart_at}
 use Rattle.network_rules.specs.Networks.{first_node}
-use Rattle.pair_rules.specs.Pairs.{Doing, Submits, Takes, Delivers, DeliversStatus, LosesStatus, DoublesStatus, Loses, Ticks, Activates, Deactivates, Releases, AddsTitle, RemovesTitle, OpensFirst, OpensSecond, Streams, in_flight, with_status_twice, without_data, without_status}
+use Rattle.pair_rules.specs.Pairs.{Doing, Submits, Takes, Delivers, DeliversStatus, LosesStatus, DoublesStatus, Loses, Ticks, Activates, Deactivates, Releases, AddsTitle, SetsTitle, RemovesTitle, OpensFirst, OpensSecond, Streams, in_flight, with_status_twice, without_data, without_status}
 use Rattle.network_world.specs.declared.doing.Reach.{Reach}
 use Rattle.network_world.specs.declared.doing.Reach.TheVariants as reach
 use Rattle.network_world.specs.Joined.{no_settings}
@@ -70,6 +70,7 @@ did-own (Activates link emergency) n = refl
 did-own (Deactivates link) n = refl
 did-own (Releases link) n = refl
 did-own (AddsTitle row refused) n = refl
+did-own (SetsTitle row refused) n = refl
 did-own (RemovesTitle key digits) n = refl
 did-own (OpensSecond link) n = follows-own (wants_of n.exchange link) (slice_index_or n.following link false) link n
 did-own (Takes link) n = refl
@@ -127,6 +128,7 @@ did-points (Activates link emergency) place k = one-points k place (node_did (Ac
 did-points (Deactivates link) place k = one-points k place (node_did (Deactivates link)) (did-own (Deactivates link)) (slice_get k place) refl
 did-points (Releases link) place k = one-points k place (node_did (Releases link)) (did-own (Releases link)) (slice_get k place) refl
 did-points (AddsTitle row refused) place k = one-points k place (node_did (AddsTitle row refused)) (did-own (AddsTitle row refused)) (slice_get k place) refl
+did-points (SetsTitle row refused) place k = one-points k place (node_did (SetsTitle row refused)) (did-own (SetsTitle row refused)) (slice_get k place) refl
 did-points (RemovesTitle key digits) place k = one-points k place (node_did (RemovesTitle key digits)) (did-own (RemovesTitle key digits)) (slice_get k place) refl
 did-points (OpensSecond link) place k = one-points k place (node_did (OpensSecond link)) (did-own (OpensSecond link)) (slice_get k place) refl
 

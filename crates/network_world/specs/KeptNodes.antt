@@ -4,14 +4,14 @@ use Rattle.signalling_types.specs.Message.{Message}
 use Rattle.signalling_types.specs.declared.outcome.Outcome.{Outcome}
 use Rattle.signalling_types.specs.declared.outcome.Outcome.TheVariants.{Handled, Ignored}
 use Rattle.settings.specs.Configuration.{Configuration}
-use Rattle.exchange_rules.specs.State.{Happening, FrameCame, Submitted, WentDown, Ticked, Activated, Deactivated, Released, TitleAdded, TitleRemoved}
+use Rattle.exchange_rules.specs.State.{Happening, FrameCame, Submitted, WentDown, Ticked, Activated, Deactivated, Released, TitleAdded, TitleSet, TitleRemoved}
 use Rattle.exchange_rules.specs.declared.wants.Wants.{Wants}
 use Rattle.exchange_rules.specs.declared.wants.Wants.TheVariants.{Open}
 use Rattle.exchange_rules.specs.Exchange.{after, outcome_of, taken, wants_of}
 use Rattle.exchange.specs.KeptQueues.{kept}
 use Rattle.exchange.specs.Calls.{Kept, kept_of}
 use Rattle.exchange.specs.Views.{may_restart_at}
-use Rattle.pair_rules.specs.Pairs.{Doing, Submits, Takes, Delivers, DeliversStatus, LosesStatus, DoublesStatus, Loses, Ticks, Activates, Deactivates, Releases, AddsTitle, RemovesTitle, OpensFirst, OpensSecond, Streams, in_flight, without_data, without_status}
+use Rattle.pair_rules.specs.Pairs.{Doing, Submits, Takes, Delivers, DeliversStatus, LosesStatus, DoublesStatus, Loses, Ticks, Activates, Deactivates, Releases, AddsTitle, SetsTitle, RemovesTitle, OpensFirst, OpensSecond, Streams, in_flight, without_data, without_status}
 use Rattle.network_rules.specs.Networks.{Arrival, NetworkNode, entered_by, refused_by}
 use Rattle.network_world.specs.declared.doing.Reach.{Reach}
 use Rattle.network_world.specs.declared.doing.Reach.TheVariants as reach
@@ -122,6 +122,7 @@ node_did (Activates link emergency) n = node_happens (Activated link emergency) 
 node_did (Deactivates link) n = node_happens (Deactivated link) n
 node_did (Releases link) n = node_happens (Released link) n
 node_did (AddsTitle row is_memory_refused) n = node_happens (TitleAdded row is_memory_refused) n
+node_did (SetsTitle row is_memory_refused) n = node_happens (TitleSet row is_memory_refused) n
 node_did (RemovesTitle key digits) n = node_happens (TitleRemoved key digits) n
 node_did (OpensSecond link) n = node_of_site (site_opens_second link (site_of_node n)) n
 node_did (Takes link) n = record { outcome = Ignored; left = n }

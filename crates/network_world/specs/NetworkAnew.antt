@@ -1,12 +1,13 @@
 -- When a network of the code stands for an abstract one whatever was lost there, and however often nodes have started
 -- again, and what it promises since its books began anew.
-use Rattle.std.specs.Prelude.{◌≡◌, ℕ, Bool, true, ⊤, List, [], ◌∷◌, ◌++◌, All, if◌then◌else◌}
+use Rattle.std.specs.Prelude.{◌≡◌, ℕ, Bool, true, List, [], ◌∷◌, ◌++◌, All, if◌then◌else◌}
 use Rattle.settings.specs.Configuration.{Configuration}
 use Rattle.neighbour_rules.specs.Anew.{IsQuietPair, LostNothingSince}
 use Rattle.network_rules.specs.Networks.{NetworkState, first_network}
 use Rattle.network_rules.specs.Pairs.{pair_of}
 use Rattle.network_rules.specs.Totals.{ComeToPoint, IsPlaced, is_listed}
-use Rattle.network_rules.specs.Anew.{BothKeep, Change, GivesUp, HaveLostNothingSince, IsQuietNetwork, IsStepOrThird, Restarts, Steps, after_all, after_change, begun_anew}
+use Rattle.network_rules.specs.Anew.{BothKeep, Change, HaveLostNothingSince, IsQuietNetwork, IsStepOrThird, after_all, after_change, begun_anew}
+use Rattle.node_law.specs.Anew.{IsStep}
 use Rattle.network_world.specs.KeptNodes.{KeptNode}
 use Rattle.network_world.specs.KeptNetworks.{kept_at, points_of}
 use Rattle.network_world.specs.NetworkPromised.{HaveIndicatorOf, ShareAll, ShareSet}
@@ -42,12 +43,6 @@ abbrev pub HasSettings : NetworkState → Configuration → Type 0
 HasSettings w c = (w.node c.own).exchange.settings ≡ c
 
 -- ---- what is promised since
-
--- no node has started again, or given up following the other end of a link
-abbrev pub IsStep : Change → Type 0
-IsStep (Steps step) = ⊤
-IsStep (Restarts point) = ⊥
-IsStep (GivesUp point link) = ⊥
 
 -- from end to end: if the network was quiet, and only steps were made since, this holds while no node of it may have
 -- lost a message since

@@ -8,10 +8,10 @@ use Rattle.m2pa_codec.specs.Frames.{spelled}
 use Rattle.exchange_rules.specs.First.{IsSound}
 use Rattle.exchange_rules.specs.Exchange.{frame_to_take, outcome_of, wants_of}
 use Rattle.exchange_rules.specs.Queues.{whole}
-use Rattle.exchange_rules.specs.State.{Happening, FrameCame, Submitted, WentDown, Ticked, Activated, Deactivated, Released, TitleAdded, TitleRemoved}
+use Rattle.exchange_rules.specs.State.{Happening, FrameCame, Submitted, WentDown, Ticked, Activated, Deactivated, Released, TitleAdded, TitleSet, TitleRemoved}
 use Rattle.exchange_rules.specs.declared.wants.Wants.{Wants}
 use Rattle.exchange_rules.specs.declared.wants.Wants.TheVariants.{Open}
-use Rattle.pair_rules.specs.Pairs.{Doing, Submits, Takes, Delivers, DeliversStatus, LosesStatus, DoublesStatus, Loses, Ticks, Activates, Deactivates, Releases, AddsTitle, RemovesTitle, OpensFirst, OpensSecond, in_flight, may_follow}
+use Rattle.pair_rules.specs.Pairs.{Doing, Submits, Takes, Delivers, DeliversStatus, LosesStatus, DoublesStatus, Loses, Ticks, Activates, Deactivates, Releases, AddsTitle, SetsTitle, RemovesTitle, OpensFirst, OpensSecond, in_flight, may_follow}
 use Rattle.network_rules.specs.Networks.{NetworkNode, NetworkState, Place, Step, after_step, end_of, first_network, first_node, may_open_there, other_end}
 use Rattle.network_rules.specs.Outside.{Move, after_moves}
 use Rattle.network_rules.specs.Totals.{IsPlaced}
@@ -77,6 +77,7 @@ here_outcome (Activates link emergency) x = outcome_of whole (Activated link eme
 here_outcome (Deactivates link) x = outcome_of whole (Deactivated link) x.exchange
 here_outcome (Releases link) x = outcome_of whole (Released link) x.exchange
 here_outcome (AddsTitle row is_memory_refused) x = outcome_of whole (TitleAdded row is_memory_refused) x.exchange
+here_outcome (SetsTitle row is_memory_refused) x = outcome_of whole (TitleSet row is_memory_refused) x.exchange
 here_outcome (RemovesTitle key digits) x = outcome_of whole (TitleRemoved key digits) x.exchange
 here_outcome (OpensSecond link) x = second_outcome (wants_of x.exchange link) (may_follow (end_of x) link)
 here_outcome (Takes link) x = Ignored

@@ -19,6 +19,7 @@ doing_told (doing.Activate link emergency) outcome = pairs.Activates link emerge
 doing_told (doing.Deactivate link) outcome = pairs.Deactivates link
 doing_told (doing.Release link) outcome = pairs.Releases link
 doing_told (doing.AddTitle row) outcome = pairs.AddsTitle row (is_memory_refused outcome)
+doing_told (doing.SetTitle row) outcome = pairs.SetsTitle row (is_memory_refused outcome)
 doing_told (doing.RemoveTitle key digits) outcome = pairs.RemovesTitle key digits.items
 doing_told (doing.OpenFirst link) outcome = pairs.OpensFirst link
 doing_told (doing.OpenSecond link) outcome = pairs.OpensSecond link

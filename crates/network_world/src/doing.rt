@@ -39,6 +39,9 @@ pub enum Doing {
     /// The operator adds a translation row. Refused DuplicateRow where there is one with its key and digits, else
     /// TableFull, else NoMemory where memory for it is refused.
     AddTitle(TitleRow),
+    /// The operator sets a translation row: it replaces the one with its key and digits, or is added where there is none.
+    /// Refused then TableFull, else NoMemory where memory for it is refused.
+    SetTitle(TitleRow),
     /// The operator removes the translation row of this key and these digits.
     RemoveTitle(TitleKey, TitleDigits),
     /// A link opens, before it opens at its other end: nothing is in flight on it then, and from now on the other end

@@ -2,6 +2,7 @@
 
 mod anew;
 mod booting;
+mod hop_laws;
 mod node_laws;
 mod outside;
 
@@ -243,6 +244,7 @@ impl Network {
             Doing::Deactivate(link) => act_at(&mut self.nodes, place, Doing::Deactivate(link)),
             Doing::Release(link) => act_at(&mut self.nodes, place, Doing::Release(link)),
             Doing::AddTitle(row) => act_at(&mut self.nodes, place, Doing::AddTitle(row)),
+            Doing::SetTitle(row) => act_at(&mut self.nodes, place, Doing::SetTitle(row)),
             Doing::RemoveTitle(key, digits) => {
                 act_at(&mut self.nodes, place, Doing::RemoveTitle(key, digits))
             }

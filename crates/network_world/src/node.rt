@@ -159,6 +159,7 @@ impl Node {
             Doing::Deactivate(link) => Ok(self.happen(&Event::Order(Order::Deactivate(link)))),
             Doing::Release(link) => Ok(self.happen(&Event::Order(Order::Release(link)))),
             Doing::AddTitle(row) => Ok(self.happen(&Event::Order(Order::AddTitle(row)))),
+            Doing::SetTitle(row) => Ok(self.happen(&Event::Order(Order::SetTitle(row)))),
             Doing::RemoveTitle(key, digits) => {
                 Ok(self.happen(&Event::Order(Order::RemoveTitle(key, digits))))
             }

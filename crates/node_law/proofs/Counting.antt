@@ -53,7 +53,7 @@ module _ (test : Message → Bool) (links : ℕ) where
       ∙ sym (count-append test (a.message ∷ []) (texts_of arrived))
 
 module _ (settings : (point : ℕ) → Configuration) (numbers : List ℕ) (placed : IsPlaced settings numbers) (w : NetworkState) (v : nodes.NetworkState) (kept : AreKept settings w) (s : AreSame settings w v) where
-  node-same-at : (x : ℕ) → IsNode settings x → (w.node x).exchange.node ≡ (v.node x).node
+  pub node-same-at : (x : ℕ) → IsNode settings x → (w.node x).exchange.node ≡ (v.node x).node
   node-same-at x fx = (s.each x fx).exchange.node
 
   pub broken-same : (x : ℕ) → IsNode settings x → (v.node x).node.parts.times_broken ≡ (w.node x).exchange.node.parts.times_broken
@@ -72,21 +72,25 @@ module _ (settings : (point : ℕ) → Configuration) (numbers : List ℕ) (plac
         ap (users_that test) ((s.each there.point (end-node settings numbers placed x link there e)).books.came there.link)
         ∙ sym (counted-messages (λ m. is_user m && test m) ((v.node there.point).came there.link))
 
+    -- over one link
+    pub came-by-same : (x link : ℕ) → link < length (settings x).links → users_that test (came_there w (other_end w x link)) ≡ fates_that any_fate test (law.came_by settings v (nodes.other_end settings x link))
+    came-by-same x link inside =
+        ap (λ (o : Option Place). users_that test (came_there w o)) (ends-are settings w kept x link)
+        ∙ came-there x link (end_at settings x link) refl
+        ∙ ap (λ (o : Option LinkEnd). fates_that any_fate test (law.came_by settings v o)) (ends-agree settings numbers placed x link inside)
+
     pub came-same : (x : ℕ) → IsNode settings x → came_from w test x ≡ law.came_from settings v test x
     came-same x fx =
         ap (λ (c : Configuration). sum_to (λ link. users_that test (came_there w (other_end w x link))) (length c.links)) (kept x)
         ∙ sum-alike (λ link. fates_that any_fate test (law.came_by settings v (nodes.other_end settings x link))) (λ link. users_that test (came_there w (other_end w x link))) (length (settings x).links)
-        (λ link inside.
-        ap (λ (o : Option Place). users_that test (came_there w o)) (ends-are settings w kept x link)
-        ∙ came-there x link (end_at settings x link) refl
-        ∙ ap (λ (o : Option LinkEnd). fates_that any_fate test (law.came_by settings v o)) (ends-agree settings numbers placed x link inside))
+        (came-by-same x)
 
     received-same : (x link : ℕ) (there : Option Place) → end_at settings x link ≡ there → received_there w there ≡ law.received_by settings v (led there)
     received-same x link None e = refl
     received-same x link (Some there) e =
         ap (λ (n : Node WholeQueues). (queue_at n.queues there.link).received) (node-same-at there.point (end-node settings numbers placed x link there e))
 
-    waits-on-same : (x link : ℕ) → IsNode settings x → link < length (settings x).links → waiting_on w x link ≡ law.waiting_on settings v x link
+    pub waits-on-same : (x link : ℕ) → IsNode settings x → link < length (settings x).links → waiting_on w x link ≡ law.waiting_on settings v x link
     waits-on-same x link fx inside =
         ap (λ (o : Option Place). drop (received_there w o) (queue_at (w.node x).exchange.node.queues link).all) (ends-are settings w kept x link)
         ∙ ap (λ (k : ℕ). drop k (queue_at (w.node x).exchange.node.queues link).all)

@@ -19,7 +19,38 @@ use Rattle.node_law.specs.Ends.{AreUnbroken, EndsOnce, EndsWhole, accepted_at, c
 use Rattle.node_law.proofs.Counting.{accepted-same, broken-same, came-same, gone-same, lost-same, waits-same}
 use Rattle.node_law.proofs.Places.{are-theirs, listed-node, node-listed}
 use Rattle.node_law.proofs.Runs.{all-kept, follows}
-use Rattle.node_law.proofs.Steps.{AreKept, Follows}
+use Rattle.node_law.proofs.Steps.{AreKept, AreSame, Follows}
+
+-- ---- the law of a node is the same of two networks that are alike
+
+module _ (settings : (point : ℕ) → Configuration) (numbers : List ℕ) (placed : IsPlaced settings numbers) (z : NetworkState) (u : nodes.NetworkState) (stay : AreKept settings z) (same : AreSame settings z u)
+    (x : ℕ) (fx : IsNode settings x) where
+  same-sum : (a c k g b d l h : ℕ) → a ≡ b → c ≡ d → k ≡ l → g ≡ h → b ≡ d + l + h → a ≡ c + k + g
+  same-sum a c k g b d l h e f i j m = omega (arith, e, f, i, j, m)
+
+  pub once-same : law.EndsOnce settings u x → EndsOnce z x
+  once-same e = record {
+    once = λ test.
+        same-sum (accepted_at z test x) (came_from z test x) (waits_at z test x) (gone_at z test x) _ _ _ _
+        (accepted-same settings numbers placed z u stay same test x fx) (came-same settings numbers placed z u stay same test x fx)
+        (waits-same settings numbers placed z u stay same test x fx) (gone-same settings numbers placed z u stay same test x fx) (e.once test);
+    counted = λ test.
+        subst (λ (k : ℕ). min k most ≤ (z.node x).exchange.node.parts.messages_lost) (sym (gone-same settings numbers placed z u stay same test x fx))
+        (subst (λ (k : ℕ). min (law.gone_at settings u test x) most ≤ k) (lost-same settings numbers placed z u stay same x fx) (e.counted test));
+  }
+
+  two-same : (a c k b d l : ℕ) → a ≡ b → c ≡ d → k ≡ l → b ≡ d + l → a ≡ c + k
+  two-same a c k b d l e f i m = omega (arith, e, f, i, m)
+
+  pub whole-same : lossless.EndsWhole settings u x → EndsWhole z x
+  whole-same e = record {
+    once = λ test.
+        two-same (accepted_at z test x) (came_from z test x) (waits_at z test x) _ _ _
+        (accepted-same settings numbers placed z u stay same test x fx) (came-same settings numbers placed z u stay same test x fx)
+        (waits-same settings numbers placed z u stay same test x fx) (e.once test);
+  }
+
+-- ---- while no node counts a break, and while none may have lost a message
 
 module _ (settings : (point : ℕ) → Configuration) (numbers : List ℕ) (moves : List Move) (placed : IsPlaced settings numbers) (linked : AreLinked (first_network settings)) where
   abbrev pub w : NetworkState
@@ -50,34 +81,11 @@ module _ (settings : (point : ℕ) → Configuration) (numbers : List ℕ) (move
       let fx : IsNode settings x = listed-node settings numbers placed x its in
       sym (broken-same settings numbers placed w v kept run.same x fx) ∙ (flags-tell settings run.steps x (lossless-there none x fx)).unbroken
 
-  same-sum : (a c k g b d l h : ℕ) → a ≡ b → c ≡ d → k ≡ l → g ≡ h → b ≡ d + l + h → a ≡ c + k + g
-  same-sum a c k g b d l h e f i j m = omega (arith, e, f, i, j, m)
-
   pub once-at : AreUnbroken numbers w → (x : ℕ) → IsNode settings x → EndsOnce w x
-  once-at none x fx =
-      let e : law.EndsOnce settings v x = ends-once settings run.steps x theirs fx (unbroken-there none) in
-      record {
-        once = λ test.
-            same-sum (accepted_at w test x) (came_from w test x) (waits_at w test x) (gone_at w test x) _ _ _ _
-            (accepted-same settings numbers placed w v kept run.same test x fx) (came-same settings numbers placed w v kept run.same test x fx)
-            (waits-same settings numbers placed w v kept run.same test x fx) (gone-same settings numbers placed w v kept run.same test x fx) (e.once test);
-        counted = λ test.
-            subst (λ (k : ℕ). min k most ≤ (w.node x).exchange.node.parts.messages_lost) (sym (gone-same settings numbers placed w v kept run.same test x fx))
-            (subst (λ (k : ℕ). min (law.gone_at settings v test x) most ≤ k) (lost-same settings numbers placed w v kept run.same x fx) (e.counted test));
-      }
-
-  two-same : (a c k b d l : ℕ) → a ≡ b → c ≡ d → k ≡ l → b ≡ d + l → a ≡ c + k
-  two-same a c k b d l e f i m = omega (arith, e, f, i, m)
+  once-at none x fx = once-same settings numbers placed w v kept run.same x fx (ends-once settings run.steps x theirs fx (unbroken-there none))
 
   pub whole-at : HaveLostNothing numbers w → (x : ℕ) → IsNode settings x → EndsWhole w x
-  whole-at none x fx =
-      let e : lossless.EndsWhole settings v x = nodes-whole settings run.steps x theirs fx (lossless-there none) in
-      record {
-        once = λ test.
-            two-same (accepted_at w test x) (came_from w test x) (waits_at w test x) _ _ _
-            (accepted-same settings numbers placed w v kept run.same test x fx) (came-same settings numbers placed w v kept run.same test x fx)
-            (waits-same settings numbers placed w v kept run.same test x fx) (e.once test);
-      }
+  whole-at none x fx = whole-same settings numbers placed w v kept run.same x fx (nodes-whole settings run.steps x theirs fx (lossless-there none))
 
 pub all-once : each_message_ends_once
 all-once settings numbers moves placed linked none point its = once-at settings numbers moves placed linked none point (listed-node settings numbers placed point its)

@@ -13,3 +13,11 @@ pub mod Ending
 pub mod PassedOn
 pub mod Summing
 pub mod ToPoint
+pub mod Hops
+pub mod Order
+pub mod Changes
+pub mod AnewHops
+pub mod AnewOrder
+pub mod AnewNetworks
+pub mod Exact
+pub mod MatedRuns

@@ -48,7 +48,7 @@ module _ (point : ℕ) where
       by false false false true e f g h i = subst P (sym (eqb-true point 4 h)) d
       by false false false false e f g h i = absurd cc
 
-mated-placed : IsPlaced mated mated_points
+pub mated-placed : IsPlaced mated mated_points
 mated-placed = record {
   own = own-at;
   once = λ point its. of-listed point (λ p. count_by (nat_eq p) mated_points ≡ 1) refl refl refl refl its;

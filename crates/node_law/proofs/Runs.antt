@@ -14,7 +14,7 @@ use Rattle.exchange_rules.specs.Routing.{adjacent_of}
 use Rattle.exchange_rules.specs.Exchange.{wants_of}
 use Rattle.exchange_rules.specs.Opening.{wanted}
 use Rattle.exchange_rules.specs.Queues.{WholeQueues}
-use Rattle.exchange_rules.specs.State.{Node, WentDown, Ticked, Activated, Deactivated, Released, TitleAdded, TitleRemoved}
+use Rattle.exchange_rules.specs.State.{Node, WentDown, Ticked, Activated, Deactivated, Released, TitleAdded, TitleSet, TitleRemoved}
 use Rattle.node_moves.specs.Networks as nodes
 use Rattle.node_moves.specs.Networks.{IsNode, is_node}
 use Rattle.pair_rules.specs.Pairs as pairs
@@ -48,7 +48,7 @@ module _ (settings : (point : ℕ) → Configuration) (numbers : List ℕ) (plac
         → (IsSame c x y → IsSame c (f x) (nodes.did_here its c y)) → Follows settings (changed point f w) v
     here f its is same = here-step settings w v h point (is_node settings point) refl f (nodes.did_here its c) its is same
 
-    data-as : (link : ℕ) → IsSame c x y → IsSame c (did_here (pairs.Delivers link) x) (nodes.did_here (nodes.Delivers link) c y)
+    pub data-as : (link : ℕ) → IsSame c x y → IsSame c (did_here (pairs.Delivers link) x) (nodes.did_here (nodes.Delivers link) c y)
     data-as link s =
         subst (λ (o : Option (List ℕ)). IsSame c (did_here (pairs.Delivers link) x) (nodes.hear_data c o link y)) (sym (next-same c x y s link x.incoming.user_data y.user_data s.flight.data_links s.flight.user_data))
         (same-data c x y s link (slice_get (in_flight x.incoming.user_data link) 0) refl)
@@ -56,28 +56,28 @@ module _ (settings : (point : ℕ) → Configuration) (numbers : List ℕ) (plac
     status-next : (link : ℕ) → IsSame c x y → nodes.next_in c link (y.statuses link) ≡ slice_get (in_flight x.incoming.statuses link) 0
     status-next link s = next-same c x y s link x.incoming.statuses y.statuses s.flight.status_links s.flight.statuses
 
-    status-as : (link : ℕ) → IsSame c x y → IsSame c (did_here (pairs.DeliversStatus link) x) (nodes.did_here (nodes.DeliversStatus link) c y)
+    pub status-as : (link : ℕ) → IsSame c x y → IsSame c (did_here (pairs.DeliversStatus link) x) (nodes.did_here (nodes.DeliversStatus link) c y)
     status-as link s =
         subst (λ (o : Option (List ℕ)). IsSame c (did_here (pairs.DeliversStatus link) x) (nodes.hear_status c o link y)) (sym (status-next link s))
         (same-status c x y s link (slice_get (in_flight x.incoming.statuses link) 0) refl)
 
-    lost-as : (link : ℕ) → IsSame c x y → IsSame c (did_here (pairs.LosesStatus link) x) (nodes.did_here (nodes.LosesStatus link) c y)
+    pub lost-as : (link : ℕ) → IsSame c x y → IsSame c (did_here (pairs.LosesStatus link) x) (nodes.did_here (nodes.LosesStatus link) c y)
     lost-as link s =
         subst (λ (o : Option (List ℕ)). IsSame c (did_here (pairs.LosesStatus link) x) (nodes.with_statuses o link (drop 1 (y.statuses link)) y)) (sym (status-next link s))
         (same-lost c x y s link (slice_get (in_flight x.incoming.statuses link) 0) refl)
 
-    doubled-as : (link : ℕ) → IsSame c x y → IsSame c (did_here (pairs.DoublesStatus link) x) (nodes.did_here (nodes.DoublesStatus link) c y)
+    pub doubled-as : (link : ℕ) → IsSame c x y → IsSame c (did_here (pairs.DoublesStatus link) x) (nodes.did_here (nodes.DoublesStatus link) c y)
     doubled-as link s =
         subst (λ (o : Option (List ℕ)). IsSame c (did_here (pairs.DoublesStatus link) x) (nodes.with_statuses o link (take 1 (y.statuses link) ++ y.statuses link) y)) (sym (status-next link s))
         (same-doubled c x y s link (slice_get (in_flight x.incoming.statuses link) 0) refl)
 
-    second-as : (link : ℕ) → IsSame c x y → IsSame c (did_here (pairs.OpensSecond link) x) (nodes.did_here (nodes.OpensSecond link) c y)
+    pub second-as : (link : ℕ) → IsSame c x y → IsSame c (did_here (pairs.OpensSecond link) x) (nodes.did_here (nodes.OpensSecond link) c y)
     second-as link s =
         subst (λ (may : Bool). IsSame c (did_here (pairs.OpensSecond link) x) (nodes.follow c (wanted y.node.parts link) may link y)) (s.flight.follows link)
         (subst (λ (n : Node WholeQueues). IsSame c (did_here (pairs.OpensSecond link) x) (nodes.follow c (wanted n.parts link) (slice_index_or x.following link false) link y)) s.exchange.node
         (same-second c x y s link (wants_of x.exchange link) (slice_index_or x.following link false) refl))
 
-    step-follows : (what : Doing) → Follows settings (did what point w) v
+    pub step-follows : (what : Doing) → Follows settings (did what point w) v
     step-follows (pairs.Submits m) = here (did_here (pairs.Submits m)) (nodes.Submits m) refl (λ s. same-submit c x y s m)
     step-follows (pairs.Takes link) = takes-follows settings numbers placed w v kept h point link
     step-follows (pairs.Delivers link) = here (did_here (pairs.Delivers link)) (nodes.Delivers link) refl (data-as link)
@@ -90,9 +90,30 @@ module _ (settings : (point : ℕ) → Configuration) (numbers : List ℕ) (plac
     step-follows (pairs.Deactivates link) = here (did_here (pairs.Deactivates link)) (nodes.Deactivates link) refl (λ s. same-happens c x y s (Deactivated link))
     step-follows (pairs.Releases link) = here (did_here (pairs.Releases link)) (nodes.Releases link) refl (λ s. same-happens c x y s (Released link))
     step-follows (pairs.AddsTitle row refused) = here (did_here (pairs.AddsTitle row refused)) (nodes.AddsTitle row refused) refl (λ s. same-happens c x y s (TitleAdded row refused))
+    step-follows (pairs.SetsTitle row refused) = here (did_here (pairs.SetsTitle row refused)) (nodes.SetsTitle row refused) refl (λ s. same-happens c x y s (TitleSet row refused))
     step-follows (pairs.RemovesTitle key digits) = here (did_here (pairs.RemovesTitle key digits)) (nodes.RemovesTitle key digits) refl (λ s. same-happens c x y s (TitleRemoved key digits))
     step-follows (pairs.OpensFirst link) = opens-follows settings numbers placed w v kept h point link
     step-follows (pairs.OpensSecond link) = here (did_here (pairs.OpensSecond link)) (nodes.OpensSecond link) refl (second-as link)
+
+  -- ---- the first
+
+  pub first-same : (c : Configuration) → IsWell c → IsSame c (first_node c) (nodes.first_node c)
+  first-same c well = record {
+    exchange = record { settings = refl; places = places-first c well.link_count.below; node = refl };
+    flight = record {
+      status_links = length-replicate (length c.links) [];
+      data_links = length-replicate (length c.links) [];
+      following_links = length-replicate (length c.links) false;
+      statuses = λ link. each-replicate (λ (texts : List (List ℕ)). texts ≡ []) (length c.links) link [] refl;
+      user_data = λ link. each-replicate (λ (texts : List (List ℕ)). texts ≡ []) (length c.links) link [] refl;
+      follows = λ link. each-replicate (λ (b : Bool). b ≡ false) (length c.links) link false refl;
+      silent = λ link. tt;
+    };
+    books = record { taken = refl; came = λ link. refl; within = tt };
+  }
+
+  pub first-all : AreSame settings (first_network settings) (nodes.first_network settings)
+  first-all = record { each = λ point fx. first-same (settings point) (placed.well point (node-listed settings numbers placed point fx)) }
 
   -- ---- all of them
 
@@ -100,7 +121,7 @@ module _ (settings : (point : ℕ) → Configuration) (numbers : List ℕ) (plac
   steps-both [] more v = refl
   steps-both (step ∷ steps) more v = steps-both steps more (nodes.after_step settings step v)
 
-  further : (w u : NetworkState) (v : nodes.NetworkState) (f : Follows settings w v) → Follows settings u (nodes.after_steps settings f.steps v) → Follows settings u v
+  pub further : (w u : NetworkState) (v : nodes.NetworkState) (f : Follows settings w v) → Follows settings u (nodes.after_steps settings f.steps v) → Follows settings u v
   further w u v f g = record { steps = f.steps ++ g.steps; same = subst (AreSame settings u) (sym (steps-both f.steps g.steps v)) g.same }
 
   module _ (linked : AreLinked (first_network settings)) where
@@ -146,25 +167,10 @@ module _ (settings : (point : ℕ) → Configuration) (numbers : List ℕ) (plac
 
     -- ---- from the first on
 
-    first-same : (c : Configuration) → IsWell c → IsSame c (first_node c) (nodes.first_node c)
-    first-same c well = record {
-      exchange = record { settings = refl; places = places-first c well.link_count.below; node = refl };
-      flight = record {
-        status_links = length-replicate (length c.links) [];
-        data_links = length-replicate (length c.links) [];
-        following_links = length-replicate (length c.links) false;
-        statuses = λ link. each-replicate (λ (texts : List (List ℕ)). texts ≡ []) (length c.links) link [] refl;
-        user_data = λ link. each-replicate (λ (texts : List (List ℕ)). texts ≡ []) (length c.links) link [] refl;
-        follows = λ link. each-replicate (λ (b : Bool). b ≡ false) (length c.links) link false refl;
-        silent = λ link. tt;
-      };
-      books = record { taken = refl; came = λ link. refl; within = tt };
-    }
-
     pub follows : (moves : List Move) → Follows settings (after_moves moves (first_network settings)) (nodes.first_network settings)
     follows moves =
         moves-follow moves (first_network settings) (nodes.first_network settings) (λ point. refl)
-        (record { steps = []; same = record { each = λ point fx. first-same (settings point) (placed.well point (node-listed settings numbers placed point fx)) } })
+        (record { steps = []; same = first-all })
 
     moves-kept : (moves : List Move) (w : NetworkState) → AreKept settings w → AreKept settings (after_moves moves w)
     moves-kept [] w kept = kept

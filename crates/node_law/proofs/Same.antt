@@ -18,7 +18,7 @@ use Rattle.exchange_rules.specs.Queues.{WholeQueues, whole}
 use Rattle.exchange_rules.specs.Receiving.{new_message}
 use Rattle.exchange_rules.specs.Reroutings.{first_reroutings}
 use Rattle.exchange_rules.specs.Sending.{after_take}
-use Rattle.exchange_rules.specs.State.{Happening, CameUp, WentDown, FrameCame, Ticked, Submitted, Activated, Deactivated, Released, TitleAdded, TitleRemoved, Happens, Takes, Node}
+use Rattle.exchange_rules.specs.State.{Happening, CameUp, WentDown, FrameCame, Ticked, Submitted, Activated, Deactivated, Released, TitleAdded, TitleSet, TitleRemoved, Happens, Takes, Node}
 use Rattle.exchange_rules.proofs.LastingPlaces.{places-stay}
 use Rattle.node_moves.specs.Networks as nodes
 use Rattle.node_moves.specs.Networks.{Fate, messages_of, updated}
@@ -81,6 +81,7 @@ module _ (c : Configuration) (a : Abstract) (n : Node WholeQueues) (h : IsSameEx
   brought-anew (Deactivated link) = refl
   brought-anew (Released link) = refl
   brought-anew (TitleAdded row is_memory_refused) = refl
+  brought-anew (TitleSet row is_memory_refused) = refl
   brought-anew (TitleRemoved key digits) = refl
 
   pub same-brought : (what : Happening) → brought_in what a ≡ brought_in what (state_at c n)

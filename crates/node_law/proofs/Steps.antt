@@ -45,7 +45,7 @@ module _ (settings : (point : ℕ) → Configuration) where
 
   -- ---- changes at a point
 
-  both-changed : (w : NetworkState) (v : nodes.NetworkState) (h : AreSame w v) (point : ℕ) (f : NetworkNode → NetworkNode) (g : nodes.NetworkNode → nodes.NetworkNode)
+  pub both-changed : (w : NetworkState) (v : nodes.NetworkState) (h : AreSame w v) (point : ℕ) (f : NetworkNode → NetworkNode) (g : nodes.NetworkNode → nodes.NetworkNode)
       → (IsNode settings point → IsSame (settings point) (f (w.node point)) (g (v.node point))) → AreSame (changed point f w) (nodes.changed point g v)
   both-changed w v h point f g same = record {
     each = λ other fo.
@@ -89,7 +89,7 @@ module _ (settings : (point : ℕ) → Configuration) where
     abbrev its_end : Option Place
     its_end = end_at settings point link
 
-    end-is : other_end w point link ≡ its_end
+    pub end-is : other_end w point link ≡ its_end
     end-is = ends-are settings w kept point link
 
     -- ---- a frame goes out
@@ -161,6 +161,13 @@ module _ (settings : (point : ℕ) → Configuration) where
     none-past : length (settings point).links ≤ link → its_end ≡ None
     none-past past = ap (place_of settings (settings point)) (slice_get_past (settings point).links link past)
 
+    -- where a node has the link
+    pub takes-inside : IsNode settings point → link < length (settings point).links
+        → AreSame (take_frame (frame_to_take whole (w.node point).exchange link) point link its_end w) (nodes.did settings (nodes.Takes link) point v)
+    takes-inside fx inside =
+        subst (λ (o : Option FrameValue). AreSame (take_frame o point link its_end w) (nodes.fetch settings (frame_taken whole (settings point) link (v.node point).node) point link v)) (sym (frame-same fx))
+        (taken-by fx inside (frame_taken whole (settings point) link (v.node point).node) refl)
+
     pub takes-follows : Follows (take_frame (frame_to_take whole (w.node point).exchange link) point link (other_end w point link) w) v
     takes-follows =
         subst (λ (there : Option Place). Follows (take_frame (frame_to_take whole (w.node point).exchange link) point link there w) v) (sym end-is) (by (is_node settings point) refl)
@@ -169,9 +176,7 @@ module _ (settings : (point : ℕ) → Configuration) where
         by true fx =
             ⊎_elim
             (λ (inside : link < length (settings point).links).
-            one-step w v h point (nodes.Takes link) (take_frame (frame_to_take whole (w.node point).exchange link) point link its_end w) fx
-            (subst (λ (o : Option FrameValue). AreSame (take_frame o point link its_end w) (nodes.fetch settings (frame_taken whole (settings point) link (v.node point).node) point link v)) (sym (frame-same fx))
-            (taken-by fx inside (frame_taken whole (settings point) link (v.node point).node) refl)))
+            one-step w v h point (nodes.Takes link) (take_frame (frame_to_take whole (w.node point).exchange link) point link its_end w) fx (takes-inside fx inside))
             (λ (past : length (settings point).links ≤ link).
             follows-none (take_frame (frame_to_take whole (w.node point).exchange link) point link its_end w) v (taken-none fx past its_end))
             (cases_lt link (length (settings point).links))
@@ -185,25 +190,29 @@ module _ (settings : (point : ℕ) → Configuration) where
         subst (λ (there : Option Place). Follows (opens_first (wants_of (w.node point).exchange link) (may_open_there w there) point link there w) v) (sym none)
         (follows-none (opens_first (wants_of (w.node point).exchange link) false point link None w) v (subst (λ (u : NetworkState). AreSame u v) (sym (opened-none (wants_of (w.node point).exchange link) false)) h))
 
+    wants-same : IsNode settings point → wants_of (w.node point).exchange link ≡ wanted (v.node point).node.parts link
+    wants-same fx = ap (λ (n : Node WholeQueues). wanted n.parts link) (h.each point fx).exchange.node
+
+    pub opens-inside : IsNode settings point → link < length (settings point).links
+        → AreSame (opens_first (wants_of (w.node point).exchange link) (may_open_there w its_end) point link its_end w) (nodes.did settings (nodes.OpensFirst link) point v)
+    opens-inside fx inside =
+        subst (λ (q : Option LinkEnd). AreSame (opens_first (wants_of (w.node point).exchange link) (may_open_there w its_end) point link its_end w)
+        (nodes.open_first settings (wanted (v.node point).node.parts link) (nodes.may_open_at settings v q) point link q v)) (ends-agree settings numbers placed point link inside)
+        (subst (λ (a : Wants). AreSame (opens_first (wants_of (w.node point).exchange link) (may_open_there w its_end) point link its_end w)
+        (nodes.open_first settings a (nodes.may_open_at settings v (led its_end)) point link (led its_end) v)) (wants-same fx)
+        (subst (λ (m : Bool). AreSame (opens_first (wants_of (w.node point).exchange link) (may_open_there w its_end) point link its_end w)
+        (nodes.open_first settings (wants_of (w.node point).exchange link) m point link (led its_end) v)) (may-same its_end refl)
+        (opened-same fx inside (wants_of (w.node point).exchange link) (may_open_there w its_end) its_end refl)))
+
     pub opens-follows : Follows (opens_first (wants_of (w.node point).exchange link) (may_open_there w (other_end w point link)) point link (other_end w point link) w) v
     opens-follows =
         subst (λ (there : Option Place). Follows (opens_first (wants_of (w.node point).exchange link) (may_open_there w there) point link there w) v) (sym end-is) (by (is_node settings point) refl)
       where
-        wants-same : IsNode settings point → wants_of (w.node point).exchange link ≡ wanted (v.node point).node.parts link
-        wants-same fx = ap (λ (n : Node WholeQueues). wanted n.parts link) (h.each point fx).exchange.node
-
         by : (b : Bool) → is_node settings point ≡ b → Follows (opens_first (wants_of (w.node point).exchange link) (may_open_there w its_end) point link its_end w) v
         by true fx =
             ⊎_elim
             (λ (inside : link < length (settings point).links).
-            one-step w v h point (nodes.OpensFirst link) (opens_first (wants_of (w.node point).exchange link) (may_open_there w its_end) point link its_end w) fx
-            (subst (λ (q : Option LinkEnd). AreSame (opens_first (wants_of (w.node point).exchange link) (may_open_there w its_end) point link its_end w)
-            (nodes.open_first settings (wanted (v.node point).node.parts link) (nodes.may_open_at settings v q) point link q v)) (ends-agree settings numbers placed point link inside)
-            (subst (λ (a : Wants). AreSame (opens_first (wants_of (w.node point).exchange link) (may_open_there w its_end) point link its_end w)
-            (nodes.open_first settings a (nodes.may_open_at settings v (led its_end)) point link (led its_end) v)) (wants-same fx)
-            (subst (λ (m : Bool). AreSame (opens_first (wants_of (w.node point).exchange link) (may_open_there w its_end) point link its_end w)
-            (nodes.open_first settings (wants_of (w.node point).exchange link) m point link (led its_end) v)) (may-same its_end refl)
-            (opened-same fx inside (wants_of (w.node point).exchange link) (may_open_there w its_end) its_end refl)))))
+            one-step w v h point (nodes.OpensFirst link) (opens_first (wants_of (w.node point).exchange link) (may_open_there w its_end) point link its_end w) fx (opens-inside fx inside))
             (λ (past : length (settings point).links ≤ link). opens-nowhere (none-past past))
             (cases_lt link (length (settings point).links))
         by false none = opens-nowhere (none-there none)

@@ -13,11 +13,12 @@ use Rattle.node_moves.specs.Laws as law
 use Rattle.node_moves.specs.Laws.{any_fate, fates_that, is_user, users_that}
 use Rattle.node_moves.specs.Networks as nodes
 use Rattle.node_moves.specs.Networks.{IsNode, is_node, points}
-use Rattle.node_moves.proofs.Booking.{has-fate}
+use Rattle.node_moves.proofs.Booking.{all-in-order, takes-each}
 use Rattle.node_moves.proofs.EndToEnd.{all-accounted}
 use Rattle.node_moves.proofs.Ending.{ends-once}
 use Rattle.network_rules.specs.Networks.{NetworkNode, NetworkState, first_network, goes_onward}
 use Rattle.network_rules.specs.Outside.{Move}
+use Rattle.network_rules.specs.Paths.{PassesInOrder}
 use Rattle.network_rules.specs.Totals.{HaveLostNothing, IsPlaced, received_at, waiting_at}
 use Rattle.network_rules.proofs.Booked.{onward_of, texts_of}
 use Rattle.network_rules.proofs.PassedOn.{all-moves-pass}
@@ -25,10 +26,12 @@ use Rattle.network_rules.proofs.Sums.{sum-agree}
 use Rattle.node_law.specs.Alike.{AreLinked}
 use Rattle.node_law.specs.Ends.{AreUnbroken, EndsWhole, accepted_at, came_from, gone_at, waits_at}
 use Rattle.node_law.specs.Sums as sums
+use Rattle.node_law.specs.Sums.{AreAccountedFor}
 use Rattle.node_law.proofs.Counting.{arrived-same, came-same}
-use Rattle.node_law.proofs.Ending.{kept, lossless-unbroken, once-at, run, theirs, unbroken-there, v, w, whole-at}
+use Rattle.node_law.proofs.Ending.{kept, lossless-unbroken, once-same, run, theirs, unbroken-there, v, w, whole-at}
 use Rattle.node_law.proofs.Places.{listed-node, node-listed}
 use Rattle.node_law.proofs.PassedOn.{taken-or-refused}
+use Rattle.node_law.proofs.Steps.{AreKept, AreSame}
 use Rattle.node_law.proofs.Points.{AreAll, sum-listed, sum-nothing, sum-plus}
 
 -- ---- what came from all nodes came to all
@@ -107,13 +110,8 @@ split test on (m ∷ ms) = by (on m) refl (split test on ms)
 
 -- ---- over all nodes
 
-module _ (settings : (point : ℕ) → Configuration) (numbers : List ℕ) (moves : List Move) (placed : IsPlaced settings numbers) (linked : AreLinked (first_network settings)) where
-  abbrev z : NetworkState
-  z = w settings numbers moves placed linked
-
-  abbrev u : nodes.NetworkState
-  u = v settings numbers moves placed linked
-
+module _ (settings : (point : ℕ) → Configuration) (numbers : List ℕ) (placed : IsPlaced settings numbers) (z : NetworkState) (u : nodes.NetworkState) (stay : AreKept settings z) (same : AreSame settings z u)
+    (passes : (y : ℕ) → PassesInOrder (z.node y)) (once : (x : ℕ) → IsNode settings x → law.EndsOnce settings u x) (takes : (x : ℕ) → TakesEachIn settings u x) (summed : ends.IsAccounted settings u) where
   all-points : AreAll (is_node settings) numbers points
   all-points = record {
     inside = λ p its. (let well : IsWell (settings p) = placed.well p its in subst (λ (k : ℕ). k < points) (placed.own p) well.own);
@@ -127,22 +125,19 @@ module _ (settings : (point : ℕ) → Configuration) (numbers : List ℕ) (move
     each list = sum_by (λ y. users_that test (list (z.node y))) numbers
 
     -- as many came from all nodes as came to all
-    come : AreUnbroken numbers z → sum_by (came_from z test) numbers ≡ each (λ x. texts_of x.arrived)
-    come none =
+    come : sum_by (came_from z test) numbers ≡ each (λ x. texts_of x.arrived)
+    come =
         sum-agree (came_from z test) (law.came_from settings u test) numbers
-        (λ p its. came-same settings numbers placed z u (kept settings numbers moves placed linked) (run settings numbers moves placed linked).same test p (listed-node settings numbers placed p its))
+        (λ p its. came-same settings numbers placed z u stay same test p (listed-node settings numbers placed p its))
         ∙ sum-listed (law.came_from settings u test) (is_node settings) numbers points all-points
-        ∙ across settings u test
-        (λ x fx. ends-once settings (run settings numbers moves placed linked).steps x (theirs settings numbers moves placed linked) fx (unbroken-there settings numbers moves placed linked none))
-        (λ x. has-fate settings (run settings numbers moves placed linked).steps x)
-        (all-accounted settings (run settings numbers moves placed linked).steps (theirs settings numbers moves placed linked) (unbroken-there settings numbers moves placed linked none))
+        ∙ across settings u test once takes summed
         ∙ sym (sum-listed (came_to settings u any_fate test) (is_node settings) numbers points all-points)
         ∙ sum-agree (came_to settings u any_fate test) (λ p. users_that test (texts_of (z.node p).arrived)) numbers
-        (λ p its. sym (arrived-same settings numbers placed z u (kept settings numbers moves placed linked) (run settings numbers moves placed linked).same test p (listed-node settings numbers placed p its)))
+        (λ p its. sym (arrived-same settings numbers placed z u stay same test p (listed-node settings numbers placed p its)))
 
-    pub booked : (y : ℕ) → users_that test (z.node y).accepted + users_that test (z.node y).refused
+    booked : (y : ℕ) → users_that test (z.node y).accepted + users_that test (z.node y).refused
         ≡ users_that test (z.node y).entered + users_that test (onward_of (z.node y).exchange.settings (texts_of (z.node y).arrived))
-    booked y = taken-or-refused test (z.node y) (all-moves-pass (first_network settings) moves y)
+    booked y = taken-or-refused test (z.node y) (passes y)
 
     all-booked-so : each (λ x. x.accepted) + each (λ x. x.refused) ≡ each (λ x. x.entered) + each (λ x. onward_of x.exchange.settings (texts_of x.arrived))
     all-booked-so =
@@ -157,43 +152,64 @@ module _ (settings : (point : ℕ) → Configuration) (numbers : List ℕ) (move
         (λ y its. split (λ m. is_user m && test m) (goes_onward (z.node y).exchange.settings) (texts_of (z.node y).arrived))
         ∙ sum-plus (λ y. users_that test (received_at z y)) (λ y. users_that test (onward_of (z.node y).exchange.settings (texts_of (z.node y).arrived))) numbers
 
-    ended : AreUnbroken numbers z → each (λ x. x.accepted) ≡ sum_by (came_from z test) numbers + sum_by (waits_at z test) numbers + sum_by (gone_at z test) numbers
-    ended none =
+    ended : each (λ x. x.accepted) ≡ sum_by (came_from z test) numbers + sum_by (waits_at z test) numbers + sum_by (gone_at z test) numbers
+    ended =
         sum-agree (accepted_at z test) (λ y. came_from z test y + waits_at z test y + gone_at z test y) numbers
-        (λ y its. (once-at settings numbers moves placed linked none y (listed-node settings numbers placed y its)).once test)
+        (λ y its.
+        let fy : IsNode settings y = listed-node settings numbers placed y its in
+        (once-same settings numbers placed z u stay same y fy (once y fy)).once test)
         ∙ sum-plus (λ y. came_from z test y + waits_at z test y) (gone_at z test) numbers
         ∙ ap (λ (k : ℕ). k + sum_by (gone_at z test) numbers) (sum-plus (came_from z test) (waits_at z test) numbers)
 
     last-sum : (acc ref ent onw arr rec wait gone from : ℕ) → acc + ref ≡ ent + onw → arr ≡ rec + onw → acc ≡ from + wait + gone → from ≡ arr → ent ≡ rec + wait + ref + gone
     last-sum acc ref ent onw arr rec wait gone from e f g h = omega (arith, e, f, g, h)
 
-    pub accounted : AreUnbroken numbers z
-        → sums.users_in_all test numbers (λ y. (z.node y).entered)
+    pub accounted-by :
+        sums.users_in_all test numbers (λ y. (z.node y).entered)
         ≡ sums.users_in_all test numbers (received_at z) + sums.users_in_all test numbers (waiting_at z) + sums.users_in_all test numbers (λ y. (z.node y).refused) + sum_by (gone_at z test) numbers
-    accounted none =
+    accounted-by =
         last-sum (each (λ x. x.accepted)) (each (λ x. x.refused)) (each (λ x. x.entered)) (each (λ x. onward_of x.exchange.settings (texts_of x.arrived))) (each (λ x. texts_of x.arrived))
         (sums.users_in_all test numbers (received_at z)) (sums.users_in_all test numbers (waiting_at z)) (sum_by (gone_at z test) numbers) (sum_by (came_from z test) numbers)
-        all-booked-so received (ended none) (come none)
+        all-booked-so received ended come
 
-    pub none-gone : HaveLostNothing numbers z → sum_by (gone_at z test) numbers ≡ 0
-    none-gone none =
-        sum-agree (gone_at z test) (λ y. 0) numbers
-        (λ y its.
-        let e : EndsWhole z y = whole-at settings numbers moves placed linked none y (listed-node settings numbers placed y its) in
-        less (accepted_at z test y) (came_from z test y) (waits_at z test y) (e.once test))
-        ∙ sum-nothing (λ y. 0) numbers (λ y. refl)
-      where
-        less : (a b c : ℕ) → a ≡ b + c → a - (b + c) ≡ 0
-        less a b c e = omega (arith, e)
+-- ---- while no node counts a break
+
+module _ (settings : (point : ℕ) → Configuration) (numbers : List ℕ) (moves : List Move) (placed : IsPlaced settings numbers) (linked : AreLinked (first_network settings)) where
+  abbrev z : NetworkState
+  z = w settings numbers moves placed linked
+
+  pub accounted : AreUnbroken numbers z → AreAccountedFor numbers z
+  accounted none =
+      let whole : law.IsUnbroken settings (v settings numbers moves placed linked) = unbroken-there settings numbers moves placed linked none in
+      record {
+        once = λ test.
+            accounted-by settings numbers placed z (v settings numbers moves placed linked) (kept settings numbers moves placed linked) (run settings numbers moves placed linked).same
+            (λ y. all-moves-pass (first_network settings) moves y)
+            (λ x fx. ends-once settings (run settings numbers moves placed linked).steps x (theirs settings numbers moves placed linked) fx whole)
+            (λ x. takes-each settings (v settings numbers moves placed linked) x (all-in-order settings (run settings numbers moves placed linked).steps x))
+            (all-accounted settings (run settings numbers moves placed linked).steps (theirs settings numbers moves placed linked) whole)
+            test;
+      }
+
+  pub none-gone : (test : Message → Bool) → HaveLostNothing numbers z → sum_by (gone_at z test) numbers ≡ 0
+  none-gone test none =
+      sum-agree (gone_at z test) (λ y. 0) numbers
+      (λ y its.
+      let e : EndsWhole z y = whole-at settings numbers moves placed linked none y (listed-node settings numbers placed y its) in
+      less (accepted_at z test y) (came_from z test y) (waits_at z test y) (e.once test))
+      ∙ sum-nothing (λ y. 0) numbers (λ y. refl)
+    where
+      less : (a b c : ℕ) → a ≡ b + c → a - (b + c) ≡ 0
+      less a b c e = omega (arith, e)
 
 pub all-summed : sums.each_message_is_accounted_for
-all-summed settings numbers moves placed linked none = record { once = λ test. accounted settings numbers moves placed linked test none }
+all-summed settings numbers moves placed linked none = accounted settings numbers moves placed linked none
 
 pub all-whole : sums.networks_lose_nothing
 all-whole settings numbers moves placed linked none =
     record {
       once = λ test.
-          accounted settings numbers moves placed linked test (lossless-unbroken settings numbers moves placed linked none) ∙ last _ _ (none-gone settings numbers moves placed linked test none);
+          (accounted settings numbers moves placed linked (lossless-unbroken settings numbers moves placed linked none)).once test ∙ last _ _ (none-gone settings numbers moves placed linked test none);
     }
   where
     last : (a b : ℕ) → b ≡ 0 → a + b ≡ a

@@ -13,16 +13,15 @@ use Rattle.mtp3_codec.specs.declared.label.Label.{Label}
 use Rattle.network_moves.specs.Networks.{one_if}
 use Rattle.network_moves.proofs.Counts.{count-cons}
 use Rattle.node_moves.specs.Laws.{is_user, users_that}
-use Rattle.network_rules.specs.Networks.{NetworkState, first_network, goes_onward, is_onward}
-use Rattle.network_rules.specs.Outside.{Move}
-use Rattle.network_rules.specs.Totals.{HaveLostNothing, IsPlaced, is_for, is_here, is_listed, received_at, waiting_at}
+use Rattle.network_rules.specs.Networks.{NetworkState, goes_onward, is_onward}
+use Rattle.network_rules.specs.Totals.{IsPlaced, is_for, is_here, is_listed, received_at, waiting_at}
 use Rattle.network_rules.proofs.Booked.{texts_of}
 use Rattle.network_rules.proofs.Sums.{sum-agree, sum-once}
-use Rattle.node_law.specs.Alike.{AreLinked}
-use Rattle.node_law.specs.Ends.{AreUnbroken, gone_at}
-use Rattle.node_law.specs.Sums.{messages_come_from_end_to_end, nothing_is_lost_from_end_to_end, users_in_all}
+use Rattle.node_law.specs.Ends.{gone_at}
+use Rattle.node_law.specs.Sums.{AreAccountedFor, messages_come_from_end_to_end, nothing_is_lost_from_end_to_end, users_in_all}
 use Rattle.node_law.proofs.Ending.{kept, lossless-unbroken, w}
 use Rattle.node_law.proofs.Points.{sum-nothing}
+use Rattle.node_law.proofs.Steps.{AreKept}
 use Rattle.node_law.proofs.Summing.{accounted, none-gone}
 
 -- one for this point is onward at another of the same network
@@ -75,12 +74,8 @@ and-last : (a b : Bool) → (a && b) ≡ true → b ≡ true
 and-last true b e = e
 and-last false b e = absurd cc
 
-module _ (settings : (point : ℕ) → Configuration) (numbers : List ℕ) (moves : List Move) (placed : IsPlaced settings numbers) (linked : AreLinked (first_network settings)) (point : ℕ) (listed : is_listed numbers point ≡ true)
-    (network : (other : ℕ) → is_listed numbers other ≡ true → ((w settings numbers moves placed linked).node other).exchange.settings.network ≡ ((w settings numbers moves placed linked).node point).exchange.settings.network)
-    (test : Message → Bool) where
-  abbrev z : NetworkState
-  z = w settings numbers moves placed linked
-
+module _ (settings : (point : ℕ) → Configuration) (numbers : List ℕ) (placed : IsPlaced settings numbers) (z : NetworkState) (stay : AreKept settings z) (point : ℕ) (listed : is_listed numbers point ≡ true)
+    (network : (other : ℕ) → is_listed numbers other ≡ true → (z.node other).exchange.settings.network ≡ (z.node point).exchange.settings.network) (test : Message → Bool) where
   abbrev c : Configuration
   c = (z.node point).exchange.settings
 
@@ -88,7 +83,7 @@ module _ (settings : (point : ℕ) → Configuration) (numbers : List ℕ) (move
   those m = is_for c m && test m
 
   own-is : (other : ℕ) → (z.node other).exchange.settings.own ≡ other
-  own-is other = ap (λ (d : Configuration). d.own) (kept settings numbers moves placed linked other) ∙ placed.own other
+  own-is other = ap (λ (d : Configuration). d.own) (stay other) ∙ placed.own other
 
   none-at : (other : ℕ) → is_listed numbers other ≡ true → other ≢ point → users_that those (received_at z other) ≡ 0
   none-at other its far =
@@ -120,23 +115,31 @@ module _ (settings : (point : ℕ) → Configuration) (numbers : List ℕ) (move
       ∙ sym (first its_count)
       ∙ ap (λ (n : ℕ). users_that those (received_at z n)) (sym (own-is point))
 
-  come : AreUnbroken numbers z
+  pub come-by : AreAccountedFor numbers z
       → users_in_all those numbers (λ y. (z.node y).entered)
       ≡ users_that those (received_at z c.own) + users_in_all those numbers (waiting_at z) + users_in_all those numbers (λ y. (z.node y).refused) + sum_by (gone_at z those) numbers
-  come none =
-      accounted settings numbers moves placed linked those none
+  come-by accounted =
+      accounted.once those
       ∙ ap (λ (n : ℕ). n + users_in_all those numbers (waiting_at z) + users_in_all those numbers (λ y. (z.node y).refused) + sum_by (gone_at z those) numbers) all-there
 
-  come-whole : HaveLostNothing numbers z
+  pub come-whole : AreAccountedFor numbers z → sum_by (gone_at z those) numbers ≡ 0
       → users_in_all those numbers (λ y. (z.node y).entered)
       ≡ users_that those (received_at z c.own) + users_in_all those numbers (waiting_at z) + users_in_all those numbers (λ y. (z.node y).refused)
-  come-whole none = come (lossless-unbroken settings numbers moves placed linked none) ∙ last _ _ (none-gone settings numbers moves placed linked those none)
+  come-whole accounted none = come-by accounted ∙ last _ _ none
     where
       last : (a b : ℕ) → b ≡ 0 → a + b ≡ a
       last a b e = omega (arith, e)
 
 pub all-come : messages_come_from_end_to_end
-all-come settings numbers moves placed linked none point listed network = record { once = λ test. come settings numbers moves placed linked point listed network test none }
+all-come settings numbers moves placed linked none point listed network = record {
+  once = λ test.
+      come-by settings numbers placed (w settings numbers moves placed linked) (kept settings numbers moves placed linked) point listed network test (accounted settings numbers moves placed linked none);
+}
 
 pub all-whole : nothing_is_lost_from_end_to_end
-all-whole settings numbers moves placed linked none point listed network = record { once = λ test. come-whole settings numbers moves placed linked point listed network test none }
+all-whole settings numbers moves placed linked none point listed network = record {
+  once = λ test.
+      come-whole settings numbers placed (w settings numbers moves placed linked) (kept settings numbers moves placed linked) point listed network test
+      (accounted settings numbers moves placed linked (lossless-unbroken settings numbers moves placed linked none))
+      (none-gone settings numbers moves placed linked _ none);
+}

@@ -1,23 +1,29 @@
 -- A hop anew: from each network on in which nothing is left between its two nodes.
-use Rattle.node_moves.proofs.Basics.{◌≡◌, ◌≢◌, ℕ, Bool, true, false, ◌||◌, ◌&&◌, ◌<◌, List, [], ◌∷◌, length, nat_eq, refl, ap, sym, subst, ◌∙◌, arith, ⊎_elim, cases_eq, eqb-true, ne_eqb, ◌++◌, Ok, Err, Result, if◌then◌else◌}
-use Rattle.node_moves.proofs.Machine.{Network, last_of}
-use Rattle.node_moves.proofs.Definitions.{Message, Configuration, link_at, changeover_of, Link, down_link, is_down, Standing, no_changeover}
+use Rattle.node_moves.proofs.Basics.{◌≡◌, ◌≢◌, ℕ, Bool, true, false, ◌||◌, ◌&&◌, not, ◌<◌, ◌+◌, List, [], ◌∷◌, length, count_by, nat_eq, refl, ap, sym, subst, ◌∙◌, arith, ⊎_elim, cases_eq, eqb-true, ne_eqb, ◌++◌, Ok, Err, Result, if◌then◌else◌}
+use Rattle.node_moves.proofs.Machine.{Network, last_of, one_if}
+use Rattle.node_moves.proofs.Definitions.{Message, Configuration, Node, WholeQueues, is_management, link_at, changeover_of, Link, down_link, is_down, Standing, no_changeover}
 use Rattle.node_moves.proofs.Grown.{IsUnraised, same-grown}
 use Rattle.node_moves.proofs.Reading.{says_of}
 use Rattle.node_moves.proofs.Flights.{changed-here, changed-other}
 use Rattle.node_moves.proofs.Running.{first-shown}
-use Rattle.node_moves.proofs.Closed.{either-true, is_one_of, for_one_of, hop_points, are-hop, stays-between}
+use Rattle.node_moves.proofs.Closed.{either-true, each-true, is_one_of, for_one_of, hop_points, are-hop, stays-between}
 use Rattle.node_moves.proofs.Hops.{near-in, far-in, led, comes-by}
 use Rattle.node_moves.proofs.Everywhere.{IsKept, IsSameNode, one-step}
 use Rattle.node_moves.proofs.Changes.{SpareAll, nobody, spares-nobody, AreAt, at-after, Comes, ChangeGoes, all-changes}
 use Rattle.node_moves.proofs.CountedSince.{HasCounted, counted-kept, IsCapped, capped-kept}
 use Rattle.node_moves.proofs.Begun.{begun, begun-shown, begun-lasts, none-left}
-use Rattle.node_moves.specs.Anew.{Change, Does, Restarts, OpensOutside, ComesOutside, restarted, after_change, after_changes, IsQuietEnd, NothingIsLeft, begun_anew, Stays, AreOfOthers, AreUnbrokenSince, HaveLostNothingSince, ComesOverSince, hops_begin_anew, nothing_is_lost_anew, networks_begin_quietly}
+use Rattle.node_moves.specs.Anew.{Change, Does, Restarts, GivesUp, OpensOutside, ComesOutside, restarted, given_up, after_change, after_changes, IsQuietEnd, NothingIsLeft, begun_anew, Stays, AreOfOthers, AreUnbrokenSince, HaveLostNothingSince, ComesOverSince, hops_begin_anew, nothing_is_lost_anew, networks_begin_quietly}
 use Rattle.node_moves.specs.EndToEnd.{to_point}
-use Rattle.node_moves.specs.Hops.{IsHop, ComesOver, gone_for}
+use Rattle.node_moves.specs.Hops.{IsHop, ComesOver, accepted_for, came_over, gone_for, waits_for}
 use Rattle.node_moves.specs.Laws.{is_user}
 use Rattle.node_moves.specs.Outside.{ArePlaced, leads_out, may_come, put_in}
-use Rattle.node_moves.specs.Networks.{NetworkNode, NetworkState, IsNode, after_step, be_led, changed, first_network, first_node, updated}
+use Rattle.node_moves.specs.Networks.{NetworkNode, NetworkState, IsNode, after_step, be_led, changed, first_network, first_node, state_of, updated}
+use Rattle.exchange_rules.proofs.Settling.{take-waits}
+use Rattle.exchange_rules.proofs.Sound.{done-waits}
+use Rattle.exchange_rules.specs.Routing.{all_wait, is_flow_held, waits}
+use Rattle.exchange_rules.specs.State.{FrameCame, Submitted}
+use Rattle.flow_hold.specs.Holds.{HoldSet}
+use Rattle.network_moves.proofs.Counts.{count-cons}
 use Rattle.network_moves.proofs.Apart.{IsApart}
 use Rattle.network_moves.proofs.Grouped.{apart-after, apart-first, groups-anew}
 use Rattle.network_moves.proofs.Lasting.{lasts-first}
@@ -38,11 +44,37 @@ others-spared : (near far : ℕ) (changes : List Change) → AreOfOthers near fa
 others-spared near far [] h = tt
 others-spared near far (Does step ∷ changes) h = (tt, others-spared near far changes h.1)
 others-spared near far (Restarts point ∷ changes) h = (neither (nat_eq point near) (nat_eq point far) (ne_eqb point near h.0.0) (ne_eqb point far h.0.1), others-spared near far changes h.1)
+others-spared near far (GivesUp point link ∷ changes) h = (neither (nat_eq point near) (nat_eq point far) (ne_eqb point near h.0.0) (ne_eqb point far h.0.1), others-spared near far changes h.1)
 others-spared near far (OpensOutside point link ∷ changes) h = (tt, others-spared near far changes h.1)
 others-spared near far (ComesOutside point link text ∷ changes) h = (tt, others-spared near far changes h.1)
 
 pub unraised : (before after : ℕ) → Stays before after → IsUnraised before after
 unraised before after h = record { same = omega (arith, h.same); low = h.countable }
+
+-- ---- what is in Held waits
+
+abbrev EachWaits : Configuration → NetworkNode → Type 0
+EachWaits c x = all_wait c x.node.parts.holds x.node.queues.held ≡ true
+
+waits-kept : IsKept EachWaits
+waits-kept = record {
+  handed = λ c m x h. done-waits (Submitted m) (state_of c x);
+  heard = λ c link text x inside h. done-waits (FrameCame link text) (state_of c x);
+  happened = λ c what x h. done-waits what (state_of c x);
+  taken = λ c link x h. take-waits c link x.node h;
+  flown = λ c x y s h. subst (λ (n : Node WholeQueues). all_wait c n.parts.holds n.queues.held ≡ true) (sym s.node) h;
+}
+
+-- and management never does
+none-managed : (c : Configuration) (holds : HoldSet) (ms : List Message) → all_wait c holds ms ≡ true → count_by is_management ms ≡ 0
+none-managed c holds [] e = refl
+none-managed c holds (m ∷ ms) e =
+    let two : (waits c holds m ≡ true) × (all_wait c holds ms ≡ true) = each-true (waits c holds m) (all_wait c holds ms) e in
+    omega (arith, count-cons is_management m ms, by (is_management m) refl two.0, none-managed c holds ms two.1)
+  where
+    by : (b : Bool) → is_management m ≡ b → waits c holds m ≡ true → one_if (is_management m) ≡ 0
+    by false f g = ap one_if f
+    by true f g = (let no : false ≡ true = sym (ap (λ (q : Bool). not q && is_flow_held c holds m) f) ∙ g in absurd cc)
 
 module _ (settings : (point : ℕ) → Configuration) (near far : ℕ) where
   -- what comes from outside changes nothing but what is in flight
@@ -65,6 +97,11 @@ module _ (settings : (point : ℕ) → Configuration) (near far : ℕ) where
       (λ (d : y ≢ point). subst (P (settings y)) (sym (changed-other point f w y d)) k)
       (cases_eq y point)
 
+  -- a node that is neither of the two is another than one that is
+  others-apart : (y : ℕ) → is_one_of near far y ≡ true → (point : ℕ) → (point ≢ near) × (point ≢ far) → y ≢ point
+  others-apart y e point d same =
+      ⊎_elim (λ (is : nat_eq y near ≡ true). d.0 (sym same ∙ eqb-true y near is)) (λ (is : nat_eq y far ≡ true). d.1 (sym same ∙ eqb-true y far is)) (either-true (nat_eq y near) (nat_eq y far) e)
+
   -- what a node counts, while it doesn't start again
   counted-after : (y : ℕ) (before : NetworkNode) (changes : List Change) → (is_one_of near far y ≡ true) → AreOfOthers near far changes → (w : NetworkState)
       → HasCounted before.node.parts (w.node y) → HasCounted before.node.parts ((after_changes settings changes w).node y)
@@ -79,30 +116,43 @@ module _ (settings : (point : ℕ) → Configuration) (near far : ℕ) where
       (outside-keeps (λ c x. HasCounted before.node.parts x) (counted-kept before.node.parts) y w point (leads_out settings point link) (put_in (settings point) link text (read_frame text)) (put-same (settings point) link text (read_frame text)) k)
   counted-after y before (Restarts point ∷ changes) e h w k =
       counted-after y before changes e h.1 (after_change settings (Restarts point) w)
-      (subst (HasCounted before.node.parts) (sym (changed-other point (restarted (settings point)) w y (apart point h.0))) k)
-    where
-      apart : (point : ℕ) → (point ≢ near) × (point ≢ far) → y ≢ point
-      apart point d same =
-          ⊎_elim (λ (is : nat_eq y near ≡ true). d.0 (sym same ∙ eqb-true y near is)) (λ (is : nat_eq y far ≡ true). d.1 (sym same ∙ eqb-true y far is)) (either-true (nat_eq y near) (nat_eq y far) e)
+      (subst (HasCounted before.node.parts) (sym (changed-other point (restarted (settings point)) w y (others-apart y e point h.0))) k)
+  counted-after y before (GivesUp point link ∷ changes) e h w k =
+      counted-after y before changes e h.1 (after_change settings (GivesUp point link) w)
+      (subst (HasCounted before.node.parts) (sym (changed-other point (given_up link) w y (others-apart y e point h.0))) k)
+
+  -- what all that a node does keeps, and its restart, all changes keep
+  pub changes-keep : (P : Configuration → NetworkNode → Type 0) → IsKept P → ((c : Configuration) (x : NetworkNode) → P c x → P c (restarted c x)) → (y : ℕ) (changes : List Change) (w : NetworkState)
+      → P (settings y) (w.node y) → P (settings y) ((after_changes settings changes w).node y)
+  changes-keep P kept again y [] w k = k
+  changes-keep P kept again y (Does step ∷ changes) w k = changes-keep P kept again y changes (after_step settings step w) (one-step P kept settings y step w k)
+  changes-keep P kept again y (Restarts point ∷ changes) w k =
+      changes-keep P kept again y changes (after_change settings (Restarts point) w)
+      (⊎_elim
+      (λ (same : y ≡ point).
+      subst (λ (i : ℕ). P (settings i) ((after_change settings (Restarts point) w).node i)) (sym same)
+      (subst (P (settings point)) (sym (changed-here point (restarted (settings point)) w)) (again (settings point) (w.node point) (subst (λ (i : ℕ). P (settings i) (w.node i)) same k))))
+      (λ (d : y ≢ point). subst (P (settings y)) (sym (changed-other point (restarted (settings point)) w y d)) k)
+      (cases_eq y point))
+  changes-keep P kept again y (GivesUp point link ∷ changes) w k =
+      changes-keep P kept again y changes (after_change settings (GivesUp point link) w)
+      (outside-keeps P kept y w point true (given_up link) (λ x. record { node = refl; submitted = refl; came = refl; accepted = refl; made = refl; named = refl }) k)
+  changes-keep P kept again y (OpensOutside point link ∷ changes) w k =
+      changes-keep P kept again y changes (after_change settings (OpensOutside point link) w)
+      (outside-keeps P kept y w point (leads_out settings point link) (be_led link) (λ x. record { node = refl; submitted = refl; came = refl; accepted = refl; made = refl; named = refl }) k)
+  changes-keep P kept again y (ComesOutside point link text ∷ changes) w k =
+      changes-keep P kept again y changes (after_change settings (ComesOutside point link text) w)
+      (outside-keeps P kept y w point (leads_out settings point link) (put_in (settings point) link text (read_frame text)) (put-same (settings point) link text (read_frame text)) k)
 
   -- at each node, whatever is done
   pub capped-after : (y : ℕ) (changes : List Change) (w : NetworkState) → IsCapped (w.node y) → IsCapped ((after_changes settings changes w).node y)
-  capped-after y [] w k = k
-  capped-after y (Does step ∷ changes) w k = capped-after y changes (after_step settings step w) (one-step (λ c x. IsCapped x) capped-kept settings y step w k)
-  capped-after y (Restarts point ∷ changes) w k =
-      capped-after y changes (after_change settings (Restarts point) w)
-      (⊎_elim
-      (λ (same : y ≡ point).
-      subst (λ (i : ℕ). IsCapped ((after_change settings (Restarts point) w).node i)) (sym same)
-      (subst IsCapped (sym (changed-here point (restarted (settings point)) w)) (record { breaks = same-grown refl; messages = same-grown refl })))
-      (λ (d : y ≢ point). subst IsCapped (sym (changed-other point (restarted (settings point)) w y d)) k)
-      (cases_eq y point))
-  capped-after y (OpensOutside point link ∷ changes) w k =
-      capped-after y changes (after_change settings (OpensOutside point link) w)
-      (outside-keeps (λ c x. IsCapped x) capped-kept y w point (leads_out settings point link) (be_led link) (λ x. record { node = refl; submitted = refl; came = refl; accepted = refl; made = refl; named = refl }) k)
-  capped-after y (ComesOutside point link text ∷ changes) w k =
-      capped-after y changes (after_change settings (ComesOutside point link text) w)
-      (outside-keeps (λ c x. IsCapped x) capped-kept y w point (leads_out settings point link) (put_in (settings point) link text (read_frame text)) (put-same (settings point) link text (read_frame text)) k)
+  capped-after = changes-keep (λ c x. IsCapped x) capped-kept (λ c x h. record { breaks = same-grown refl; messages = same-grown refl })
+
+  -- in Held there is no management
+  pub holds-users : (y : ℕ) (changes : List Change) → count_by is_management ((after_changes settings changes (first_network settings)).node y).node.queues.held ≡ 0
+  holds-users y changes =
+      none-managed (settings y) ((after_changes settings changes (first_network settings)).node y).node.parts.holds ((after_changes settings changes (first_network settings)).node y).node.queues.held
+      (changes-keep (λ c x. EachWaits c x) waits-kept (λ c x h. refl) y changes (first_network settings) refl)
 
   pub begun-counted : (y : ℕ) (w : NetworkState) → HasCounted (w.node y).node.parts ((begun_anew w).node y)
   begun-counted y w = record { lost = omega arith; grown = same-grown refl; none_lost = λ u. refl; unbroken = λ u. refl }
@@ -183,7 +233,7 @@ module _ (settings : (point : ℕ) → Configuration) (t : ArePlaced settings) (
     within : EndsOnceWithin (hop_points near far) says_of (is_one_of near far) (for_one_of near far) (last_of (begun p) goes_on.networks) near
     within =
         groups-anew (hop_points near far) says_of (is_one_of near far) (for_one_of near far) (begun p) goes_on.networks near (stays-between near far)
-        (none-left settings t near far fn ff start p reached.shown (at-p near fn).lasts apart quiet_then) goes_on.moves
+        (none-left settings t near far fn ff start p reached.shown (at-p near fn).lasts apart quiet_then (λ x. holds-users settings near far x before)) goes_on.moves
         (λ other e. goes_on.broken other e (λ f. two-whole other e)) (near-in near far)
 
     comes : ComesOver settings near far now
@@ -201,11 +251,17 @@ module _ (settings : (point : ℕ) → Configuration) (t : ArePlaced settings) (
       let c : ComesOverSince settings near far start now = comes-since (whole-so none) in
       omega (arith, c.counted test, (counts near (near-in near far)).none_lost (unraised _ _ none.near_none), none.near_none.countable, (caps near).messages.capped)
 
+  pub each-comes : HaveLostNothingSince near far start now → (test : Message → Bool) → accepted_for settings near far now test ≡ came_over settings near far now test + waits_for settings near far now test
+  each-comes none test = (comes-since (whole-so none)).once test ∙ last _ _ (none-gone none test)
+    where
+      last : (a b : ℕ) → b ≡ 0 → a + b ≡ a
+      last a b e = omega (arith, e)
+
 pub hops-anew : hops_begin_anew
 hops-anew settings before changes near far t fn ff hop quiet_then others whole = comes-since settings t near far fn ff hop before changes quiet_then others whole
 
 pub nothing-lost : nothing_is_lost_anew
-nothing-lost settings before changes near far test t fn ff hop quiet_then others none = none-gone settings t near far fn ff hop before changes quiet_then others none test
+nothing-lost settings before changes near far test t fn ff hop quiet_then others none = each-comes settings t near far fn ff hop before changes quiet_then others none test
 
 -- ---- the first network
 

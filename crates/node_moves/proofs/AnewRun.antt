@@ -1,6 +1,7 @@
 -- The run in which a mate starts again, computed as `MatedRun` computes its own.
 use Rattle.node_moves.proofs.Basics.{◌≡◌, ℕ, zero, suc, Bool, true, false, List, [], ◌∷◌, ◌++◌, ◌<◌, map, count_by, nat_eq, refl, ap, sym, subst, ◌∙◌, arith}
 use Rattle.node_moves.proofs.Definitions.{Message, Configuration, down, changeover_of, peer_of}
+use Rattle.node_moves.proofs.Anew.{whole-so}
 use Rattle.node_moves.proofs.HopRun.{pair-hop, three-out, three-free}
 use Rattle.node_moves.proofs.Ending.{placed}
 use Rattle.node_moves.proofs.LaidOut.{Four, at_point, changed-is, changed_at, network_of, run, run-is}
@@ -8,8 +9,8 @@ use Rattle.node_moves.proofs.Mated.{mated-theirs}
 use Rattle.node_moves.proofs.MatedRun.{first_four, served-is, served_from}
 use Rattle.node_moves.proofs.Offering.{GoesOut, submits-on, submitting}
 use Rattle.node_moves.proofs.Unheld.{Free, free-none, none-held}
-use Rattle.node_moves.specs.Anew.{Change, Does, Restarts, IsQuietEnd, after_changes, begun_anew, is_between, restarted, Stays}
-use Rattle.node_moves.specs.AnewRun.{BeginsAnew, come_anew, message_four, next, outage, over, return}
+use Rattle.node_moves.specs.Anew.{Change, Does, Restarts, IsQuietEnd, after_changes, begun_anew, is_for_either, restarted, AreOfOthers, HaveLostNothingSince, NothingIsLeft, Stays}
+use Rattle.node_moves.specs.AnewRun.{BeginsAnew, come_anew, message_four, next, outage, over, restarting, return}
 use Rattle.node_moves.specs.HopRun.{message_three}
 use Rattle.node_moves.specs.Laws.{most}
 use Rattle.node_moves.specs.MatedPair.{mated}
@@ -114,6 +115,7 @@ record AtEnd : Type 0 where
   between : ℕ
   broken : ℕ
   lost : ℕ
+  late : ℕ
 
 abbrev at_end : NetworkNode → AtEnd
 at_end x = record {
@@ -121,9 +123,10 @@ at_end x = record {
   incomplete = (changeover_of x.node.parts 2).incomplete;
   awaited = (changeover_of x.node.parts 2).awaited;
   follows = x.follows 2;
-  between = count_by (is_between 1 2) x.node.queues.held;
+  between = count_by (is_for_either 1 2) x.node.queues.held;
   broken = x.node.parts.times_broken;
   lost = x.node.parts.times_lost;
+  late = x.node.parts.times_late;
 }
 
 record Before : Type 0 where
@@ -143,7 +146,7 @@ before w = record {
 }
 
 abbrev quiet_with : (lost : ℕ) → AtEnd
-quiet_with lost = record { gone = true; incomplete = false; awaited = false; follows = false; between = 0; broken = 0; lost = lost }
+quiet_with lost = record { gone = true; incomplete = false; awaited = false; follows = false; between = 0; broken = 0; lost = lost; late = 0 }
 
 abbrev so_before : Before
 so_before = record { near = quiet_with 0; far = quiet_with 1; accepted = message_three ∷ []; came = []; named = [] }
@@ -158,6 +161,7 @@ before-is = ap before over-is ∙ before-shown
 record After : Type 0 where
   near_lost : ℕ
   far_lost : ℕ
+  near_late : ℕ
   accepted : List Message
   came : List Fate
 
@@ -165,12 +169,13 @@ abbrev after : NetworkState → After
 after w = record {
   near_lost = (w.node 1).node.parts.times_lost;
   far_lost = (w.node 2).node.parts.times_lost;
+  near_late = (w.node 1).node.parts.times_late;
   accepted = users (w.node 1).accepted;
   came = users_in ((w.node 2).came 2);
 }
 
 abbrev so_after : After
-so_after = record { near_lost = 0; far_lost = 1; accepted = message_four ∷ []; came = delivered message_four ∷ [] }
+so_after = record { near_lost = 0; far_lost = 1; near_late = 0; accepted = message_four ∷ []; came = delivered message_four ∷ [] }
 
 after-shown : after (network_of (come_from first_four)) ≡ so_after
 unfolding apply tell_owed first_sets links_below status_of set_timer clear_timer start_unless_running clear_set due_name after_due due_count names_of choice_among link_by changes_of changes take_back_each owes_nothing any_flow flows rerouted order_each
@@ -206,18 +211,34 @@ far-links link l e =
     third-link (IsQuietEnd (over.node 2)) link l (λ is. (let no : 3 ≡ 1 = sym (ap (peer_of (mated 2)) is) ∙ e in absurd cc)) (λ is. (let no : 4 ≡ 1 = sym (ap (peer_of (mated 2)) is) ∙ e in absurd cc))
     (quiet-so (over.node 2) 1 (ap (λ (s : Before). s.far) before-is))
 
+left_over : NothingIsLeft mated 1 2 over
+left_over = record {
+  near_quiet = record { links = near-links; held = ap (λ (s : Before). s.near.between) before-is };
+  far_quiet = record { links = far-links; held = ap (λ (s : Before). s.far.between) before-is };
+}
+
+stays : (n : ℕ) {one other : ℕ} → n < most → one ≡ n → other ≡ n → Stays one other
+stays n l e f = record { countable = subst (λ (k : ℕ). k < most) (sym e) l; same = f ∙ sym e }
+
+none_since : HaveLostNothingSince 1 2 over come_anew
+none_since = record {
+  near_none = stays 0 (omega arith) (ap (λ (s : Before). s.near.lost) before-is) (ap (λ (s : After). s.near_lost) after-is);
+  far_none = stays 1 (omega arith) (ap (λ (s : Before). s.far.lost) before-is) (ap (λ (s : After). s.far_lost) after-is);
+}
+
+-- steps are nobody's restart
+steps-of-others : (steps : List Step) → AreOfOthers 1 2 (map Does steps)
+steps-of-others [] = tt
+steps-of-others (step ∷ steps) = (tt, steps-of-others steps)
+
 pub begins-anew : BeginsAnew
 begins-anew = record {
   theirs = placed mated mated-theirs;
   hop = pair-hop;
-  left = record {
-    near_quiet = record { links = near-links; held = ap (λ (s : Before). s.near.between) before-is };
-    far_quiet = record { links = far-links; held = ap (λ (s : Before). s.far.between) before-is };
-  };
-  none_lost = record {
-    near_none = stays 0 (omega arith) (ap (λ (s : Before). s.near.lost) before-is) (ap (λ (s : After). s.near_lost) after-is);
-    far_none = stays 1 (omega arith) (ap (λ (s : Before). s.far.lost) before-is) (ap (λ (s : After). s.far_lost) after-is);
-  };
+  left = left_over;
+  unbroken = whole-so mated (placed mated mated-theirs) 1 2 refl refl pair-hop restarting (map Does (return ++ next)) left_over (steps-of-others (return ++ next)) none_since;
+  none_lost = none_since;
+  punctual = stays 0 (omega arith) (ap (λ (s : Before). s.near.late) before-is) (ap (λ (s : After). s.near_late) after-is);
   accepted_before = ap (λ (s : Before). s.accepted) before-is;
   none_came = ap (λ (s : Before). s.came) before-is;
   unnamed = ap (λ (s : Before). s.named) before-is;
@@ -225,6 +246,3 @@ begins-anew = record {
   accepted = ap (λ (s : After). s.accepted) after-is;
   comes = ap (λ (s : After). s.came) after-is;
 }
-  where
-    stays : (n : ℕ) {one other : ℕ} → n < most → one ≡ n → other ≡ n → Stays one other
-    stays n l e f = record { countable = subst (λ (k : ℕ). k < most) (sym e) l; same = f ∙ sym e }

@@ -1,26 +1,23 @@
 -- A network of moves whose books begin: it shows the same nodes, and where nothing is left between two of them nothing of
 -- the two is left in it.
-use Rattle.node_moves.proofs.Basics.{◌≡◌, ◌≢◌, ◌⊎◌, inl, inr, ℕ, zero, suc, Bool, true, false, not, ◌&&◌, ◌||◌, ◌+◌, ◌^◌, ◌≤◌, ◌<◌, List, [], ◌∷◌, length, Some, Ok, Err, Result, count_by, nat_eq, nat_lt, refl, ap, sym, subst, ◌∙◌, arith, nat_tests, ⊎_elim, cases_eq, eqb-true, true≢false}
+use Rattle.node_moves.proofs.Basics.{◌≡◌, ◌≢◌, ◌⊎◌, inl, inr, ℕ, zero, suc, Bool, true, false, not, ◌&&◌, ◌+◌, ◌^◌, ◌≤◌, ◌<◌, List, [], ◌∷◌, length, Some, count_by, nat_eq, nat_lt, refl, ap, sym, subst, ◌∙◌, arith, ⊎_elim, cases_eq, eqb-true, true≢false}
 use Rattle.std.specs.Prelude.{is_some}
 use Rattle.node_moves.proofs.Machine.{Side, Near, Far, opposite, Phase, Live, Moved, Gone, LinkEnd, Line, Network, Shape, turned, seen, Place, line_at, one_if, IsEnd}
-use Rattle.node_moves.proofs.Definitions.{Message, Configuration, Queue, WINDOW, dpc_of, opc_of, is_management, service_indicator, testing, peer_of, Management, MgmtFault, read_management}
-use Rattle.node_moves.proofs.Reading.{IsShape, place_by, place_of, read_says, says_by, says_of, is_long}
+use Rattle.node_moves.proofs.Definitions.{Message, Configuration, Queue, WINDOW, dpc_of, is_management, service_indicator, testing, peer_of}
+use Rattle.node_moves.proofs.Reading.{IsShape, place_by, place_of, says_by, says_of, is_long}
 use Rattle.node_moves.proofs.Shown.{Shows, IsShown, IsBooked, shown_in, at-own}
 use Rattle.node_moves.proofs.Heard.{never-odd, own-apart}
-use Rattle.node_moves.proofs.Codes.{HasCode, read-fits}
 use Rattle.node_moves.proofs.World.{IsFlown, Shown, IsUnused, rests, place_at}
 use Rattle.node_moves.proofs.Relining.{across-line}
 use Rattle.node_moves.proofs.BothEnds.{IsOther, is-other}
 use Rattle.node_moves.proofs.Ending.{no-link, the-other}
 use Rattle.node_moves.proofs.Running.{all_points, point_by}
 use Rattle.node_moves.proofs.Closed.{either-true, is_one_of, for_one_of, concerning, hop_points, are-hop, point-far, says-same, each-true, both-true}
-use Rattle.node_moves.specs.Anew.{IsQuietEnd, NothingIsLeft, is_between, begun_anew}
+use Rattle.node_moves.specs.Anew.{IsQuietEnd, NothingIsLeft, begun_anew, is_for_either}
 use Rattle.node_moves.specs.Outside.{ArePlaced}
 use Rattle.node_moves.specs.Networks.{NetworkNode, NetworkState, IsNode, other_end}
 use Rattle.node_moves.specs.Networks as of_nodes
 use Rattle.link.proofs.Sound.{sound-emptied}
-use Rattle.mtp3_codec.specs.Management.{link_code_of}
-use Rattle.mtp3_codec.specs.declared.management.Management.TheVariants as says
 use Rattle.network_moves.proofs.Apart.{IsApart, IsApartLine}
 use Rattle.network_moves.proofs.Counts.{count-cons}
 use Rattle.network_moves.proofs.First.{quiet-first}
@@ -161,83 +158,32 @@ module _ (near far : ℕ) where
   unfolding all_points
   word-ends opc dpc slc a b d e = both-ends (nat_lt opc dpc) opc dpc slc a b d e
 
-  managed-between : (m : Message) → is_management m ≡ true → nat_eq (service_indicator m) testing ≡ false → group (opc_of m) ≡ true → group (dpc_of m) ≡ true → is_between near far m ≡ true
-  managed-between m e f one two =
-      let lowest : nat_eq (service_indicator m) 0 ≡ true = grind (arith, nat_tests, e, f) in
-      or-right (not (is_management m) && group (dpc_of m)) (nat_eq (service_indicator m) 0 && (group (opc_of m) && group (dpc_of m)))
-      (both-true (nat_eq (service_indicator m) 0) (group (opc_of m) && group (dpc_of m)) lowest (both-true (group (opc_of m)) (group (dpc_of m)) one two))
-    where
-      or-right : (a b : Bool) → b ≡ true → (a || b) ≡ true
-      or-right true b e = refl
-      or-right false b e = e
-
-  read-between : (m : Message) → is_management m ≡ true → nat_eq (service_indicator m) testing ≡ false → (r : Result Management MgmtFault) → read_management m.sif ≡ r → is_odd (read_says (opc_of m) (dpc_of m) r) ≡ false
-      → says_of_group all_points says_of group (for_one_of near far) (for_one_of near far m) (read_says (opc_of m) (dpc_of m) r) ≡ true → is_between near far m ≡ true
-  read-between m managing plain r is even e = by r is even e
-    where
-      opc-low : opc_of m < 2 ^ 14
-      opc-low = omega arith
-
-      dpc-low : dpc_of m < 2 ^ 14
-      dpc-low = omega arith
-
-      code-low : (word : Management) → read_management m.sif ≡ Ok word → link_code_of word < 2 ^ 4
-      code-low word f = (subst HasCode f (read-fits m.sif)).fits
-
-      so : (slc : ℕ) → slc < 2 ^ 4 → is_within all_points says_of group (for_one_of near far) (place_of (opc_of m) (dpc_of m) slc).link ≡ true → is_between near far m ≡ true
-      so slc low g =
-          (let ends : (group (opc_of m) ≡ true) × (group (dpc_of m) ≡ true) = word-ends (opc_of m) (dpc_of m) slc opc-low dpc-low low g in
-          managed-between m managing plain ends.0 ends.1)
-
-      by : (x : Result Management MgmtFault) → read_management m.sif ≡ x → is_odd (read_says (opc_of m) (dpc_of m) x) ≡ false
-          → says_of_group all_points says_of group (for_one_of near far) (for_one_of near far m) (read_says (opc_of m) (dpc_of m) x) ≡ true → is_between near far m ≡ true
-      by (Err fault) f p g = absurd cc
-      by (Ok (says.ExtendedChangeoverOrder slc number)) f p g = so slc (code-low (says.ExtendedChangeoverOrder slc number) f) g
-      by (Ok (says.ExtendedChangeoverAcknowledgement slc number)) f p g = so slc (code-low (says.ExtendedChangeoverAcknowledgement slc number) f) g
-      by (Ok (says.EmergencyChangeoverOrder slc)) f p g = absurd (true≢false (sym never-odd ∙ p))
-      by (Ok (says.EmergencyChangeoverAcknowledgement slc)) f p g = absurd (true≢false (sym never-odd ∙ p))
-      by (Ok (says.ChangebackDeclaration slc code)) f p g = absurd cc
-      by (Ok (says.ChangebackAcknowledgement slc code)) f p g = absurd cc
-      by (Ok (says.TransferProhibited point)) f p g = absurd cc
-      by (Ok (says.TransferRestricted point)) f p g = absurd cc
-      by (Ok (says.TransferAllowed point)) f p g = absurd cc
-      by (Ok (says.RouteSetTestProhibited point)) f p g = absurd cc
-      by (Ok (says.RouteSetTestRestricted point)) f p g = absurd cc
-      by (Ok says.TrafficRestartAllowed) f p g = absurd cc
-      by (Ok (says.UserPartUnavailable point user_part cause)) f p g = absurd cc
-
-  user-between : (m : Message) → is_management m ≡ false → group (dpc_of m) ≡ true → is_between near far m ≡ true
-  user-between m e f = or-left (not (is_management m) && group (dpc_of m)) _ (both-true (not (is_management m)) (group (dpc_of m)) (ap not e) f)
-    where
-      or-left : (a b : Bool) → a ≡ true → (a || b) ≡ true
-      or-left true b e = refl
-      or-left false b e = absurd cc
-
-  said-between : (m : Message) → is_odd (says_of m) ≡ false → concerning near far m ≡ true → is_between near far m ≡ true
+  -- a user message that is left is for one of the two
+  said-between : (m : Message) → is_management m ≡ false → is_odd (says_of m) ≡ false → concerning near far m ≡ true → is_for_either near far m ≡ true
   unfolding says_of
-  said-between m even e = by (is_long m) (is_management m) (nat_eq (service_indicator m) testing) refl refl even e
+  said-between m user even e = by (is_long m) user even (ap (λ (b : Bool). says_of_group all_points says_of group (for_one_of near far) (for_one_of near far m) (says_by (is_long m) b (nat_eq (service_indicator m) testing) m)) (sym user) ∙ e)
     where
-      by : (a b d : Bool) → is_management m ≡ b → nat_eq (service_indicator m) testing ≡ d → is_odd (says_by a b d m) ≡ false
-          → says_of_group all_points says_of group (for_one_of near far) (for_one_of near far m) (says_by a b d m) ≡ true → is_between near far m ≡ true
-      by true b d f i p g = absurd (true≢false (sym never-odd ∙ p))
-      by false false d f i p g = user-between m f g
-      by false true true f i p g = absurd cc
-      by false true false f i p g = read-between m f i (read_management m.sif) refl p g
+      by : (a : Bool) → is_management m ≡ false → is_odd (says_by a (is_management m) (nat_eq (service_indicator m) testing) m) ≡ false
+          → says_of_group all_points says_of group (for_one_of near far) (for_one_of near far m) (says_by a false (nat_eq (service_indicator m) testing) m) ≡ true → is_for_either near far m ≡ true
+      by true f p g = absurd (true≢false (sym never-odd ∙ p))
+      by false f p g = both-true (not (is_management m)) (group (dpc_of m)) (ap not f) g
 
   abbrev left : Message → Bool
   left = is_left (hop_points near far) says_of group (for_one_of near far) true
 
-  left-one : (m : Message) → one_if (left m) ≤ one_if (odd says_of m) + one_if (is_between near far m)
-  left-one m = by (left m) (odd says_of m) refl refl
+  left-one : (m : Message) → one_if (left m) ≤ one_if (odd says_of m) + one_if (is_for_either near far m) + one_if (is_management m)
+  left-one m = by (left m) (odd says_of m) (is_management m) refl refl refl
     where
-      by : (a b : Bool) → left m ≡ a → odd says_of m ≡ b → one_if (left m) ≤ one_if (odd says_of m) + one_if (is_between near far m)
-      by false b e f = omega (arith, ap one_if e)
-      by true true e f = omega (arith, ap one_if e, ap one_if f)
-      by true false e f = omega (arith, ap one_if e, ap one_if (said-between m f (sym (says-same near far (for_one_of near far m) (says_of m)) ∙ e)))
+      by : (a b d : Bool) → left m ≡ a → odd says_of m ≡ b → is_management m ≡ d → one_if (left m) ≤ one_if (odd says_of m) + one_if (is_for_either near far m) + one_if (is_management m)
+      by false b d e f g = omega (arith, ap one_if e)
+      by true true d e f g = omega (arith, ap one_if e, ap one_if f)
+      by true false true e f g = omega (arith, ap one_if e, ap one_if g)
+      by true false false e f g = omega (arith, ap one_if e, ap one_if (said-between m g f (sym (says-same near far (for_one_of near far m) (says_of m)) ∙ e)))
 
-  pub left-all : (ms : List Message) → count_by left ms ≤ count_by (odd says_of) ms + count_by (is_between near far) ms
+  pub left-all : (ms : List Message) → count_by left ms ≤ count_by (odd says_of) ms + count_by (is_for_either near far) ms + count_by is_management ms
   left-all [] = omega arith
-  left-all (m ∷ ms) = omega (arith, count-cons left m ms, count-cons (odd says_of) m ms, count-cons (is_between near far) m ms, left-one m, left-all ms)
+  left-all (m ∷ ms) =
+      omega (arith, count-cons left m ms, count-cons (odd says_of) m ms, count-cons (is_for_either near far) m ms, count-cons is_management m ms, left-one m, left-all ms)
 
 -- ---- nothing of the two is left
 
@@ -310,7 +256,8 @@ module _ (settings : (point : ℕ) → Configuration) (t : ArePlaced settings) (
 -- ---- between two nodes
 
 module _ (settings : (point : ℕ) → Configuration) (t : ArePlaced settings) (near far : ℕ) (fn : IsNode settings near) (ff : IsNode settings far) (w : NetworkState) (p : Network) (s : Shown settings t w p)
-    (lasts : Lasts (hop_points near far) says_of p) (apart : IsApart (hop_points near far) says_of (is_one_of near far) (for_one_of near far) p) (quiet : NothingIsLeft settings near far w) where
+    (lasts : Lasts (hop_points near far) says_of p) (apart : IsApart (hop_points near far) says_of (is_one_of near far) (for_one_of near far) p) (quiet : NothingIsLeft settings near far w)
+    (users : (x : ℕ) → count_by is_management (w.node x).node.queues.held ≡ 0) where
   abbrev of_two : ℕ → Bool
   of_two = is_one_of near far
 
@@ -366,14 +313,14 @@ module _ (settings : (point : ℕ) → Configuration) (t : ArePlaced settings) (
 
   -- ---- nodes
 
-  held-none : (x : ℕ) → of_two x ≡ true → count_by (is_between near far) (w.node x).node.queues.held ≡ 0
-  held-none = of-both (λ x. count_by (is_between near far) (w.node x).node.queues.held ≡ 0) quiet.near_quiet.held quiet.far_quiet.held
+  held-none : (x : ℕ) → of_two x ≡ true → count_by (is_for_either near far) (w.node x).node.queues.held ≡ 0
+  held-none = of-both (λ x. count_by (is_for_either near far) (w.node x).node.queues.held ≡ 0) quiet.near_quiet.held quiet.far_quiet.held
 
   bag-none : (x : ℕ) (b : Bool) → of_two x ≡ b → count_by (is_left (hop_points near far) says_of of_two (for_one_of near far) b) (p.node x).bag ≡ 0
   bag-none x true e =
       let fx : IsNode settings x = of-node x e in
       let b : IsBooked (p.node x) (rests settings t (w.node x)) = subst (λ (i : ℕ). IsBooked (p.node i) (rests settings t (w.node x))) (t.own x fx) (s.nodes x fx).booked in
-      omega (arith, left-all near far (p.node x).bag, lasts.bags x, b.bag (is_between near far), held-none x e)
+      omega (arith, left-all near far (p.node x).bag, lasts.bags x, b.bag (is_for_either near far), held-none x e, b.bag is_management, users x)
   bag-none x false e = apart.bags x e
 
   clear : (link : ℕ) → inside link ≡ false → IsClear (hop_points near far) says_of of_two (for_one_of near far) link (settled_line (p.line link))

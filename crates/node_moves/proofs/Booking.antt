@@ -5,7 +5,7 @@ use Rattle.node_moves.proofs.Flights.{updated-here, updated-other}
 use Rattle.node_moves.proofs.FateCounts.{count-fates}
 use Rattle.node_moves.proofs.OneFate.{Adds, adds-nothing, both-fates, frame-adds, no-fates, submit-adds}
 use Rattle.node_moves.proofs.Everywhere.{IsKept, IsSameNode, everywhere}
-use Rattle.node_moves.specs.Fates.{HaveFates, TakesEachIn, each_message_has_its_fate, goes_on, is_for_sccp, is_sccp}
+use Rattle.node_moves.specs.Fates.{HaveFates, TakesEachIn, goes_on, is_for_sccp, is_sccp}
 use Rattle.node_moves.specs.Laws.{fates_that, is_user, users_that}
 use Rattle.node_moves.specs.Networks.{Fate, NetworkNode, NetworkState, Step, after_steps, fates, first_network, first_node, hand_over, hear_data, made_of, state_of, updated}
 unfoldable use Rattle.exchange_rules.specs.Exchange.{apply}
@@ -214,6 +214,3 @@ takes-each settings w point h = record {
   made = λ test. h.made test;
   made_once = h.made_once;
 }
-
-pub has-fate : each_message_has_its_fate
-has-fate settings steps point = takes-each settings (after_steps settings steps (first_network settings)) point (all-in-order settings steps point)

@@ -1,6 +1,6 @@
 -- Each list of changes is a list of moves, from whatever network shows the state before it. It breaks no node that it
 -- spares, unless that counted it.
-use Rattle.node_moves.proofs.Basics.{◌≡◌, ◌≢◌, ℕ, suc, Bool, true, false, not, ◌&&◌, ◌+◌, ◌<◌, List, [], ◌∷◌, ◌++◌, length, Ok, Err, Result, nat_lt, refl, ap, sym, subst, ◌∙◌, arith, nat_tests, append-nil, if◌then◌else◌, ⊎_elim, cases_eq}
+use Rattle.node_moves.proofs.Basics.{◌≡◌, ◌≢◌, ℕ, suc, Bool, true, false, not, ◌&&◌, ◌≤◌, ◌<◌, List, [], ◌∷◌, ◌++◌, length, Ok, Err, Result, nat_lt, refl, ap, sym, subst, ◌∙◌, arith, nat_tests, append-nil, if◌then◌else◌, ⊎_elim, cases_eq, cases_lt}
 use Rattle.node_moves.proofs.Machine as machine
 use Rattle.node_moves.proofs.Machine.{Frame, Line, Network, Shape, line_at, one_if, saying, Move, Moves, last_of}
 use Rattle.node_moves.proofs.Definitions.{Configuration, Node, WholeQueues, peer_of}
@@ -14,19 +14,21 @@ use Rattle.node_moves.proofs.Steps.{StepGoes, Reaches}
 use Rattle.node_moves.proofs.Running.{all-steps}
 use Rattle.node_moves.proofs.FromOutside.{Comes_so, data-more, statuses-more, speaks-own, outside_of, outside-move, outside-broken, outside-shown}
 use Rattle.node_moves.proofs.StartedAgain.{after, restart-shown, restart-move, restart-broken}
-use Rattle.node_moves.specs.Anew.{Change, Does, Restarts, OpensOutside, ComesOutside, restarted, after_change, after_changes}
+use Rattle.node_moves.proofs.GivenUp as given
+use Rattle.node_moves.specs.Anew.{Change, Does, Restarts, GivesUp, OpensOutside, ComesOutside, restarted, given_up, after_change, after_changes}
 use Rattle.node_moves.specs.Outside.{ArePlaced, leads_out, may_come, put_in}
-use Rattle.node_moves.specs.Networks.{NetworkNode, NetworkState, Step, IsNode, be_led, is_node, changed, updated}
+use Rattle.node_moves.specs.Networks.{NetworkNode, NetworkState, IsNode, be_led, is_node, changed, updated}
 use Rattle.m2pa_codec.specs.Frames.{FrameValue, EmptyFrame, MessageFrame, StatusFrame, read_frame}
 use Rattle.signalling_types.specs.declared.notice.FrameFault.{FrameFault}
 use Rattle.network_moves.proofs.Lasting.{lasts-after}
 use Rattle.network_moves.specs.Networks.{frames_by}
 use Rattle.network_moves.specs.Sayings.{is_elsewhere}
 
--- changes by which none of these nodes starts again
+-- changes by which none of these nodes starts again, or gives up following
 abbrev pub Spares : (kept : ℕ → Bool) → Change → Type 0
 Spares kept (Does step) = Unit {0}
 Spares kept (Restarts point) = kept point ≡ false
+Spares kept (GivesUp point link) = kept point ≡ false
 Spares kept (OpensOutside point link) = Unit {0}
 Spares kept (ComesOutside point link text) = Unit {0}
 
@@ -41,6 +43,7 @@ pub spares-nobody : (changes : List Change) → SpareAll nobody changes
 spares-nobody [] = tt
 spares-nobody (Does step ∷ changes) = (tt, spares-nobody changes)
 spares-nobody (Restarts point ∷ changes) = (refl, spares-nobody changes)
+spares-nobody (GivesUp point link ∷ changes) = (refl, spares-nobody changes)
 spares-nobody (OpensOutside point link ∷ changes) = (tt, spares-nobody changes)
 spares-nobody (ComesOutside point link text ∷ changes) = (tt, spares-nobody changes)
 
@@ -62,6 +65,10 @@ module _ (settings : (point : ℕ) → Configuration) (t : ArePlaced settings) (
     pub record ChangeGoes (w v : NetworkState) : Type 0 where
       pub grown : (point : ℕ) → kept point ≡ true → IsNode settings point → Grown (w.node point).node.parts.times_broken (v.node point).node.parts.times_broken
       pub goes : (p : Network) → AreAt p → Shown settings t w p → Comes w p v
+
+    -- a node that is spared is another than one that isn't
+    spared-apart : (x : ℕ) → kept x ≡ false → (point : ℕ) → kept point ≡ true → point ≢ x
+    spared-apart x out point e same = (let no : true ≡ false = sym e ∙ ap kept same ∙ out in absurd cc)
 
     no-change : (w : NetworkState) → ChangeGoes w w
     no-change w = record {
@@ -86,23 +93,40 @@ module _ (settings : (point : ℕ) → Configuration) (t : ArePlaced settings) (
           idle = s.idle;
         }
 
-    by-restart : (w : NetworkState) (x : ℕ) → kept x ≡ false → ChangeGoes w (changed x (restarted (settings x)) w)
-    by-restart w x out = record {
-      grown = λ point e f. same-grown (ap (λ (y : NetworkNode). y.node.parts.times_broken) (changed-other x (restarted (settings x)) w point (apart point e)));
-      goes = λ p h s. by (is_node settings x) refl p s;
+    -- a node that isn't spared becomes another
+    by-other : (w : NetworkState) (x : ℕ) (f : NetworkNode → NetworkNode) → kept x ≡ false → ((p : Network) → Shown settings t w p → Comes w p (changed x f w)) → ChangeGoes w (changed x f w)
+    by-other w x f out goes = record {
+      grown = λ point e fp. same-grown (ap (λ (y : NetworkNode). y.node.parts.times_broken) (changed-other x f w point (spared-apart x out point e)));
+      goes = λ p h s. goes p s;
     }
-      where
-        apart : (point : ℕ) → kept point ≡ true → point ≢ x
-        apart point e same = (let no : true ≡ false = sym e ∙ ap kept same ∙ out in absurd cc)
 
+    by-restart : (w : NetworkState) (x : ℕ) → kept x ≡ false → ChangeGoes w (changed x (restarted (settings x)) w)
+    by-restart w x out = by-other w x (restarted (settings x)) out (by (is_node settings x) refl)
+      where
         by : (b : Bool) → is_node settings x ≡ b → (p : Network) → Shown settings t w p → Comes w p (changed x (restarted (settings x)) w)
         by true fx p s = record {
           networks = after settings t shape o w p s x fx ∷ [];
           moves = (restart-move settings t shape o w p s x fx, tt);
-          broken = λ point e none. restart-broken settings t shape o w p s x fx point (apart point e);
+          broken = λ point e none. restart-broken settings t shape o w p s x fx point (spared-apart x out point e);
           shown = restart-shown settings t shape o w p s x fx;
         }
         by false none p s = record { networks = []; moves = tt; broken = λ point e same. refl; shown = unseen w p x (restarted (settings x)) none s }
+
+    by-giving-up : (w : NetworkState) (x link : ℕ) → kept x ≡ false → ChangeGoes w (changed x (given_up link) w)
+    by-giving-up w x link out = by-other w x (given_up link) out (by (is_node settings x) refl)
+      where
+        by : (b : Bool) → is_node settings x ≡ b → (p : Network) → Shown settings t w p → Comes w p (changed x (given_up link) w)
+        by true fx p s =
+            ⊎_elim
+            (λ (inside : link < length (settings x).links). record {
+              networks = given.after settings t w x link shape o p s fx inside ∷ [];
+              moves = (given.given-up-move settings t w x link shape o p s fx inside, tt);
+              broken = λ point e none. given.given-up-broken settings t w x link shape o p s fx inside point (spared-apart x out point e);
+              shown = given.given-up-shown settings t w x link shape o p s fx inside;
+            })
+            (λ (past : length (settings x).links ≤ link). record { networks = []; moves = tt; broken = λ point e same. refl; shown = given.unheeded settings t w x link p s past })
+            (cases_lt link (length (settings x).links))
+        by false none p s = record { networks = []; moves = tt; broken = λ point e same. refl; shown = unseen w p x (given_up link) none s }
 
     -- ---- from outside
 
@@ -264,6 +288,7 @@ module _ (settings : (point : ℕ) → Configuration) (t : ArePlaced settings) (
     one-change : (change : Change) → Spares kept change → (w : NetworkState) → ChangeGoes w (after_change settings change w)
     one-change (Does step) spared w = by-step w (after_change settings (Does step) w) (all-steps settings t shape o (step ∷ []) w)
     one-change (Restarts point) spared w = by-restart w point spared
+    one-change (GivesUp point link) spared w = by-giving-up w point link spared
     one-change (OpensOutside point link) spared w = if-out w point link (changed point (be_led link) w) (opens-outside w point link)
     one-change (ComesOutside point link text) spared w =
         if-out w point link (changed point (put_in (settings point) link text (read_frame text)) w) (text-outside w point link text (read_frame text) refl)

@@ -18,7 +18,7 @@ use Rattle.exchange_rules.specs.ChangingBack.{late_time, late_code}
 use Rattle.exchange_rules.specs.ChangingOver.{is_late, order_late, order_all, unbarred}
 unfoldable use Rattle.exchange_rules.specs.ChangingOver.{order_each}
 use Rattle.exchange_rules.specs.Exchange.{go_on, go_by, go, go_each, release, with_timers, run_timer, run_due, run_times, tick, late_by, ordered_late}
-use Rattle.exchange_rules.specs.Messages.{add_title_unless, title_refusal, add_title, remove_title, with_rows}
+use Rattle.exchange_rules.specs.Messages.{add_title_unless, title_refusal, title_set_refusal, add_title, set_title, remove_title, with_rows}
 use Rattle.exchange_rules.specs.Opening.{fail_if_up, end_association, association_down, set_active, activate, deactivate, release_bar}
 unfoldable use Rattle.exchange_rules.specs.Telling.{tell_owed}
 use Rattle.changeover.specs.Changeover.{is_barred}
@@ -184,6 +184,9 @@ module _ (shape : Shape) (o : IsShape shape) (c : Configuration) (well : IsWell 
 
   pub added-goes : (row : TitleEntry) (is_memory_refused : Bool) (n : Node WholeQueues) → K shape o c well n (add_title row is_memory_refused n).left
   added-goes row is_memory_refused n = added-by (title_refusal n.parts.titles.rows row is_memory_refused) row n
+
+  pub set_title-goes : (row : TitleEntry) (is_memory_refused : Bool) (n : Node WholeQueues) → K shape o c well n (set_title row is_memory_refused n).left
+  set_title-goes row is_memory_refused n = added-by (title_set_refusal n.parts.titles.rows row is_memory_refused) row n
 
   pub removed-goes : (key : TitleKey) (digits : List ℕ) (n : Node WholeQueues) → K shape o c well n (remove_title key digits n).left
   removed-goes key digits n =

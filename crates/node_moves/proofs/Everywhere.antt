@@ -115,6 +115,7 @@ module _ (P : Configuration → NetworkNode → Type 0) (kept : IsKept P) where
     did-keeps (of_nodes.Deactivates link) point w h = by-change point (λ c x. did_here (of_nodes.Deactivates link) c x) w (λ c x k. kept.happened c _ x k) h
     did-keeps (of_nodes.Releases link) point w h = by-change point (λ c x. did_here (of_nodes.Releases link) c x) w (λ c x k. kept.happened c _ x k) h
     did-keeps (of_nodes.AddsTitle row refused) point w h = by-change point (λ c x. did_here (of_nodes.AddsTitle row refused) c x) w (λ c x k. kept.happened c _ x k) h
+    did-keeps (of_nodes.SetsTitle row refused) point w h = by-change point (λ c x. did_here (of_nodes.SetsTitle row refused) c x) w (λ c x k. kept.happened c _ x k) h
     did-keeps (of_nodes.RemovesTitle key digits) point w h = by-change point (λ c x. did_here (of_nodes.RemovesTitle key digits) c x) w (λ c x k. kept.happened c _ x k) h
     did-keeps (of_nodes.OpensFirst link) point w h =
         opened (wanted (w.node point).node.parts link) (may_open_at settings w (other_end settings point link)) point link (other_end settings point link) w h

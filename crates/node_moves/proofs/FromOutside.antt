@@ -1,18 +1,18 @@
 -- What comes by links that lead out: one move each.
-use Rattle.node_moves.proofs.Basics.{◌≡◌, ◌≢◌, ◌⊎◌, ℕ, zero, suc, Bool, true, false, not, ◌&&◌, ◌||◌, ◌+◌, ◌^◌, ◌≤◌, ◌<◌, List, [], ◌∷◌, ◌++◌, length, Ok, Err, Result, count_by, nat_eq, nat_lt, refl, ap, sym, subst, ◌∙◌, arith, nat_tests, if◌then◌else◌, ⊎_elim, cases_eq, ne_eqb, eq-eqb, eqb-true}
-use Rattle.node_moves.proofs.Machine.{Side, Near, Far, opposite, Saying, Frame, EmptyFrame, MessageFrame, LinkEnd, Line, Network, Shape, turned, seen, Place, line_at, point_at, one_if, saying, Move}
+use Rattle.node_moves.proofs.Basics.{◌≡◌, ◌≢◌, ℕ, zero, suc, Bool, true, false, not, ◌&&◌, ◌||◌, ◌^◌, ◌≤◌, ◌<◌, List, [], ◌∷◌, ◌++◌, length, Ok, Err, Result, count_by, nat_eq, nat_lt, refl, ap, sym, subst, ◌∙◌, arith, nat_tests, if◌then◌else◌, ⊎_elim, cases_eq, ne_eqb, eq-eqb, eqb-true}
+use Rattle.node_moves.proofs.Machine.{Side, Near, Far, opposite, Frame, LinkEnd, Line, Network, Shape, turned, seen, Place, line_at, point_at, one_if, saying, Move}
 use Rattle.node_moves.proofs.Definitions.{Message, Configuration, IsWell, dpc_of, opc_of, is_management, service_indicator, testing, entry_of, peer_of, set_of, Management, MgmtFault, read_management}
-use Rattle.node_moves.proofs.Reading.{IsShape, place_of, across, other-place, order_at, answer_at, read_says, says_by, says_of, is_long}
-use Rattle.node_moves.proofs.Shown.{Shows, IsShown, IsBooked, place, link-inside, links-apart, at-own}
+use Rattle.node_moves.proofs.Reading.{IsShape, place_of, across, other-place, read_says, says_by, says_of, is_long}
+use Rattle.node_moves.proofs.Shown.{Shows, IsShown, place, link-inside, links-apart, at-own}
 use Rattle.node_moves.proofs.Heard.{own-apart}
-use Rattle.node_moves.proofs.World.{IsFlown, AreData, AreStatuses, IsData, IsStatus, Shown, IsUnused, rests, place_at, same-line}
+use Rattle.node_moves.proofs.World.{IsFlown, AreData, AreStatuses, IsData, IsStatus, Shown, rests, place_at, same-line}
 use Rattle.node_moves.proofs.Relining.{across-line}
 use Rattle.node_moves.proofs.Flights.{IsSameFlight, same-flight, changed-here, changed-other}
 use Rattle.node_moves.proofs.Closed.{each-true}
 use Rattle.node_moves.proofs.Ending.{peer-at}
 use Rattle.node_moves.specs.Networks.{Fate, NetworkNode, NetworkState, IsNode, is_node, changed, messages_of}
 use Rattle.node_moves.specs.Outside.{ArePlaced, is_about_it, speaks_for_itself, may_come}
-use Rattle.exchange_rules.proofs.MadeManagement.{code-fits, adjacent-fits}
+use Rattle.exchange_rules.proofs.MadeManagement.{adjacent-fits}
 use Rattle.mtp3_codec.specs.declared.management.Management.TheVariants as says
 use Rattle.network_moves.specs.Moves as moves
 use Rattle.network_moves.specs.Networks.{frames_by}

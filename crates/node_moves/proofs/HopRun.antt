@@ -1,5 +1,5 @@
 -- The run in which a third point breaks, computed as `MatedRun` computes its own.
-use Rattle.node_moves.proofs.Basics.{◌≡◌, ℕ, List, [], ◌∷◌, ◌++◌, refl, ap, ◌∙◌}
+use Rattle.node_moves.proofs.Basics.{◌≡◌, ℕ, Bool, false, List, [], ◌∷◌, ◌++◌, refl, ap, ◌∙◌}
 use Rattle.node_moves.proofs.Definitions.{Message}
 use Rattle.node_moves.proofs.LaidOut.{Four, network_of, run}
 use Rattle.node_moves.proofs.Mated.{mated-theirs}
@@ -11,6 +11,7 @@ use Rattle.node_moves.specs.HopRun.{MatesAreAHop, breaking, come_over, message_t
 use Rattle.node_moves.specs.MatedPair.{mated}
 use Rattle.node_moves.specs.MatedRun.{cross, delivered, sends, served, users, users_in}
 use Rattle.node_moves.specs.Networks.{Fate, NetworkState}
+use Rattle.exchange_rules.specs.State.{late_any, lost_any}
 unfoldable use Rattle.exchange_rules.specs.Exchange.{apply}
 unfoldable use Rattle.exchange_rules.specs.Telling.{tell_owed}
 unfoldable use Rattle.exchange_rules.specs.ChangingBack.{take_back_each}
@@ -43,6 +44,9 @@ record Shown : Type 0 where
   near : ℕ
   mate : ℕ
   third : ℕ
+  near_lost : Bool
+  mate_lost : Bool
+  near_late : Bool
   accepted : List Message
   came : List Fate
 
@@ -51,12 +55,15 @@ shown w = record {
   near = (w.node 1).node.parts.times_broken;
   mate = (w.node 2).node.parts.times_broken;
   third = (w.node 3).node.parts.times_broken;
+  near_lost = lost_any (w.node 1).node.parts;
+  mate_lost = lost_any (w.node 2).node.parts;
+  near_late = late_any (w.node 1).node.parts;
   accepted = users (w.node 1).accepted;
   came = users_in ((w.node 2).came 2);
 }
 
 abbrev seen_so : Shown
-seen_so = record { near = 0; mate = 0; third = 1; accepted = message_three ∷ []; came = delivered message_three ∷ [] }
+seen_so = record { near = 0; mate = 0; third = 1; near_lost = false; mate_lost = false; near_late = false; accepted = message_three ∷ []; came = delivered message_three ∷ [] }
 
 its-shown : shown (network_of (come_from first_four)) ≡ seen_so
 unfolding apply tell_owed first_sets links_below status_of set_timer clear_timer start_unless_running clear_set due_name after_due due_count names_of choice_among link_by changes_of changes take_back_each owes_nothing any_flow flows rerouted order_each
@@ -78,6 +85,8 @@ mates-hop = record {
   theirs = mated-theirs;
   hop = pair-hop;
   whole = record { near_whole = ap (λ (s : Shown). s.near) is-shown; far_whole = ap (λ (s : Shown). s.mate) is-shown };
+  lossless = record { near_none = ap (λ (s : Shown). s.near_lost) is-shown; far_none = ap (λ (s : Shown). s.mate_lost) is-shown };
+  punctual = ap (λ (s : Shown). s.near_late) is-shown;
   broken = ap (λ (s : Shown). s.third) is-shown;
   accepted = ap (λ (s : Shown). s.accepted) is-shown;
   comes = ap (λ (s : Shown). s.came) is-shown;

@@ -54,11 +54,13 @@ pub mod Routed
 pub mod Closed
 pub mod Hops
 pub mod StartedAgain
+pub mod GivenUp
 pub mod FromOutside
 pub mod Changes
 pub mod CountedSince
 pub mod Begun
 pub mod Anew
 pub mod NetworkAnew
+pub mod EachFate
 pub mod HopRun
 pub mod AnewRun

@@ -20,7 +20,7 @@ use Rattle.exchange_rules.specs.LawsOfLosses.{AreAccounted, Reasons, counted, en
 use Rattle.exchange_rules.specs.Messages.{link_with_code, whither_goes}
 use Rattle.exchange_rules.specs.Receiving.{new_message}
 use Rattle.exchange_rules.specs.Sending.{after_take}
-use Rattle.exchange_rules.specs.State.{Happening, Activated, CameUp, Deactivated, FrameCame, Released, Submitted, Ticked, TitleAdded, TitleRemoved, WentDown, is_raised, lost_any}
+use Rattle.exchange_rules.specs.State.{Happening, Activated, CameUp, Deactivated, FrameCame, Released, Submitted, Ticked, TitleAdded, TitleSet, TitleRemoved, WentDown, is_raised, lost_any}
 use Rattle.m2pa_codec.specs.Frames.{read_frame}
 use Rattle.mtp3_codec.specs.declared.discrimination.Discrimination.{Discrimination}
 use Rattle.mtp3_codec.specs.declared.discrimination.Discrimination.TheVariants as whither
@@ -149,6 +149,7 @@ by-few (Activated link emergency) a = none-wrong
 by-few (Deactivated link) a = none-wrong
 by-few (Released link) a = none-wrong
 by-few (TitleAdded row is_memory_refused) a = none-wrong
+by-few (TitleSet row is_memory_refused) a = none-wrong
 by-few (TitleRemoved key digits) a = none-wrong
 
 pub gone-few : (what : Happening) (a : Abstract) → FewWrong (gone what a)

@@ -10,7 +10,7 @@ use Rattle.node_moves.proofs.World.{Shown, rests}
 use Rattle.node_moves.proofs.Running.{all_points, are-all, all-led, all-steps, first-shown}
 use Rattle.node_moves.proofs.Steps.{Reaches}
 use Rattle.node_moves.proofs.Ending.{ends, placed}
-use Rattle.node_moves.proofs.EndToEnd.{across, accounted, end-to-end, are-joined, all-nodes, no-node}
+use Rattle.node_moves.proofs.EndToEnd.{across, accounted, end-to-end, are-joined, all-nodes, no-node, sum-nowhere}
 use Rattle.node_moves.proofs.Everywhere.{steps-keep}
 use Rattle.node_moves.proofs.Booking.{IsInOrder, order-kept, first-in-order, takes-each}
 use Rattle.node_moves.proofs.Changes.{nobody, spares-nobody, AreAt, at-after, Comes, all-changes}
@@ -18,11 +18,12 @@ use Rattle.node_moves.proofs.CountedSince.{HasCounted, counted-kept, IsCapped}
 use Rattle.node_moves.proofs.Begun.{settled_line, begun, begun-shown, begun-lasts, at-rest, rest-unused}
 use Rattle.node_moves.proofs.Anew.{begun-counted, capped-after, first-quiet, unraised}
 use Rattle.node_moves.specs.Anew.{Change, Stays, after_changes, begun_anew}
-use Rattle.node_moves.specs.EndToEnd.{ComeFromEndToEnd, IsAccounted}
+use Rattle.node_moves.specs.EndToEnd.{ComeFromEndToEnd, IsAccounted, to_point, to_user_parts, total}
+use Rattle.node_moves.specs.Lossless.{ComeWhole, EndsWhole}
 use Rattle.node_moves.specs.Fates.{TakesEachIn}
 use Rattle.node_moves.specs.Laws.{AreTheirs, EndsOnce, gone_at, is_user}
 use Rattle.node_moves.specs.Outside.{ArePlaced}
-use Rattle.node_moves.specs.NetworkAnew.{IsQuietNetwork, NoneBrokenSince, NoneLostSince, EndsOnceSince, nodes_begin_anew, ends_begin_anew, sums_begin_anew, nothing_is_lost_in_a_network_anew, first_networks_are_quiet}
+use Rattle.node_moves.specs.NetworkAnew.{IsQuietNetwork, NoneBrokenSince, NoneLostSince, EndsOnceSince, nodes_begin_anew, ends_begin_anew, sums_begin_anew, nodes_lose_nothing_anew, nothing_is_lost_from_end_to_end_anew, first_networks_are_quiet}
 use Rattle.node_moves.specs.Networks as of_nodes
 use Rattle.node_moves.specs.Networks.{NetworkNode, NetworkState, IsNode, Step, is_node, other_end, points, after_steps, first_network}
 use Rattle.network_moves.proofs.Counts.{count-cons}
@@ -159,7 +160,7 @@ module _ (settings : (point : ℕ) → Configuration) (before : List Change) (st
       let h : IsInOrder (settings y) (of_nodes.first_node (settings y)) = first-in-order (settings y) in
       record { submitted = h.submitted; came = h.came; accepted = h.accepted; made = h.made; made_once = h.made_once }
 
-  takes : (y : ℕ) → TakesEachIn settings now y
+  pub takes : (y : ℕ) → TakesEachIn settings now y
   takes y = takes-each settings now y (steps-keep IsInOrder order-kept settings y steps (begun_anew start) (begun-order y))
 
   module _ (whole : NoneBrokenSince settings start now) where
@@ -168,7 +169,7 @@ module _ (settings : (point : ℕ) → Configuration) (before : List Change) (st
         sound-always all_points says_of (alone settings t p) since.networks (alone-quiet settings t its.joined start p reached.shown lasts-p quiet_then) since.moves
         (λ x. since.broken x (λ fx. unraised _ _ (whole x fx)))
 
-    each : (x : ℕ) → IsNode settings x → EndsOnce settings now x
+    pub each : (x : ℕ) → IsNode settings x → EndsOnce settings now x
     each x fx = ends settings t all_points are-all now q since.shown x fx (λ link inside. its.joined x link fx inside) sound
 
     pub each-since : (x : ℕ) → IsNode settings x → EndsOnceSince settings start now x
@@ -192,6 +193,23 @@ module _ (settings : (point : ℕ) → Configuration) (before : List Change) (st
       let h : Stays (start.node x).node.parts.times_lost (now.node x).node.parts.times_lost = none x fx in
       omega (arith, e.counted test, (counts x).none_lost (unraised _ _ h), h.countable, (caps x).messages.capped)
 
+  last : (a b : ℕ) → b ≡ 0 → a + b ≡ a
+  last a b e = omega (arith, e)
+
+  none-anywhere : NoneLostSince settings start now → (test : Message → Bool) → total settings now (gone_at settings now test) ≡ 0
+  none-anywhere none test = sum-nowhere (is_node settings) (gone_at settings now test) (λ x fx. none-gone none x fx test) points
+
+  pub ends-whole : NoneLostSince settings start now → (x : ℕ) → IsNode settings x → EndsWhole settings now x
+  ends-whole none x fx = record { once = λ test. (each (whole-so none) x fx).once test ∙ last _ _ (none-gone none x fx test) }
+
+  pub comes-whole : NoneLostSince settings start now → (x : ℕ) → IsNode settings x → ComeWhole settings now x
+  comes-whole none x fx =
+      let e : ComeFromEndToEnd settings now x = ends-since (whole-so none) x fx in
+      record {
+        once = λ test. e.once test ∙ last _ _ (none-anywhere none (to_user_parts x test));
+        with_sccp = λ test. e.with_sccp test ∙ last _ _ (none-anywhere none (to_point x test));
+      }
+
 pub nodes-anew : nodes_begin_anew
 nodes-anew settings before steps t quiet_then whole = each-since settings before steps t quiet_then whole
 
@@ -201,8 +219,11 @@ ends-anew settings before steps t quiet_then whole = ends-since settings before 
 pub sums-anew : sums_begin_anew
 sums-anew settings before steps t quiet_then whole = sums-since settings before steps t quiet_then whole
 
-pub none-lost : nothing_is_lost_in_a_network_anew
-none-lost settings before steps t quiet_then none = none-gone settings before steps t quiet_then none
+pub nodes-lose-none : nodes_lose_nothing_anew
+nodes-lose-none settings before steps t quiet_then none = ends-whole settings before steps t quiet_then none
+
+pub none-lost : nothing_is_lost_from_end_to_end_anew
+none-lost settings before steps t quiet_then none = comes-whole settings before steps t quiet_then none
 
 pub first-networks-quiet : first_networks_are_quiet
 first-networks-quiet settings point fx = record { links = λ link l. first-quiet (settings point) link l; held = refl }

@@ -10,7 +10,7 @@ use Rattle.node_moves.proofs.Handling.{mid}
 use Rattle.node_moves.proofs.World.{IsFlown, Shown, rests, place_at}
 use Rattle.node_moves.proofs.Flights.{changed-here, changed-other}
 use Rattle.node_moves.proofs.BothEnds.{is-other}
-use Rattle.node_moves.proofs.Steps.{StepGoes, Reaches, step-none, step-by-goes, grown-before, event-settles, submits-step, loses-step, ticks-step, activates-step, deactivates-step, releases-step, adds-step, removes-step}
+use Rattle.node_moves.proofs.Steps.{StepGoes, Reaches, step-none, step-by-goes, grown-before, event-settles, submits-step, loses-step, ticks-step, activates-step, deactivates-step, releases-step, adds-step, sets-step, removes-step}
 use Rattle.node_moves.proofs.Handing.{changed-alike, data-step, status-step, lost-step, doubled-step}
 use Rattle.node_moves.proofs.Opening.{MayComeUp, wants-open, second-step, first-step}
 use Rattle.node_moves.proofs.Sending.{takes-step}
@@ -231,6 +231,7 @@ module _ (settings : (point : ℕ) → Configuration) (t : ArePlaced settings) (
   step-goes w x (of_nodes.Deactivates link) fx = deactivates-step settings t shape o w x link fx
   step-goes w x (of_nodes.Releases link) fx = releases-step settings t shape o w x link fx
   step-goes w x (of_nodes.AddsTitle row refused) fx = adds-step settings t shape o w x row refused fx
+  step-goes w x (of_nodes.SetsTitle row refused) fx = sets-step settings t shape o w x row refused fx
   step-goes w x (of_nodes.RemovesTitle key digits) fx = removes-step settings t shape o w x key digits fx
   step-goes w x (of_nodes.OpensFirst link) fx =
       first-by w x link (wanted (w.node x).node.parts link) (may_open_at settings w (other_end settings x link)) (other_end settings x link) fx refl refl refl

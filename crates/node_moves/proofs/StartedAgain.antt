@@ -1,5 +1,5 @@
 -- A node that starts again: one move.
-use Rattle.node_moves.proofs.Basics.{◌≡◌, ◌≢◌, ℕ, Bool, true, false, not, ◌<◌, List, [], length, Some, count_by, nat_eq, refl, ap, sym, subst, ◌∙◌, arith, if◌then◌else◌, length-replicate, ⊎_elim, cases_eq, ne_eqb, eq-eqb}
+use Rattle.node_moves.proofs.Basics.{◌≡◌, ◌≢◌, ℕ, Bool, true, false, not, ◌<◌, List, [], length, count_by, nat_eq, refl, ap, sym, subst, ◌∙◌, arith, if◌then◌else◌, length-replicate, ⊎_elim, cases_eq, ne_eqb, eq-eqb}
 use Rattle.node_moves.proofs.Machine.{Side, Near, Far, opposite, LinkEnd, Line, Network, Shape, turned, seen, Place, line_at, point_at, Move}
 use Rattle.node_moves.proofs.Definitions.{Message, Configuration, link_at, changeover_of, first_queue, Link, down_link, Standing, no_changeover, is_down, is_in_service, peer_of}
 use Rattle.node_moves.proofs.Reading.{IsShape, says_of, across}
@@ -11,7 +11,6 @@ use Rattle.node_moves.proofs.World.{IsFlown, AreData, AreStatuses, Shown, IsUnus
 use Rattle.node_moves.specs.Anew.{restarted}
 use Rattle.node_moves.specs.Outside.{ArePlaced}
 use Rattle.node_moves.specs.Networks.{NetworkNode, NetworkState, IsNode, changed, first_node}
-use Rattle.node_moves.specs.Networks as of_nodes
 use Rattle.exchange_rules.proofs.Lists.{each-replicate}
 use Rattle.network_moves.specs.Moves as moves
 use Rattle.network_moves.specs.Networks as net

@@ -9,7 +9,7 @@ use Rattle.node_moves.proofs.Going.{IsAt, Goes, goes-both}
 use Rattle.node_moves.proofs.Handling.{mid, names-more}
 use Rattle.node_moves.proofs.Own.{Names, named-besides, named-twice}
 use Rattle.node_moves.proofs.Bringing.{submitted}
-use Rattle.node_moves.proofs.Events.{settles, ticked-goes, down-goes, activate-goes, deactivate-goes, release_bar-goes, added-goes, removed-goes}
+use Rattle.node_moves.proofs.Events.{settles, ticked-goes, down-goes, activate-goes, deactivate-goes, release_bar-goes, added-goes, set_title-goes, removed-goes}
 use Rattle.node_moves.proofs.World.{IsFlown, AreStatuses, Shown, books_of, rests, at-work, at-rest, place_at}
 use Rattle.node_moves.proofs.Relining.{Leads, leads-none, leads-one, leads-goes, with_line}
 use Rattle.node_moves.proofs.Flights.{IsSameFlight, same-flight, changed-here, changed-other, updated-here, updated-other, only-changed, statuses-changed}
@@ -20,7 +20,7 @@ use Rattle.exchange_rules.specs.Conserving.{brought_in, brought_to, gone, gone_b
 unfoldable use Rattle.exchange_rules.specs.Exchange.{apply}
 use Rattle.exchange_rules.specs.Exchange.{handle_event, outcome_of}
 use Rattle.exchange_rules.specs.Messages.{whither_goes}
-use Rattle.exchange_rules.specs.State.{Happening, WentDown, Ticked, Submitted, Activated, Deactivated, Released, TitleAdded, TitleRemoved}
+use Rattle.exchange_rules.specs.State.{Happening, WentDown, Ticked, Submitted, Activated, Deactivated, Released, TitleAdded, TitleSet, TitleRemoved}
 use Rattle.network_moves.specs.Carrying.{with_statuses_left}
 use Rattle.signalling_types.specs.declared.outcome.Outcome.{Outcome}
 use Rattle.sccp_codec.specs.declared.title.TitleKey.{TitleKey}
@@ -136,6 +136,9 @@ module _ (settings : (point : ℕ) → Configuration) (t : ArePlaced settings) (
 
   pub adds-step : (w : NetworkState) (x : ℕ) (row : TitleEntry) (refused : Bool) → IsNode settings x → StepGoes w (changed x (happens (settings x) (TitleAdded row refused)) w)
   adds-step w x row refused fx = happening w x (TitleAdded row refused) fx (named-besides shape o (settings x) (t.well x fx) (w.node x).node _ [] (added-goes shape o (settings x) (t.well x fx) row refused (w.node x).node))
+
+  pub sets-step : (w : NetworkState) (x : ℕ) (row : TitleEntry) (refused : Bool) → IsNode settings x → StepGoes w (changed x (happens (settings x) (TitleSet row refused)) w)
+  sets-step w x row refused fx = happening w x (TitleSet row refused) fx (named-besides shape o (settings x) (t.well x fx) (w.node x).node _ [] (set_title-goes shape o (settings x) (t.well x fx) row refused (w.node x).node))
 
   pub removes-step : (w : NetworkState) (x : ℕ) (key : TitleKey) (digits : List ℕ) → IsNode settings x → StepGoes w (changed x (happens (settings x) (TitleRemoved key digits)) w)
   removes-step w x key digits fx = happening w x (TitleRemoved key digits) fx (named-besides shape o (settings x) (t.well x fx) (w.node x).node _ [] (removed-goes shape o (settings x) (t.well x fx) key digits (w.node x).node))

@@ -3,7 +3,7 @@
 -- again.
 use Rattle.std.specs.Prelude.{◌≡◌, ◌≢◌, ◌≤◌, ◌<◌, ◌+◌, ◌&&◌, ◌||◌, ℕ, Bool, true, false, not, min, nat_eq, List, []}
 use Rattle.std.specs.Prelude.{◌∷◌, length, count_by, if◌then◌else◌}
-use Rattle.signalling_types.specs.Message.{Message, dpc_of, opc_of, service_indicator, is_management}
+use Rattle.signalling_types.specs.Message.{Message, dpc_of, is_management}
 use Rattle.settings.specs.Configuration.{Configuration}
 use Rattle.exchange_rules.specs.ChangingOver.{changeover_of}
 use Rattle.exchange_rules.specs.Routing.{peer_of}
@@ -13,16 +13,18 @@ use Rattle.node_moves.specs.EndToEnd.{to_point}
 use Rattle.node_moves.specs.Hops.{IsHop, accepted_for, came_over, gone_for, waits_for}
 use Rattle.node_moves.specs.Laws.{most, users_that}
 use Rattle.node_moves.specs.Networks.{NetworkNode, NetworkState, IsNode, Step, after_step, changed, first_network}
-use Rattle.node_moves.specs.Networks.{be_led, first_node}
+use Rattle.node_moves.specs.Networks.{be_led, first_node, updated}
 use Rattle.node_moves.specs.Outside.{ArePlaced, leads_out, put_in}
 
 -- ---- nodes that start again
 
--- what is done to a network: a step; a node starts again; or, on a link of a node that leads out, the other end opens,
--- and the node may follow, or a frame is in flight to the node
+-- what is done to a network: a step; a node starts again; a node that may follow the other end of a link gives that up;
+-- or, on a link of a node that leads out, the other end opens, and the node may follow, or a frame is in flight to the
+-- node
 pub data Change : Type 0 where
   Does : (step : Step) → Change
   Restarts : (point : ℕ) → Change
+  GivesUp : (point link : ℕ) → Change
   OpensOutside : (point link : ℕ) → Change
   ComesOutside : (point link : ℕ) (text : List ℕ) → Change
 
@@ -38,10 +40,15 @@ restarted c x = record (first_node c) {
   named = x.named;
 }
 
+-- a node may not follow the other end of a link any more, as when its transport has seen that nobody answers
+abbrev pub given_up : (link : ℕ) → NetworkNode → NetworkNode
+given_up link x = record x { follows = updated x.follows link false }
+
 module _ (settings : (point : ℕ) → Configuration) where
   abbrev pub after_change : Change → NetworkState → NetworkState
   after_change (Does step) w = after_step settings step w
   after_change (Restarts point) w = changed point (restarted (settings point)) w
+  after_change (GivesUp point link) w = changed point (given_up link) w
   after_change (OpensOutside point link) w =
       if leads_out settings point link then changed point (be_led link) w else w
   after_change (ComesOutside point link text) w =
@@ -59,12 +66,9 @@ module _ (near far : ℕ) where
   abbrev pub is_either : (point : ℕ) → Bool
   is_either point = nat_eq point near || nat_eq point far
 
-  -- whether a message is between the two: a user message for either, or management (service indicator 0) from either
-  -- for either
-  abbrev pub is_between : Message → Bool
-  is_between m =
-      not (is_management m) && is_either (dpc_of m)
-      || nat_eq (service_indicator m) 0 && (is_either (opc_of m) && is_either (dpc_of m))
+  -- whether a message is a user message for one of the two. (Management is never in Held)
+  abbrev pub is_for_either : Message → Bool
+  is_for_either m = not (is_management m) && is_either (dpc_of m)
 
 -- at one end of a link: it is down, its changeover is complete, no answer is awaited, and it may not follow the other
 -- end
@@ -75,11 +79,11 @@ pub record IsQuietEnd (x : NetworkNode) (link : ℕ) : Type 0 where
   pub alone : x.follows link ≡ false
 
 module _ (settings : (point : ℕ) → Configuration) (near far : ℕ) (w : NetworkState) where
-  -- so it is at one of the two nodes, on each link to the other; and no message between the two is in its Held
+  -- so it is at one of the two nodes, on each link to the other; and no user message for either is in its Held
   pub record IsQuietNode (here there : ℕ) : Type 0 where
     pub links : (link : ℕ) → link < length (settings here).links → peer_of (settings here) link ≡ there →
         IsQuietEnd (w.node here) link
-    pub held : count_by (is_between near far) (w.node here).node.queues.held ≡ 0
+    pub held : count_by (is_for_either near far) (w.node here).node.queues.held ≡ 0
 
   -- and at both. (What is in third nodes doesn't matter, nor what is on links that lead there)
   pub record NothingIsLeft : Type 0 where
@@ -102,10 +106,11 @@ pub record Stays (before after : ℕ) : Type 0 where
   pub same : after ≡ before
 
 module _ (near far : ℕ) where
-  -- neither of the two starts again
+  -- neither of the two starts again, or gives up following the other end of a link
   abbrev pub IsOfOthers : Change → Type 0
   IsOfOthers (Does step) = Unit {0}
   IsOfOthers (Restarts point) = (point ≢ near) × (point ≢ far)
+  IsOfOthers (GivesUp point link) = (point ≢ near) × (point ≢ far)
   IsOfOthers (OpensOutside point link) = Unit {0}
   IsOfOthers (ComesOutside point link text) = Unit {0}
 
@@ -138,8 +143,8 @@ module _ (settings : (point : ℕ) → Configuration) (near far : ℕ) where
         min ((before.node near).node.parts.messages_lost + gone_for settings near far w test) most
         ≤ (w.node near).node.parts.messages_lost
 
--- after every list of changes from a network on in which nothing is left between the two, while neither starts again or
--- is broken, whatever the others do
+-- after every list of changes from a network on in which nothing is left between the two, while neither starts again,
+-- gives up following or is broken, whatever the others do
 abbrev pub hops_begin_anew : Type 0
 hops_begin_anew =
     (settings : (point : ℕ) → Configuration) (before changes : List Change) (near far : ℕ) → ArePlaced settings →
@@ -153,7 +158,7 @@ hops_begin_anew =
     (after_changes settings before (first_network settings))
     (after_changes settings changes (begun_anew (after_changes settings before (first_network settings))))
 
--- and while neither counts a loss, none is gone
+-- and while neither counts a loss, each came or waits
 abbrev pub nothing_is_lost_anew : Type 0
 nothing_is_lost_anew =
     (settings : (point : ℕ) → Configuration) (before changes : List Change) (near far : ℕ) (test : Message → Bool) →
@@ -163,10 +168,15 @@ nothing_is_lost_anew =
     HaveLostNothingSince near far
     (after_changes settings before (first_network settings))
     (after_changes settings changes (begun_anew (after_changes settings before (first_network settings)))) →
-    gone_for settings near far
+    accepted_for settings near far
     (after_changes settings changes (begun_anew (after_changes settings before (first_network settings))))
     test
-    ≡ 0
+    ≡ came_over settings near far
+    (after_changes settings changes (begun_anew (after_changes settings before (first_network settings))))
+    test
+    + waits_for settings near far
+    (after_changes settings changes (begun_anew (after_changes settings before (first_network settings))))
+    test
 
 -- at first nothing is left between any two
 abbrev pub networks_begin_quietly : Type 0

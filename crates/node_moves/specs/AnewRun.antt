@@ -2,8 +2,8 @@
 -- ran out at the other, nothing is left between the two; their link opens again, and the next message comes.
 use Rattle.std.specs.Prelude.{◌≡◌, List, [], ◌∷◌, ◌++◌, map, replicate}
 use Rattle.signalling_types.specs.Message.{Message}
-use Rattle.node_moves.specs.Anew.{Change, Does, Restarts, HaveLostNothingSince, NothingIsLeft, after_changes}
-use Rattle.node_moves.specs.Anew.{begun_anew}
+use Rattle.node_moves.specs.Anew.{Change, Does, Restarts, AreUnbrokenSince, HaveLostNothingSince, NothingIsLeft, Stays}
+use Rattle.node_moves.specs.Anew.{after_changes, begun_anew}
 use Rattle.node_moves.specs.Hops.{IsHop, AreUnbroken}
 use Rattle.node_moves.specs.HopRun.{message_three}
 use Rattle.node_moves.specs.MatedPair.{mated}
@@ -45,7 +45,10 @@ pub record BeginsAnew : Type 0 where
   pub theirs : ArePlaced mated
   pub hop : IsHop mated 1 2
   pub left : NothingIsLeft mated 1 2 over
+  pub unbroken : AreUnbrokenSince 1 2 over come_anew
   pub none_lost : HaveLostNothingSince 1 2 over come_anew
+  -- and no hold is ended by time at point 1
+  pub punctual : Stays (over.node 1).node.parts.times_late (come_anew.node 1).node.parts.times_late
   -- the message was accepted, came nowhere, and nobody named it, though neither of the two counts a break
   pub accepted_before : users (over.node 1).accepted ≡ message_three ∷ []
   pub none_came : users_in ((over.node 2).came 2) ≡ []

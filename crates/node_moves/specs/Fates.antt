@@ -9,7 +9,7 @@ use Rattle.settings.specs.Configuration.{Configuration}
 use Rattle.exchange_rules.specs.Messages.{is_user, sccp}
 use Rattle.network_moves.specs.Networks.{sum_to}
 use Rattle.node_moves.specs.Laws.{users_that, fates_that, any_fate, accepted_at}
-use Rattle.node_moves.specs.Networks.{Fate, NetworkState, Step, is_here, after_steps, first_network}
+use Rattle.node_moves.specs.Networks.{Fate, NetworkState, is_here}
 
 -- ---- kinds of fates
 
@@ -100,9 +100,3 @@ module _ (settings : (point : ℕ) → Configuration) (w : NetworkState) where
     -- SCCP makes messages of SCCP, in all no more than came here or were handed over that are for SCCP here
     pub made : (test : Message → Bool) → made_at (λ m. not (is_sccp m) && test m) point ≡ 0
     pub made_once : made_at (λ m. true) point ≤ met_at (is_for_sccp (settings point)) (λ m. true) point
-
--- so it is at each node after every list of steps, whatever was lost or broken
-abbrev pub each_message_has_its_fate : Type 0
-each_message_has_its_fate =
-    (settings : (point : ℕ) → Configuration) (steps : List Step) (point : ℕ) →
-    TakesEachIn settings (after_steps settings steps (first_network settings)) point

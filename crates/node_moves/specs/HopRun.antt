@@ -1,8 +1,9 @@
 -- The mates of the mated pair are a hop: one set alone leads from each to the other, though two lead to every other
 -- point. And a run in which a third point breaks before a message comes from one of the mates to the other.
-use Rattle.std.specs.Prelude.{◌≡◌, List, [], ◌∷◌, ◌++◌, replicate}
+use Rattle.std.specs.Prelude.{◌≡◌, false, List, [], ◌∷◌, ◌++◌, replicate}
 use Rattle.signalling_types.specs.Message.{Message}
-use Rattle.node_moves.specs.Hops.{IsHop, AreUnbroken}
+use Rattle.exchange_rules.specs.State.{late_any}
+use Rattle.node_moves.specs.Hops.{IsHop, AreUnbroken, HaveNoFlag}
 use Rattle.node_moves.specs.Laws.{AreTheirs}
 use Rattle.node_moves.specs.MatedPair.{mated}
 use Rattle.node_moves.specs.MatedRun.{cross, delivered, direct, fails, sends, served, submits, users, users_in}
@@ -28,6 +29,9 @@ pub record MatesAreAHop : Type 0 where
   pub theirs : AreTheirs mated
   pub hop : IsHop mated 1 2
   pub whole : AreUnbroken mated 1 2 come_over
+  -- and neither of the two has raised its flag of losses, nor point 1 that of lateness
+  pub lossless : HaveNoFlag mated 1 2 come_over
+  pub punctual : late_any (come_over.node 1).node.parts ≡ false
   -- point 3 is broken
   pub broken : (come_over.node 3).node.parts.times_broken ≡ 1
   -- point 1 accepted the message, and it came to point 2, once

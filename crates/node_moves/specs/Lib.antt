@@ -11,5 +11,6 @@ pub mod Hops
 pub mod HopRun
 pub mod Outside
 pub mod Anew
+pub mod EachFate
 pub mod AnewRun
 pub mod NetworkAnew

@@ -6,6 +6,7 @@ use Rattle.settings.specs.Configuration.{Configuration}
 use Rattle.node_moves.specs.Anew.{Change, IsQuietEnd, Stays, after_changes, begun_anew}
 use Rattle.node_moves.specs.EndToEnd.{ComeFromEndToEnd, IsAccounted}
 use Rattle.node_moves.specs.Laws.{AreTheirs, accepted_at, came_from, gone_at, most, users_that, waits_at}
+use Rattle.node_moves.specs.Lossless.{ComeWhole, EndsWhole}
 use Rattle.node_moves.specs.Networks.{NetworkState, IsNode, Step, after_steps, first_network}
 
 module _ (settings : (point : ℕ) → Configuration) where
@@ -70,11 +71,17 @@ ends_begin_anew =
 abbrev pub sums_begin_anew : Type 0
 sums_begin_anew = SinceQuiet NoneBrokenSince (λ settings before w. IsAccounted settings w)
 
--- and while no node counts a loss, none is gone
-abbrev pub nothing_is_lost_in_a_network_anew : Type 0
-nothing_is_lost_in_a_network_anew =
-    SinceQuiet NoneLostSince (λ settings before w. (point : ℕ) → IsNode settings point → (test : Message → Bool) →
-    gone_at settings w test point ≡ 0)
+-- and while no node counts a loss, none is gone: at each node
+abbrev pub nodes_lose_nothing_anew : Type 0
+nodes_lose_nothing_anew =
+    SinceQuiet NoneLostSince (λ settings before w. (point : ℕ) → IsNode settings point →
+    EndsWhole settings w point)
+
+-- and from end to end
+abbrev pub nothing_is_lost_from_end_to_end_anew : Type 0
+nothing_is_lost_from_end_to_end_anew =
+    SinceQuiet NoneLostSince (λ settings before w. (point : ℕ) → IsNode settings point →
+    ComeWhole settings w point)
 
 -- the first network is quiet
 abbrev pub first_networks_are_quiet : Type 0

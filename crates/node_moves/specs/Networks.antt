@@ -24,7 +24,7 @@ use Rattle.exchange_rules.specs.Receiving.{new_message}
 use Rattle.exchange_rules.specs.Routing.{entry_of, peer_of}
 use Rattle.exchange_rules.specs.Sending.{frame_taken, after_take}
 use Rattle.exchange_rules.specs.State.{Happening, CameUp, WentDown, FrameCame, Ticked, Submitted, Activated}
-use Rattle.exchange_rules.specs.State.{Deactivated, Released, TitleAdded, TitleRemoved, Node, down}
+use Rattle.exchange_rules.specs.State.{Deactivated, Released, TitleAdded, TitleSet, TitleRemoved, Node, down}
 
 -- a message that a user part handed over, or that came by a link, and what became of it: the outcome of that event
 pub record Fate : Type 0 where
@@ -79,6 +79,7 @@ pub data Doing : Type 0 where
   Deactivates : (link : ℕ) → Doing
   Releases : (link : ℕ) → Doing
   AddsTitle : (row : TitleEntry) (is_memory_refused : Bool) → Doing
+  SetsTitle : (row : TitleEntry) (is_memory_refused : Bool) → Doing
   RemovesTitle : (key : TitleKey) (digits : List ℕ) → Doing
   -- a link opens here, at the first of its two ends; or this end follows the other
   OpensFirst : (link : ℕ) → Doing
@@ -210,6 +211,7 @@ did_here (Activates link emergency) c x = happens c (Activated link emergency) x
 did_here (Deactivates link) c x = happens c (Deactivated link) x
 did_here (Releases link) c x = happens c (Released link) x
 did_here (AddsTitle row is_memory_refused) c x = happens c (TitleAdded row is_memory_refused) x
+did_here (SetsTitle row is_memory_refused) c x = happens c (TitleSet row is_memory_refused) x
 did_here (RemovesTitle key digits) c x = happens c (TitleRemoved key digits) x
 did_here (OpensFirst link) c x = x
 did_here (OpensSecond link) c x = follow c (wanted x.node.parts link) (x.follows link) link x

@@ -6,7 +6,7 @@ use Rattle.signalling_types.specs.declared.limits.TheConstants.Limits.{SIF_OCTET
 use Rattle.settings.specs.Configuration.{Configuration}
 use Rattle.settings.specs.Well.{IsWell}
 use Rattle.exchange_rules.specs.Routing.{entry_of, peer_of}
-use Rattle.m2pa_codec.specs.Frames.{FrameValue, EmptyFrame, MessageFrame, StatusFrame, read_frame}
+use Rattle.m2pa_codec.specs.Frames.{FrameValue, EmptyFrame, MessageFrame, StatusFrame}
 use Rattle.signalling_types.specs.declared.notice.FrameFault.{FrameFault}
 use Rattle.mtp3_codec.specs.Management.{read_management}
 use Rattle.mtp3_codec.specs.declared.fault.MgmtFault.{MgmtFault}

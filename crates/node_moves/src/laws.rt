@@ -1,6 +1,6 @@
 //! What holds in each network that steps reach from the first (`specs/Networks.antt`), of any shape and with any
-//! routes. No step starts a node again, but in laws of what begins anew; and nothing comes from outside. Where no
-//! other premise is named, these are asked (`AreTheirs`): each node is told the point at which it is, its settings are
+//! routes. No step starts a node again, but in the law of fates and in those of what begins anew; and nothing comes from
+//! outside, but in the law of fates and in `hops_begin_anew`. Where no other premise is named, these are asked (`AreTheirs`): each node is told the point at which it is, its settings are
 //! checked, and each of its links has its other end in the network, with its code. No node is *broken* while
 //! `times_broken` is 0 at all of them.
 //!
@@ -9,8 +9,8 @@
 
 ghost use Rattle.node_moves.specs.Anew.{hops_begin_anew, networks_begin_quietly, nothing_is_lost_anew};
 ghost use Rattle.node_moves.specs.AnewRun.{BeginsAnew};
+ghost use Rattle.node_moves.specs.EachFate.{each_message_has_its_fate};
 ghost use Rattle.node_moves.specs.EndToEnd.{each_message_is_accounted_for, messages_come_from_end_to_end};
-ghost use Rattle.node_moves.specs.Fates.{each_message_has_its_fate};
 ghost use Rattle.node_moves.specs.HopRun.{MatesAreAHop};
 ghost use Rattle.node_moves.specs.Hops.{messages_come_over_a_hop, nothing_is_lost_over_a_hop};
 ghost use Rattle.node_moves.specs.Laws.{each_message_ends_once};
@@ -19,7 +19,8 @@ ghost use Rattle.node_moves.specs.Lossless.{flags_tell_of_each_loss, nodes_lose_
 ghost use Rattle.node_moves.specs.Lossless.{nothing_is_lost_from_end_to_end};
 ghost use Rattle.node_moves.specs.MatedRun.{ComesByTheMate};
 ghost use Rattle.node_moves.specs.NetworkAnew.{ends_begin_anew, first_networks_are_quiet, nodes_begin_anew};
-ghost use Rattle.node_moves.specs.NetworkAnew.{nothing_is_lost_in_a_network_anew, sums_begin_anew};
+ghost use Rattle.node_moves.specs.NetworkAnew.{nodes_lose_nothing_anew, nothing_is_lost_from_end_to_end_anew};
+ghost use Rattle.node_moves.specs.NetworkAnew.{sums_begin_anew};
 ghost use Rattle.node_moves.specs.Possible.{links_may_fail, statuses_may_be_harmed};
 
 /// The node law. While no node is broken: of user messages, by any test, those that came from a node to its neighbours
@@ -31,7 +32,8 @@ pub fn each_message_of_a_node_ends_once()
 {}
 
 /// What comes to a node it accepts, unless it ends there. So the node laws of neighbours are joined. This asks nothing
-/// of settings, and holds whatever was lost or broken. Each user message that came to a node by a link, and each that
+/// of settings, and holds whatever was lost or broken, however often nodes have started again, and whatever comes by
+/// links that lead out (`specs/Outside.antt`). Each user message that came to a node by a link, and each that
 /// its user parts handed over, has one of four fates. It goes on: it is for another point, and is queued or held. It is
 /// refused, by a cause. It is delivered: it is for this point, its outcome is Local, and the settings name its user
 /// part or it is of SCCP. Or SCCP takes it: it is of SCCP and for this point, and is queued, held or handled. The
@@ -86,15 +88,17 @@ pub fn messages_come_over_a_hop()
 
 /// The law of hops begins anew whenever nothing is left between the two nodes: each link between them is down at both
 /// ends, its changeover complete and no answer awaited, and neither end may follow the other; and neither node has in
-/// Held a user message for one of the two, or management from one for one of them. What was lost or broken before
-/// doesn't matter, nor how often nodes have started again, nor what is in third nodes. From then on, while neither of
-/// the two starts again or is broken once more, whatever the others do, restarts among it: of the user messages for the
-/// far node that the near one accepts, by any test, those that come to the far node by a link from the near one and
-/// those that wait at the near one are together no more than it accepted. The rest are gone: by any test, no more than
-/// the near node named as lost since then; nor than it counted in `messages_lost` since. While neither of the two
-/// counts a possible loss, none is gone. It is so in both directions. At first nothing is left between any two nodes.
-/// Links may lead out of the network there, to points without a node (`specs/Outside.antt`): then any frame may come by
-/// them whose order or answer, if it has one, is about that link and from its other end.
+/// Held a user message for one of the two. (Management is never there.) What was lost or broken before doesn't matter,
+/// nor how often nodes have started again, nor what is in third nodes. From then on, while neither of the two starts
+/// again, gives up following, or is broken once more, whatever the others do, restarts among it: of the user messages
+/// for the far node that the near one accepts, by any test, those that come to the far node by a link from the near one
+/// and those that wait at the near one are together no more than it accepted. The rest are gone: by any test, no more
+/// than the near node named as lost since then; nor than it counted in `messages_lost` since (up to 2^64 - 1). While
+/// neither of the two counts a possible loss, each that it accepted came or waits, and none twice. It is so in both
+/// directions. At first nothing is left between any two nodes. `messages_come_over_a_hop` is the law from there on,
+/// where no node starts again and no link leads out. Links may lead out of the network, to points without a node
+/// (`specs/Outside.antt`): then any frame may come by them whose order or answer, if it has one, is about that link and
+/// from its other end.
 pub fn hops_begin_anew()
     ensures once { hops_begin_anew }
     ensures flags { nothing_is_lost_anew }
@@ -104,14 +108,16 @@ pub fn hops_begin_anew()
 /// The node law, and both laws from end to end, begin anew whenever nothing is left at any node: each link of a node is
 /// down there, its changeover complete and no answer awaited, and the node may not follow its other end; and nothing is
 /// in Held. What was lost or broken before doesn't matter, nor how often nodes have started again. From then on, while
-/// no node starts again or is broken once more, what these laws say holds of what is handed over and accepted since,
-/// and of what nodes named as lost since; and of a node no more is gone than it counted in `messages_lost` since. While
-/// no node counts a possible loss, none is gone. The first network is such a one.
+/// no node starts again, gives up following, or is broken once more, what these laws say holds of what is handed over
+/// and accepted since, and of what nodes named as lost since; and of a node no more is gone than it counted in
+/// `messages_lost` since (up to 2^64 - 1). While no node counts a possible loss, none is gone, at a node or from end to
+/// end. The first network is such a one, so the laws before this are those from there on.
 pub fn networks_begin_anew()
     ensures nodes { nodes_begin_anew }
     ensures ends { ends_begin_anew }
     ensures sums { sums_begin_anew }
-    ensures flags { nothing_is_lost_in_a_network_anew }
+    ensures flags { nodes_lose_nothing_anew }
+    ensures flags_of_ends { nothing_is_lost_from_end_to_end_anew }
     ensures first { first_networks_are_quiet }
 {}
 
@@ -134,15 +140,16 @@ pub fn a_message_is_named_as_lost()
 
 /// Nor is the law of hops. Of the same nodes, the pair is a hop, though two sets lead from each of the two to every
 /// other point. In a run the link between one of the pair and one of the points fails, T2 runs out at that point, and an
-/// operator there releases the link. So that point is broken, and neither of the pair is; and a message from one of the
-/// pair to the other comes, once.
+/// operator there releases the link. So that point is broken, and neither of the pair is, nor has it raised a flag; and a
+/// message from one of the pair to the other comes, once.
 pub fn mates_are_a_hop()
     ensures { MatesAreAHop }
 {}
 
 /// Nor is that law anew. Of the same nodes, one of the pair starts again with a message for the other on their link,
 /// which is lost; nobody names it, and neither of the two counts a break. The other loses the association, and T1 runs
-/// out there. Then nothing is left between the two: their link opens again, and the next message comes, once.
+/// out there. Then nothing is left between the two: their link opens again, and the next message comes, once. Neither
+/// counts a break or a possible loss since.
 pub fn a_message_comes_anew()
     ensures { BeginsAnew }
 {}

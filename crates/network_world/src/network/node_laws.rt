@@ -1,10 +1,12 @@
 //! What holds of a network whatever the routes, and however many ways lead to a point.
 
-ghost use Rattle.std.specs.Prelude.{◌↔◌, ℕ, List, IsTrue};
-ghost use Rattle.network_rules.specs.Anew.{Change};
+ghost use Rattle.std.specs.Prelude.{◌≡◌, ◌↔◌, ℕ, true, List, IsTrue};
+ghost use Rattle.network_rules.specs.Anew.{Change, HaveLostNothingSince};
 ghost use Rattle.network_rules.specs.Networks.{NetworkState};
 ghost use Rattle.network_rules.specs.Outside.{Move, after_move};
+ghost use Rattle.network_rules.specs.Totals.{is_listed};
 ghost use Rattle.node_law.specs.Alike.{AreLinked, IsRunOfNodes};
+ghost use Rattle.node_law.specs.Anew.{EndsOnceSince, NoneBrokenSince, SinceQuiet};
 ghost use Rattle.node_law.specs.Ends.{EndsOnce, EndsWhole, TakesOrRefuses};
 ghost use Rattle.node_law.specs.Sums.{AreAccountedFor, ComeToNode, ComeWhole, IsWhole, ToEach};
 ghost use Rattle.network_world.specs.KeptLinks.{AreAllLinked};
@@ -12,7 +14,7 @@ ghost use Rattle.network_world.specs.KeptNetworks.{points_of};
 ghost use Rattle.network_world.specs.NetworkAnew.{RunsSince, since};
 ghost use Rattle.network_world.specs.NetworkPromised.{ShareAll};
 ghost use Rattle.network_world.specs.NetworkStands.{NetworkStandsFor};
-ghost use Rattle.network_world.specs.NodesHold.{AtEach, HoldsLinked, HoldsLossless, HoldsUnbroken};
+ghost use Rattle.network_world.specs.NodesHold.{AtEach, HoldsLinked, HoldsLinkedSince, HoldsLossless, HoldsUnbroken};
 
 use crate::network::Network;
 use crate::reaching::are_linked;
@@ -54,6 +56,34 @@ impl Network {
         ensures shared { (w : NetworkState) → NetworkStandsFor self.now w → ShareAll w → AreLinked w }
         // and ever after, since settings never change.
         ensures linked { (w : NetworkState) → AreLinked w → (move : Move) → AreLinked (after_move move w) }
+    {}
+
+    /// What holds since the books began anew, between any two calls, whatever the routes, where each link has its other
+    /// end in the network, if it was quiet then, until a node starts again or gives up following.
+    ///
+    /// While no node counts one break more: at each node, as many user messages as it accepted since came from it to
+    /// its neighbours, wait, or are gone, and no more are gone than it counted as lost since; and as many as entered
+    /// since were received since, wait, were refused since on the way, or are gone, of all and of those for each node,
+    /// if all have its network indicator. While none counts a possible loss more, none is gone (laws of `node_law`).
+    /// This says so by its contract, and does nothing.
+    pub fn node_laws_since(&self)
+        ensures ends { HoldsLinkedSince self.now (SinceQuiet NoneBrokenSince
+            (λ points from w. (point : ℕ) → is_listed points point ≡ true → EndsOnceSince from w point)
+            (points_of self.now)) }
+        ensures accounted { HoldsLinkedSince self.now
+            (SinceQuiet NoneBrokenSince (λ points from w. AreAccountedFor points w) (points_of self.now)) }
+        ensures to_each { HoldsLinkedSince self.now
+            (SinceQuiet NoneBrokenSince (λ points from w. ToEach ComeToNode points w) (points_of self.now)) }
+        ensures none_gone { HoldsLinkedSince self.now (SinceQuiet HaveLostNothingSince
+            (λ points from w. (point : ℕ) → is_listed points point ≡ true → EndsWhole w point)
+            (points_of self.now)) }
+        ensures whole { HoldsLinkedSince self.now
+            (SinceQuiet HaveLostNothingSince (λ points from w. IsWhole points w) (points_of self.now)) }
+        ensures each_whole { HoldsLinkedSince self.now
+            (SinceQuiet HaveLostNothingSince (λ points from w. ToEach ComeWhole points w) (points_of self.now)) }
+        // Settings never change: each link has its other end there exactly if it had, as `is_linked` looks at it now.
+        ensures linked { (from : NetworkState) (changes : List Change) →
+            AreLinked (since from changes) ↔ AreLinked from }
     {}
 
     /// Whether each link has its other end in the network: a link of a node there, with its signalling link code, that
