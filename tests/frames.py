@@ -26,6 +26,10 @@ class Status(IntEnum):
     ALIGNMENT = 1
     PROVING_NORMAL = 2
     READY = 4
+    PROCESSOR_OUTAGE = 5
+    PROCESSOR_RECOVERED = 6
+    BUSY = 7
+    BUSY_ENDED = 8
 
 
 def frame(kind: int, body: bytes = b"", bsn: int = NO_NUMBER, fsn: int = NO_NUMBER) -> bytes:

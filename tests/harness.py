@@ -123,7 +123,8 @@ class SctpLink:
 def settings(own: int, links: Sequence[Link | SctpLink], *, version: int = 2, window: int = 128, pool: int = 1000,
              tick_ms: int = 50, console: int | str | None = None, page: int | None = None, page_open: bool = False,
              capture: str | None = None, capture_size: int | str | None = None, capture_files: int | None = None,
-             points: str | None = None, udp: int | None = None, sctp: dict[str, int] | None = None, **timers: int) -> str:
+             points: str | None = None, udp: int | None = None, sctp: dict[str, int] | None = None,
+             processor_outage: bool = False, **timers: int) -> str:
     """The settings of a node with these links. A console is at a port, or at the path of a Unix socket. Timers that
     aren't named are LONG, but for the proving period."""
     adjacents = list(dict.fromkeys(link.adjacent for link in links))
@@ -131,6 +132,7 @@ def settings(own: int, links: Sequence[Link | SctpLink], *, version: int = 2, wi
     listing = any(link.addresses if isinstance(link, SctpLink) else link.source for link in links)
     version = 4 if listing or capture_size is not None else version
     lines = [f"version = {version}", f"own = {own}", "network = 2", f"window = {window}", f"pool = {pool}"]
+    lines += ["processor_outage = true"] * processor_outage
     lines += ["users = [5]", "subsystems = [8]", "[serve]", f"tick_ms = {tick_ms}"]
     lines += [f'console = "{HOST}:{console}"'] * isinstance(console, int)
     lines += [f'console = "{console}"'] * isinstance(console, str)

@@ -12,7 +12,7 @@ KEPT_NOTICES = 64
 LOST = 100
 LINE_OCTETS = 8300
 QUESTIONS = 6000
-HELP_LINES = 29
+HELP_LINES = 30
 ROUTE = f"route {FAR} to-{FAR} allowed"
 FLAGS = ["flag lost_any 0", "flag late_any 0"]
 
@@ -84,8 +84,8 @@ MISTAKES = {
     "help me": "must be help",
     "quit now": "must be quit",
     "stop now": "must be stop",
-    "title": "title: add or remove must be behind it",
-    "title set 0 1 4 4917 9 ssn 6": "title: add or remove must be behind it",
+    "title": "title: add, set or remove must be behind it",
+    "title put 0 1 4 4917 9 ssn 6": "title: add, set or remove must be behind it",
     "title add": "title: T must be 0 to 255",
     "title add 256 1 4 4917 9 ssn 6": "title: T must be 0 to 255",
     "title add 0 16 4 4917 9 ssn 6": "title: P must be 0 to 15",
@@ -104,6 +104,12 @@ MISTAKES = {
     f"{ROW} changed 1 128 0 -": "title add: NATURE must be 0 to 127, or -",
     f"{ROW} changed - - 33 -": "title add: REMOVE must be 0 to 32",
     f"{ROW} backup 10 changed 1 4 0 x": "title add: ADD must be 1 to 32 of 0 to 9 and a to f, or -",
+    "title set": "title: T must be 0 to 255",
+    "title set 0 1 4 491g 9 ssn 6": "title: DIGITS must be 1 to 32 of 0 to 9 and a to f",
+    "title set 0 1 4 4917": "title set: POINT must be a point code",
+    "title set 0 1 4 4917 9 gt 6": "title set: ROUTE must be title or ssn",
+    "title set 0 1 4 4917 9 ssn 6 spare 10": BEHIND.replace("add", "set", 1),
+    "title set 0 1 4 4917 9 ssn 6 changed - - 33 -": "title set: REMOVE must be 0 to 32",
 }
 
 

@@ -8,6 +8,7 @@ from __future__ import annotations
 
 import contextlib
 import os
+import re
 import shutil
 import socket
 import struct
@@ -103,7 +104,7 @@ def has_room(page: int) -> bool:
     return False
 
 
-class HeldUp(NodeTest):
+class ThirdLink(NodeTest):
     """A stranger, or a neighbour, has a third link of the near node."""
 
     def meet(self, of: type[Pair] | type[SctpPair] = Pair, source: str | None = None) -> Steady:
@@ -133,6 +134,8 @@ class HeldUp(NodeTest):
     def await_state(self, state: str) -> None:
         wait_until(lambda: self.near.links()["s0"][0] == state, f"s0 is {state}")
 
+
+class HeldUp(ThirdLink):
     @staticmethod
     def flood(what: str, steady: Steady, flood: Flood) -> None:
         with steady.attacked(what):
@@ -224,6 +227,51 @@ class HeldUp(NodeTest):
                     page.write(f"{front}{POST}deactivate e1\nstop\n")
                     page.sees_end()
                     page.close()
+
+
+class RefusedFlood(ThirdLink):
+    """A neighbour sends messages to a point to which no route leads. Each of them is a notice: few have a line of the
+    log, and the others are counted there."""
+
+    COUNT, SECONDS = 30_000, 3
+
+    # Lines of the log in a second: 20 notices, and the counts of what has no line.
+    LINES_A_SECOND = 20 + 2
+
+    def test_the_sums_of_the_log(self) -> None:
+        steady, stream = self.meet(), self.neighbour()
+        before = self.told()
+        self.assertEqual(before, self.refused())
+        lines = len(self.near.log())
+        began = time.monotonic()
+        with steady.attacked("refused messages"):
+            self.send(stream, began)
+            wait_until(lambda: self.refused() == self.COUNT, "each message is refused")
+            seconds = time.monotonic() - began
+            wait_until(lambda: self.told() == self.COUNT, "the log tells of each message that was refused")
+        written = len(self.near.log()) - lines
+        print(f"{self.COUNT} refused messages in {seconds:.1f} s: {written} lines of the log", flush=True)
+        self.assertLessEqual(written, self.LINES_A_SECOND * (seconds + 3))
+
+    def send(self, stream: socket.socket, began: float) -> None:
+        """Sends the messages at their pace: half of each burst in one piece, and half in pieces of one message."""
+        body, sent = b"\0" + message(OTHER, NOWHERE, 0, 0), 0
+        while sent < self.COUNT:
+            frames = [frame(USER_DATA, body, NO_NUMBER, number) for number in range(sent, min(sent + BURST, self.COUNT))]
+            for piece in (b"".join(frames[: BURST // 2]), *frames[BURST // 2 :]):
+                stream.sendall(piece)
+            sent += len(frames)
+            time.sleep(max(0.0, began + sent * self.SECONDS / self.COUNT - time.monotonic()))
+
+    def refused(self) -> int:
+        """How many messages of the neighbour were refused."""
+        counts = self.near.counters()["s0"]
+        return sum(count for name, count in counts.items() if name.startswith("refused"))
+
+    def told(self) -> int:
+        """Of how many notices the log told or said that they have no line."""
+        counts = [re.match(r"\S+ (?:(notice) refused|missed (\d+))", line) for line in self.near.log()]
+        return sum(1 if found[1] else int(found[2]) for found in counts if found)
 
 
 def log_lines(what: str, steady: Steady) -> None:

@@ -28,6 +28,9 @@ ADDED_METRIC, ADDED_LABELS = "up", {"instance", "job"}
 FUNCTIONS = {"count", "increase", "max", "min", "rate", "sum", "vector"}
 OPERATORS = {"and", "or", "unless"}
 
+# Octets of the smallest congestion window, one packet (RFC 9260 §7.2.3).
+LEAST_WINDOW = 1140
+
 # A variable of the board stands for any value.
 VARIABLE = "$instance"
 
@@ -116,12 +119,30 @@ class Monitoring(NodeTest):
         pair.near.ask("activate e0")
         pair.begin()
         pair.exchange(1)
+        self.pair = pair
+        # A changeover, for management messages of each way.
+        pair.near.ask("deactivate e1")
+        pair.near.await_log("link e1 deactivated")
 
     def text(self) -> str:
         connection = HTTPConnection(HOST, self.port, timeout=PATIENCE)
         self.addCleanup(connection.close)
         connection.request("GET", "/metrics")
         return connection.getresponse().read().decode()
+
+    def test_how_associations_do(self) -> None:
+        """Each link whose association is up has its round trip, its timeout within the bounds of the settings, and a
+        window of one packet at least; the others have none of them."""
+        values, _ = parse_metrics(self.text())
+        names = ("stp_sctp_round_trip_seconds", "stp_sctp_retransmission_timeout_seconds",
+                 "stp_sctp_congestion_window_octets")
+        found = {(family, dict(pairs)["link"]): value for (family, pairs), value in values.items() if family in names}
+        self.assertEqual(found.keys(), {(name, "e0") for name in names})
+        most = IMPATIENT["rto_max_ms"] / 1000
+        self.assertLessEqual(found[names[0], "e0"], most)
+        self.assertLessEqual(IMPATIENT["rto_min_ms"] / 1000, found[names[1], "e0"])
+        self.assertLessEqual(found[names[1], "e0"], most)
+        self.assertGreaterEqual(found[names[2], "e0"], LEAST_WINDOW)
 
     def test_all_that_is_named_is_there(self) -> None:
         values, kinds = parse_metrics(self.text())

@@ -3,10 +3,12 @@
 import os
 import re
 import signal
+import socket
 import time
 
-from harness import HOST, NodeTest, free_port, links_between, wait_until
-from traffic import FAR, NEAR, Pair
+from frames import Status, status_frame
+from harness import HOST, Link, Node, NodeTest, free_port, links_between, wait_until
+from traffic import FAR, NEAR, OTHER, Pair
 
 # In ticks of 50 ms: a changeover ends soon if no link is left, as nobody answers it.
 SOON = {"t1": 4, "t2": 6}
@@ -20,7 +22,27 @@ POOL, MANY, FEW = 10, 8, 4
 # More ticks than a round lets pass at once, in seconds.
 PAUSE_SECONDS = 6
 
+# Longer than a changeover takes, in milliseconds.
+SLOW_TICK_MS = 1000
+
+# In ticks of 50 ms: each answer to a test of a link is awaited for a second.
+TESTS = {"slt1": 20, "slt2": 200}
+
 SECONDS = r"\d+\.\d{3}"
+
+
+class Peer:
+    """The peer of a link, at its connection."""
+
+    def __init__(self, test: NodeTest, node: Node, link: Link) -> None:
+        self.stream = socket.create_connection((HOST, link.port))
+        test.addCleanup(self.stream.close)
+        self.send(Status.ALIGNMENT)
+        wait_until(lambda: node.links()[link.name][0] == "Aligned", "the link is aligned")
+        self.send(Status.PROVING_NORMAL, Status.READY)
+
+    def send(self, *statuses: Status) -> None:
+        self.stream.sendall(b"".join(map(status_frame, statuses)))
 
 
 class NodeLog(NodeTest):
@@ -35,59 +57,110 @@ class NodeLog(NodeTest):
         wait_until(lambda: self.alarms(node) == [*names], f"the alarms {names}")
 
     def looked_at(self, **how) -> Pair:
-        """A pair, once the log of each node has told that its links are in service, and what they lead to accessible."""
-        pair = Pair(self, **how)
+        """A pair, once the log of each node has told that its links are in service, and what they lead to accessible.
+        They are proved for longer than from one look to the next, so the first look finds them out of service."""
+        pair = Pair(self, **{"l4": PROVING, **how})
         for node, adjacent in ((pair.near, FAR), (pair.far, NEAR)):
             for name in (*[f"link {name}" for name in pair.names], f"set to-{adjacent}", f"destination {adjacent}"):
                 node.await_log(rf"clear {name} after {SECONDS} s$")
         return pair
 
+    def met(self, **how) -> tuple[Node, Peer]:
+        """A node of version 3 with a link, and its peer, which says that it is ready."""
+        link = Link("s0", OTHER, 0, free_port(), True)
+        node = self.node(NEAR, [link], version=3, l4=PROVING, **how)
+        node.start()
+        node.await_log("alarm link s0$")
+        return node, Peer(self, node, link)
+
     def test_a_start(self) -> None:
-        """Until its links are in service each of them, their set and what it leads to have an alarm, of which no line
-        tells."""
+        """At the first look each link, their set and what it leads to have an alarm."""
         node = self.node(NEAR, links_between([free_port()], FAR, True))
         node.start()
-        self.assertEqual(self.alarms(node), ["link e0", f"set to-{FAR}", f"destination {FAR}"])
+        names = ("link e0", f"set to-{FAR}", f"destination {FAR}")
+        for name in names:
+            node.await_log(f"alarm {name}$")
+        self.await_alarms(node, *names)
         node.stop()
-        self.assertEqual(node.logged("(alarm|clear|link|set|destination) "), 0)
+        self.assertEqual(node.logged("alarm "), 3)
+        self.assertEqual(node.logged(f"set to-{FAR} unavailable$"), 1)
+        self.assertEqual(node.logged("(clear|link|destination) "), 0)
+
+    def test_a_link_under_test(self) -> None:
+        """Until its first test has passed a link isn't available, though it is in service. Its peer answers none."""
+        node, _peer = self.met(**TESTS)
+        node.await_log(rf"link s0 under test after {SECONDS} s aligning$")
+        self.assertEqual(node.links()["s0"][0], "InService")
+        self.await_alarms(node, "link s0", f"set to-{OTHER}", f"destination {OTHER}")
+        node.await_log("notice failed s0 test$")
+        node.await_log(rf"link s0 (changing over|closing|not in service yet) after {SECONDS} s under test, ")
+        self.assertEqual(node.logged("(clear|link s0 (in service|failed)) "), 0)
+
+    def test_a_processor_outage(self) -> None:
+        """A link is unavailable while the processor of its peer is out, and available while its peer is busy."""
+        node, peer = self.met(processor_outage=True)
+        node.await_log(rf"link s0 in service after {SECONDS} s aligning$")
+        node.await_log(rf"clear link s0 after {SECONDS} s$")
+        peer.send(Status.PROCESSOR_OUTAGE)
+        for line in (rf"link s0 processor outage after {SECONDS} s in service$", f"set to-{OTHER} unavailable$"):
+            node.await_log(line)
+        self.assertEqual(node.links()["s0"][0], "InService")
+        node.await_log("alarm link s0$", 2)
+        peer.send(Status.PROCESSOR_RECOVERED)
+        node.await_log(rf"link s0 in service after {SECONDS} s processor outage$")
+        node.await_log(rf"clear link s0 after {SECONDS} s$", 2)
+        before = node.logged("link s0 ")
+        peer.send(Status.BUSY)
+        time.sleep(0.5)
+        self.assertEqual((node.logged("link s0 "), self.alarms(node)), (before, []))
+
+    def test_a_short_changeover(self) -> None:
+        """A changeover that begins and ends between two looks is told of with the next state of its link."""
+        pair = Pair(self, tick_ms=SLOW_TICK_MS)
+        for node in (pair.near, pair.far):
+            node.await_log("link e1 in service ")
+        self.assertEqual(pair.near.ask("deactivate e1"), ["handled"])
+        pair.near.await_log(rf"link e1 deactivated after {SECONDS} s in service, changed over$")
+        pair.far.await_log(rf"link e1 \w+ after {SECONDS} s in service, changed over$")
 
     def test_links_in_service(self) -> None:
         pair = Pair(self, l4=PROVING)
         for node, adjacent in ((pair.near, FAR), (pair.far, NEAR)):
             for name in pair.names:
-                node.await_log(rf"link {name} aligning after {SECONDS} s failed$")
+                node.await_log(rf"link {name} aligning after {SECONDS} s not in service yet$")
                 node.await_log(rf"link {name} in service after {SECONDS} s aligning$")
                 node.await_log(rf"clear link {name} after {SECONDS} s$")
             node.await_log(rf"set to-{adjacent} available$")
             node.await_log(rf"clear set to-{adjacent} after {SECONDS} s$")
             node.await_log(rf"destination {adjacent} accessible by to-{adjacent}$")
             node.await_log(rf"clear destination {adjacent} after {SECONDS} s$")
-            self.assertEqual(node.logged("alarm "), 0)
+            self.assertEqual(node.logged("alarm "), len(pair.names) + 2)
             self.assertEqual(self.alarms(node), [])
 
     def test_a_link_that_is_deactivated(self) -> None:
         pair = self.looked_at()
         self.assertEqual(pair.near.ask("deactivate e1"), ["handled"])
-        pair.near.await_log("alarm link e1$")
+        pair.near.await_log("alarm link e1$", 2)
         pair.near.await_log(rf"link e1 deactivated after {SECONDS} s ")
         self.await_alarms(pair.near, "link e1")
-        pair.far.await_log("alarm link e1$")
+        pair.far.await_log("alarm link e1$", 2)
         self.assertEqual(pair.near.ask("activate e1"), ["handled"])
         pair.near.await_log(rf"clear link e1 after {SECONDS} s$", 2)
         self.await_alarms(pair.near)
         for node in (pair.near, pair.far):
-            self.assertEqual(node.logged("alarm (set|destination) "), 0)
+            self.assertEqual(node.logged("alarm (set|destination) "), 2)
 
     def test_a_node_that_ends(self) -> None:
         """Each link, the set and the destination have alarms, which are cleared as it returns; that of a flag stays."""
         pair = self.looked_at(**SOON)
         pair.far.kill()
         for name in pair.names:
-            pair.near.await_log(f"alarm link {name}$")
+            pair.near.await_log(f"alarm link {name}$", 2)
             pair.near.await_log(rf"link {name} changing over after {SECONDS} s in service, \d+ unconfirmed$")
             pair.near.await_log(rf"link {name} failed after {SECONDS} s changing over$")
-        for line in (f"set to-{FAR} unavailable$", f"alarm set to-{FAR}$", f"destination {FAR} inaccessible$",
-                     f"alarm destination {FAR}$", "alarm flag lost_any$"):
+        for line in (f"set to-{FAR} unavailable$", f"alarm set to-{FAR}$", f"alarm destination {FAR}$"):
+            pair.near.await_log(line, 2)
+        for line in (f"destination {FAR} inaccessible$", "alarm flag lost_any$"):
             pair.near.await_log(line)
         links = [f"link {name}" for name in pair.names]
         self.await_alarms(pair.near, "flag lost_any", *links, f"set to-{FAR}", f"destination {FAR}")
@@ -95,7 +168,7 @@ class NodeLog(NodeTest):
         pair.await_service()
         self.await_alarms(pair.near, "flag lost_any")
         for name in (*links, f"set to-{FAR}", f"destination {FAR}"):
-            self.assertEqual((pair.near.logged(f"alarm {name}$"), pair.near.logged(f"clear {name} ")), (1, 2), name)
+            self.assertEqual((pair.near.logged(f"alarm {name}$"), pair.near.logged(f"clear {name} ")), (2, 2), name)
         self.assertEqual((pair.near.logged("alarm flag lost_any$"), pair.near.logged("clear flag ")), (1, 0))
 
     def test_a_pool_that_is_nearly_full(self) -> None:
@@ -166,14 +239,15 @@ class NodeLog(NodeTest):
 
     def test_the_journal(self) -> None:
         """Where systemd says that standard output is its journal, each line begins with its priority."""
-        pair = Pair(self)
+        pair = Pair(self, **SOON, l4=PROVING)
         node = pair.near
         node.stop()
         log = node.folder / "log"
         there = log.stat()
         environment = {**os.environ, "JOURNAL_STREAM": f"{there.st_dev}:{there.st_ino}"}
         node.start(env=environment)
-        for line in (rf"<5>{SECONDS} start 3 links", rf"<6>{SECONDS} console "):
+        for line in (rf"<5>{SECONDS} start 3 links", rf"<6>{SECONDS} console ", rf"<4>{SECONDS} alarm link e0$",
+                     rf"<5>{SECONDS} link e0 in service ", rf"<6>{SECONDS} clear link e0 "):
             wait_until(lambda: any(re.match(line, it) for it in node.log()), line)
         for line in node.log():
             self.assertRegex(line, rf"^<[4-7]>{SECONDS} ")

@@ -49,6 +49,13 @@ def of_link(family: str, name: str, **labels: str) -> Series:
     return series(family, link=name, **SET, **labels)
 
 
+def alarms_in(values: dict[Series, float]) -> dict[str, float]:
+    """Whether each alarm is raised that has a sample, by its name as the console writes it."""
+    labels = {dict(pairs)["alarm"] + " " + dict(pairs)["name"]: value
+              for (family, pairs), value in values.items() if family == "stp_alarm_raised"}
+    return {name.strip(): value for name, value in labels.items()}
+
+
 def parse_metrics(text: str) -> tuple[dict[Series, float], dict[str, str]]:
     """Reads Prometheus' text format 0.0.4: the value of each series, and the kind of each family. In front of the samples
     of a family are its HELP and its TYPE, once each; its samples are in one row, and no series comes twice."""
@@ -76,7 +83,7 @@ def parse_metrics(text: str) -> tuple[dict[Series, float], dict[str, str]]:
 
 def parse_sample(line: str) -> tuple[Series, float]:
     """Reads the line of a sample."""
-    found = re.fullmatch(r"([a-zA-Z_:][a-zA-Z0-9_:]*)(?:\{(.*)\})? ([0-9]+(?:e-6)?)", line)
+    found = re.fullmatch(r"([a-zA-Z_:][a-zA-Z0-9_:]*)(?:\{(.*)\})? ([0-9]+(?:e-[36])?)", line)
     assert found, f"no sample: {line!r}"
     pairs = [*parse_labels(found[2] or "")]
     assert len(dict(pairs)) == len(pairs), f"a label comes twice: {line!r}"
@@ -234,6 +241,43 @@ class Page(PageTest):
         grown = sum(sign * values[of_link("stp_messages_delivered_total", name)]
                     for values, sign in delivered for name in self.pair.names)
         self.assertEqual(grown, MESSAGES)
+
+    def test_the_alarms(self) -> None:
+        """While all is well none is raised. Those of the node, of links and of sets are 0, those of destinations absent."""
+        wait_until(lambda: self.near.ask("show alarms") == [], "no alarm is raised")
+        self.assertEqual(self.state()["alarms"], [])
+        names = ["flag lost_any", "flag late_any", "pool", "capture", "behind", f"set {SET['set']}",
+                 *(f"link {name}" for name in self.pair.names)]
+        self.assertEqual(alarms_in(self.metrics()[0]), dict.fromkeys(names, 0))
+
+    def test_the_states_of_links(self) -> None:
+        """The state of a link is that of the log, since the time of its line. Before that it was unavailable."""
+        wait_until(lambda: self.near.ask("show alarms") == [], "each link was seen in service")
+        values, _ = self.metrics()
+        for link in self.state()["links"]:
+            name = link["name"]
+            lines = [line for line in self.near.log() if re.match(rf"\S+ link {name} ", line)]
+            self.assertIn(f" link {name} {link['service']} ", lines[-1])
+            self.assertEqual(link["service"], "in service")
+            self.assertAlmostEqual(link["since_ms"] / 1000, float(lines[-1].split()[0]), delta=0.0015)
+            unavailable = values[of_link("stp_link_unavailable_seconds_total", name)]
+            self.assertAlmostEqual(unavailable, link["since_ms"] / 1000)
+            self.assertEqual(values[of_link("stp_link_unavailabilities_total", name)], 0)
+        self.assertEqual(values[series("stp_set_unavailabilities_total", **SET)], 0)
+        first = min(link["since_ms"] for link in self.state()["links"])
+        self.assertAlmostEqual(values[series("stp_set_unavailable_seconds_total", **SET)], first / 1000)
+
+    def test_the_metrics_of_messages(self) -> None:
+        """Messages are counted by service indicator where they came and went; those of none have no sample."""
+        self.pair.exchange(MESSAGES)
+        wait_until(lambda: self.near.is_at_rest(), "nothing is under way")
+        values, _ = self.metrics()
+        for family in ("stp_messages_received_total", "stp_messages_sent_total"):
+            isup = [values.get(of_link(family, name, service="5"), 0) for name in self.pair.names]
+            self.assertEqual(sum(isup), MESSAGES, family)
+            services = {dict(pairs)["service"] for it, pairs in values if it == family}
+            self.assertLessEqual(services, {"0", "1", "5"}, family)
+        self.assertTrue(all(value > 0 for (family, _), value in values.items() if family.startswith("stp_management")))
 
     def test_the_metrics_of_routes(self) -> None:
         """Sets, destinations and routes: what they are while the links of their set are in service."""
@@ -406,6 +450,49 @@ class PageOfFailures(PageTest):
         read = re.search(r"const \{ (.*) \} of state\.notices", script)
         assert read, "the script of the page reads no notices"
         self.assertLessEqual({*read[1].split(", ")}, state["notices"][0].keys())
+
+    def test_alarms(self) -> None:
+        """Those that are raised are those that the console shows, since the same time, and each has a sample of 1. A
+        link's state is its word of the log, and it was unavailable twice: at the start, and now."""
+        wait_until(lambda: self.near.ask("show alarms") == [], "each link was seen in service")
+        for name in self.pair.names:
+            self.near.ask(f"deactivate {name}")
+        down = {f"link {name}" for name in self.pair.names} | {f"set {SET['set']}", f"destination {FAR}"}
+        wait_until(lambda: down <= {line.rsplit(" since", 1)[0][6:] for line in self.near.ask("show alarms")},
+                   "all alarms are raised")
+        out = {"changing over", "deactivated"}
+        wait_until(lambda: {it["service"] for it in self.state()["links"]} <= out, "all links are out")
+        state = self.state()
+        self.assertEqual([f"alarm {it['name']} since {it['since_ms'] / 1000:.3f}" for it in state["alarms"]],
+                         self.near.ask("show alarms"))
+        before, _ = self.metrics()
+        raised = {name for name, value in alarms_in(before).items() if value == 1}
+        self.assertEqual(raised, {it["name"] for it in state["alarms"]})
+        script = self.get("/")[1].decode()
+        read = {*re.findall(r"(?<![\w./])alarm\.(\w+)", script)}
+        self.assertEqual(read, state["alarms"][0].keys())
+        for name in self.pair.names:
+            self.assertEqual(before[of_link("stp_link_unavailabilities_total", name)], 1)
+        self.assertEqual(before[series("stp_set_unavailabilities_total", **SET)], 1)
+        wait_until(lambda: self.has_grown(before), "the time that each is unavailable grows")
+
+    def has_grown(self, before: dict[Series, float]) -> bool:
+        """Whether the node, its set and each link were unavailable for longer by now."""
+        times = [of_link("stp_link_unavailable_seconds_total", name) for name in self.pair.names]
+        times.append(series("stp_set_unavailable_seconds_total", **SET))
+        values, _ = self.metrics()
+        return all(values[it] > before[it] for it in times)
+
+    def test_a_changeover_by_kind(self) -> None:
+        """A link that is deactivated changes over: one order went out and one acknowledgement came, by other links."""
+        name = self.pair.names[0]
+        self.near.ask(f"deactivate {name}")
+        wait_until(lambda: self.near.links()[name][0] == "Down" and not self.state()["links"][0]["changing_over"],
+                   "the changeover is over")
+        values, _ = self.metrics()
+        for family, message in (("stp_management_sent_total", "XCO"), ("stp_management_received_total", "XCA")):
+            counts = [values.get(of_link(family, other, message=message), 0) for other in self.pair.names]
+            self.assertEqual((counts[0], sum(counts)), (0, 1), message)
 
     def has_all(self) -> bool:
         """Whether the page has the notices of the log."""

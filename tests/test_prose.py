@@ -11,15 +11,6 @@ TOP = Path(__file__).resolve().parent.parent
 
 LEFT_OUT = {"CHANGELOG.md", "docs/DEFINITIONS.md", "docs/SECTIONS.md"}
 
-# Pages whose sentences are still too long. None may be added: a page leaves as it is rewritten.
-TO_DO = {
-    "docs/EXACTLY_ONCE.md",
-    "docs/OPERATING.md",
-    "docs/PROVED.md",
-    "docs/SERVE.md",
-    "docs/TROUBLESHOOTING.md",
-}
-
 
 def measured() -> dict[str, list[int]]:
     """How many words each sentence of each page has."""
@@ -40,15 +31,8 @@ def fault(counts: list[int]) -> str | None:
 class Prose(unittest.TestCase):
     def test_sentences_are_short(self) -> None:
         for name, counts in measured().items():
-            if name not in TO_DO:
-                with self.subTest(page=name):
-                    self.assertIsNone(fault(counts))
-
-    def test_a_page_that_is_done_leaves_the_list(self) -> None:
-        pages = measured()
-        self.assertLessEqual(TO_DO, pages.keys())
-        done = sorted(name for name in TO_DO if fault(pages[name]) is None)
-        self.assertFalse(done, "their sentences are short now: take them out of TO_DO")
+            with self.subTest(page=name):
+                self.assertIsNone(fault(counts))
 
     def test_faults_are_found(self) -> None:
         self.assertIsNone(fault([MEAN_WORDS] * LONG_OF))

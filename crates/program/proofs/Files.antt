@@ -15,6 +15,8 @@ use Rattle.settings_file.specs.Reading.{IsFirstFault}
 use Rattle.settings_file.specs.Sentences.{Names}
 use Rattle.settings_file.specs.declared.fault.SettingsFault.{SettingsFault}
 use Rattle.settings_file.specs.declared.fault.SettingsFault.TheVariants.{Text}
+use Rattle.settings_file.specs.declared.serve.fault.ServeFault.{ServeFault}
+use Rattle.settings_file.specs.declared.serve.fault.ServeFault.TheVariants.{Settings}
 use Rattle.settings_file.proofs.Readings.{none-parsed}
 use Rattle.script.specs.Streams.{Input, Output}
 use Rattle.program.specs.Explaining.{IsToldOf, AreFaultsExplained}
@@ -40,16 +42,16 @@ not-parsed : (octets : List ℕ) (t : Members) → AreNoDocument octets → IsUt
 not-parsed octets t (inl not) utf8 parsed = not utf8
 not-parsed octets t (inr none) utf8 parsed = none-some t (sym none.1 ∙ parsed)
 
-pub names-explain : (file octets text : List ℕ) → AreNoDocument octets → Names file text → ExplainsAll file octets Text text
+pub names-explain : (file octets text : List ℕ) → AreNoDocument octets → Names file text → ExplainsAll file octets (Settings Text) text
 names-explain file octets text none names = record { document = λ t utf8 parsed. absurd (not-parsed octets t none utf8 parsed); none = λ h. names }
 
-pub told-explains : (file octets : List ℕ) (document : Members) (why : SettingsFault) (errors errors_new : Output) → AreDocument octets document
+pub told-explains : (file octets : List ℕ) (document : Members) (why : ServeFault) (errors errors_new : Output) → AreDocument octets document
     → IsToldOf (AreFaultsExplained file octets document why) errors errors_new → IsToldOf (ExplainsAll file octets why) errors errors_new
 told-explains file octets document why errors errors_new are (inl (text, is, told)) =
     inl (
       text,
       record {
-        document = λ t utf8 parsed. subst (λ (d : Members). (faults : List SettingsFault) × AreAllFaults d why faults × AreSentences file octets faults text) (same_Some document t (sym are.parsed ∙ parsed)) (is.faults, is.all, is.explained);
+        document = λ t utf8 parsed. subst (λ (d : Members). (faults : List ServeFault) × AreAllFaults d why faults × AreSentences file octets faults text) (same_Some document t (sym are.parsed ∙ parsed)) (is.faults, is.all, is.explained);
         none = λ h. absurd (h document are.text are.parsed);
       },
       told,

@@ -10,7 +10,7 @@ unfoldable use Rattle.settings_file.specs.Doubts.{doubtful}
 use Rattle.settings_file.specs.declared.doubts.TheConstants.{MOST_DOUBTS}
 use Rattle.settings_file.specs.PlacedSentences.{AreSentences}
 use Rattle.settings_file.specs.Warnings.{AreWarnings}
-use Rattle.settings_file.specs.declared.fault.SettingsFault.{SettingsFault}
+use Rattle.settings_file.specs.declared.serve.fault.ServeFault.{ServeFault}
 use Rattle.program.specs.Sentences.{IsAboutLine}
 use Rattle.script.specs.Streams.{Output, AppendsFirst, counted}
 use Rattle.program.specs.declared.folder.Unread.{Unread}
@@ -76,8 +76,8 @@ IsWarnedOfValues file document settings errors errors_new =
     IsToldOf (AreDoubts file (take MOST_DOUBTS (doubtful document settings))) errors errors_new
 
 -- a sentence about each fault of the settings in a file of these octets, of which this is the first
-pub record AreFaultsExplained (file octets : List ℕ) (document : Members) (first : SettingsFault) (text : List ℕ) : Type 0 where
-  pub faults : List SettingsFault
+pub record AreFaultsExplained (file octets : List ℕ) (document : Members) (first : ServeFault) (text : List ℕ) : Type 0 where
+  pub faults : List ServeFault
   pub all : AreAllFaults document first faults
   pub explained : AreSentences file octets faults text
 

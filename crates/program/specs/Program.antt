@@ -18,8 +18,8 @@ use Rattle.lab.specs.declared.network.NetworkFault.{NetworkFault}
 use Rattle.program.specs.Network.{network_line, network_sentence}
 use Rattle.program.specs.Folders.{FileRead, AreSettings, IsFault, AreServed, IsServerFault}
 use Rattle.settings_file.specs.ServeFaults as server
-use Rattle.settings_file.specs.ServeSentences as server_sentences
 use Rattle.settings_file.specs.declared.serve.fault.ServeFault.{ServeFault}
+use Rattle.settings_file.specs.declared.serve.fault.ServeFault.TheVariants.{Settings}
 use Rattle.script.specs.Runs.{Runs}
 use Rattle.script.specs.Streams.{Input, Output, AppendsFirst, counted}
 use Rattle.program.specs.declared.folder.FileFault.TheVariants as file_fault
@@ -104,13 +104,13 @@ RunsNode IsGiven IsWrong IsSentence old new ended =
     ⊎ ((why : SettingsFault) × IsWrong why × EndsWith status.Start (told why) old.output new.output ended
     × (new.input ≡ old.input) × IsToldOf (IsSentence why) old.errors new.errors)
 
--- for a file whose settings of a server have no fault, or that has none, `ok` is printed; otherwise their fault, which
--- standard error explains
+-- for a file whose settings of a server have no fault, or that has none, `ok` is printed; otherwise their first fault,
+-- and standard error explains all of them
 abbrev pub ChecksServer : (file octets : List ℕ) → (output output_new errors errors_new : Output) → Status → Type 0
 ChecksServer file octets output output_new errors errors_new ended =
     (AreServed octets × EndsWith status.Done (codes "ok\n") output output_new ended × (errors_new ≡ errors))
     ⊎ ((why : ServeFault) × IsServerFault octets why × EndsWith status.Start (told_server why) output output_new ended
-    × IsToldOf (server_sentences.Explains file why) errors errors_new)
+    × IsToldOf (ExplainsAll file octets why) errors errors_new)
 
 -- a file has these settings, and its warnings are written to standard error: of keys, and then of values
 abbrev pub HasSettings : (file : List ℕ) → FileRead → Configuration → (errors errors_new : Output) → Type 0
@@ -125,7 +125,8 @@ HasSettings file (Err fault) settings errors errors_new = ⊥
 abbrev pub EndsAtFile : (file : List ℕ) → FileRead → (output output_new errors errors_new : Output) → Status → Type 0
 EndsAtFile file (Ok octets) output output_new errors errors_new ended =
     (why : SettingsFault) × IsFault octets why × EndsWith status.Start (told why) output output_new ended
-    × (warned : Output) × IsWarned file errors warned × IsToldOf (ExplainsAll file octets why) warned errors_new
+    × (warned : Output) × IsWarned file errors warned
+    × IsToldOf (ExplainsAll file octets (Settings why)) warned errors_new
 EndsAtFile file (Err (file_fault.Unread why)) output output_new errors errors_new ended =
     (ended ≡ status.Stream) × (output_new ≡ output)
     × IsToldOf (λ text. text ≡ unread_sentence file why) errors errors_new

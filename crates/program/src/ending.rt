@@ -5,6 +5,7 @@ ghost use Rattle.std.specs.IoError.{error_kind};
 ghost use Rattle.toml.specs.View.{table_view};
 ghost use Rattle.settings_file.specs.Faults.{no_memory};
 ghost use Rattle.settings_file.specs.ServeSentences as server;
+ghost use Rattle.settings_file.specs.declared.serve.fault.ServeFault.TheVariants as kind;
 ghost use Rattle.program.specs.Explaining.{IsTold, IsToldOf, AreFaultsExplained, usage_text};
 ghost use Rattle.program.specs.Program.{told, told_server, version_line, EndsWith};
 
@@ -102,14 +103,14 @@ pub(crate) fn tell_file_fault<W: Sink, E: Sink>(
     errors: &mut E,
 ) -> Status
     ensures { (EndsWith Status.Start (told fault) (W.output writer.old) (W.output writer.new) result
-        × IsToldOf (AreFaultsExplained file.now parsed.now.octets.items (table_view parsed.now.document) fault)
-        (E.output errors.old) (E.output errors.new))
+        × IsToldOf (AreFaultsExplained file.now parsed.now.octets.items (table_view parsed.now.document)
+        (kind.Settings fault)) (E.output errors.old) (E.output errors.new))
         ⊎ (EndsWith Status.Start (told no_memory) (W.output writer.old) (W.output writer.new) result
         × (E.output errors.new ≡ E.output errors.old)) }
 {
     match told(alloc, fault) {
         Ok(line) => {
-            explain_faults(alloc, file, parsed, fault, errors);
+            explain_faults(alloc, file, parsed, ServeFault::Settings(fault), errors);
             end_with(Status::Start, line.as_bytes(), writer)
         }
         Err(_) => tell_no_memory(writer),
@@ -123,9 +124,33 @@ fn told(alloc: Global, fault: SettingsFault) -> Result<String, AllocError>
     format!(in alloc; "{fault}\n")
 }
 
-/// Prints what is wrong with the settings of a server in the document of a file, and explains it; or prints that memory
-/// ran out.
+/// Prints the first fault of the settings of a server in a file, and explains all of them; or prints that memory ran
+/// out.
 pub(crate) fn tell_server_fault<W: Sink, E: Sink>(
+    alloc: Global,
+    file: &str,
+    parsed: &ParsedFile,
+    fault: ServeFault,
+    writer: &mut W,
+    errors: &mut E,
+) -> Status
+    ensures { (EndsWith Status.Start (told_server fault) (W.output writer.old) (W.output writer.new) result
+        × IsToldOf (AreFaultsExplained file.now parsed.now.octets.items (table_view parsed.now.document) fault)
+        (E.output errors.old) (E.output errors.new))
+        ⊎ (EndsWith Status.Start (told no_memory) (W.output writer.old) (W.output writer.new) result
+        × (E.output errors.new ≡ E.output errors.old)) }
+{
+    match told_server(alloc, fault) {
+        Ok(line) => {
+            explain_faults(alloc, file, parsed, fault, errors);
+            end_with(Status::Start, line.as_bytes(), writer)
+        }
+        Err(_) => tell_no_memory(writer),
+    }
+}
+
+/// Prints why the document of a file names no console, and explains it; or prints that memory ran out.
+pub(crate) fn tell_console_fault<W: Sink, E: Sink>(
     alloc: Global,
     file: &str,
     document: &Table,

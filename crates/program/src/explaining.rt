@@ -15,7 +15,7 @@ use crate::settings_files::ParsedFile;
 use script::{LineFault, ScriptFault, Sink};
 use settings::Settings;
 use settings_file::serve::{ConsolePlace, ServeFault};
-use settings_file::{SettingsFault, all_faults, all_sentences, value_warnings, warnings};
+use settings_file::{all_faults, all_sentences, value_warnings, warnings};
 use std::alloc::{AllocError, Global};
 use toml::Table;
 
@@ -115,7 +115,7 @@ pub(crate) fn explain_faults<E: Sink>(
     alloc: Global,
     file: &str,
     parsed: &ParsedFile,
-    first: SettingsFault,
+    first: ServeFault,
     errors: &mut E,
 )
     ensures { IsToldOf (AreFaultsExplained file.now parsed.now.octets.items (table_view parsed.now.document) first)
@@ -129,7 +129,7 @@ fn sentences_of(
     alloc: Global,
     file: &str,
     parsed: &ParsedFile,
-    first: SettingsFault,
+    first: ServeFault,
 ) -> Result<String, AllocError>
     ensures { IfOk result (λ text. AreFaultsExplained file.now parsed.now.octets.items
         (table_view parsed.now.document) first (string_bytes text)) }
@@ -138,7 +138,7 @@ fn sentences_of(
     all_sentences(alloc, file, &parsed.octets, &parsed.document, &faults)
 }
 
-/// Explains what is wrong with the settings of a server in the document of a file.
+/// Explains why the document of a file names no console.
 pub(crate) fn explain_server<E: Sink>(
     alloc: Global,
     file: &str,

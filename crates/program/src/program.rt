@@ -30,7 +30,6 @@ use settings::Settings;
 use settings_file::SettingsFault;
 use settings_file::serve::check_server;
 use std::alloc::Global;
-use toml::Table;
 
 /// How the program ends. The numbers are its exit statuses.
 #[derive(Clone, Copy, Debug, PartialEq, Eq)]
@@ -171,26 +170,27 @@ fn check_parsed<W: Sink, E: Sink>(
     match settings_in(alloc, file, parsed, writer, errors) {
         Ok(settings) => {
             drop(settings);
-            check_server_in(alloc, file, &parsed.document, writer, errors)
+            check_server_in(alloc, file, parsed, writer, errors)
         }
         Err(status) => status,
     }
 }
 
-/// Prints whether the settings of a server in the document of a file have a fault.
+/// Prints whether the settings of a server in a file have a fault.
 fn check_server_in<W: Sink, E: Sink>(
     alloc: Global,
     file: &str,
-    document: &Table,
+    parsed: &ParsedFile,
     writer: &mut W,
     errors: &mut E,
 ) -> Status
-    ensures { (octets : List ℕ) → AreDocument octets (table_view document.now) → ChecksServer file.now octets
-        (W.output writer.old) (W.output writer.new) (E.output errors.old) (E.output errors.new) result }
+    requires { AreDocument parsed.now.octets.items (table_view parsed.now.document) }
+    ensures { ChecksServer file.now parsed.now.octets.items (W.output writer.old) (W.output writer.new)
+        (E.output errors.old) (E.output errors.new) result }
 {
-    match check_server(alloc, document) {
+    match check_server(alloc, &parsed.document) {
         Ok(()) => end_with(Status::Done, b"ok\n", writer),
-        Err(fault) => tell_server_fault(alloc, file, document, fault, writer, errors),
+        Err(fault) => tell_server_fault(alloc, file, parsed, fault, writer, errors),
     }
 }
 

@@ -136,9 +136,9 @@ fn form(command: Command) -> &'static str {
         Command::Release => "release LINK",
         Command::Title => {
             "title add T P N DIGITS POINT ROUTE SSN, then perhaps backup POINT, then perhaps changed PLAN NATURE \
-             REMOVE ADD, or title remove T P N DIGITS, where T is 0 to 255, P and PLAN 0 to 15, N and NATURE 0 to 127, \
-             DIGITS and ADD 1 to 32 of 0 to 9 and a to f, POINT 0 to 16383, ROUTE title or ssn, SSN 1 to 255, or - \
-             if ROUTE is title, REMOVE 0 to 32; PLAN, NATURE and ADD may be -"
+             REMOVE ADD, title set with the same words, or title remove T P N DIGITS, where T is 0 to 255, P and PLAN \
+             0 to 15, N and NATURE 0 to 127, DIGITS and ADD 1 to 32 of 0 to 9 and a to f, POINT 0 to 16383, ROUTE \
+             title or ssn, SSN 1 to 255, or - if ROUTE is title, REMOVE 0 to 32; PLAN, NATURE and ADD may be -"
         }
         Command::Show => {
             "show links, show routes, show titles, show subsystems, show notices, show flags, show losses or show \

@@ -17,7 +17,6 @@ use settings::Settings;
 use settings_file::serve::{ConsolePlace, ServeSettings, read_server};
 use std::alloc::{AllocError, Global};
 use stp_server::{CaptureFault, LogFault, OpenFault, ServeFailure};
-use toml::Table;
 
 /// Why no log goes to a terminal that this program can't open by itself.
 const SLOW_TERMINAL: &str =
@@ -59,25 +58,25 @@ fn serve_parsed<W: Sink, E: Sink>(
         (W.output writer.old) (W.output writer.new) (E.output errors.old) (E.output errors.new) result }
 {
     match settings_in(rt.alloc(), file, parsed, writer, errors) {
-        Ok(settings) => serve_checked(rt, file, &parsed.document, settings, writer, errors),
+        Ok(settings) => serve_checked(rt, file, parsed, settings, writer, errors),
         Err(status) => status,
     }
 }
 
-/// Serves a node with these settings, if those of the server in the document have no fault.
+/// Serves a node with these settings, if those of the server in the file have no fault.
 fn serve_checked<W: Sink, E: Sink>(
     rt: &HostRuntime,
     file: &str,
-    document: &Table,
+    parsed: &ParsedFile,
     settings: Settings,
     writer: &mut W,
     errors: &mut E,
 ) -> Status {
-    match read_server(rt.alloc(), document) {
+    match read_server(rt.alloc(), &parsed.document) {
         Ok(serve) => serve_with(rt, settings, &serve, file, writer, errors),
         Err(fault) => {
             drop(settings);
-            tell_server_fault(rt.alloc(), file, document, fault, writer, errors)
+            tell_server_fault(rt.alloc(), file, parsed, fault, writer, errors)
         }
     }
 }

@@ -8,7 +8,7 @@ ghost use Rattle.program.specs.Program.{streams};
 ghost use Rattle.program.specs.Telling.{TellsFile, TellsDocument};
 
 use crate::console_client::{CallFault, Verdict, call};
-use crate::ending::{tell_no_memory, tell_server_fault};
+use crate::ending::{tell_console_fault, tell_no_memory};
 use crate::explaining::explain_call;
 use crate::folder::Folder;
 use crate::program::Status;
@@ -58,7 +58,7 @@ fn tell_document<R: Source, W: Sink, E: Sink>(
 {
     match read_console(document) {
         Ok(place) => tell_console(rt, place, words, reader, writer, errors),
-        Err(fault) => tell_server_fault(rt.alloc(), file, document, fault, writer, errors),
+        Err(fault) => tell_console_fault(rt.alloc(), file, document, fault, writer, errors),
     }
 }
 

@@ -29,6 +29,7 @@ mod sacking;
 mod sacks;
 mod sending;
 mod shutting;
+mod status;
 mod ticking;
 mod ties;
 mod timing;

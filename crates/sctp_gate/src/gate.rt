@@ -16,6 +16,7 @@ ghost use Rattle.sctp_gate.specs.Doing.{done_by};
 ghost use Rattle.sctp_gate.specs.Making.{Makes, MakesWhole};
 
 mod filling;
+mod status;
 
 use crate::bridge::do_and_hand_in;
 use crate::doing::Doing;

@@ -18,15 +18,15 @@ sent-more [] one c = refl
 sent-more (first ∷ sent) one c = sent-more sent one (counted_datagram DatagramWent c)
 
 joined-setback : (link : ℕ) (setback : Option Setback) (c d : NodeCounters) →
-    counted_setback link setback (record { links = c.links; datagrams = d.datagrams })
-    ≡ record { links = (counted_setback link setback c).links; datagrams = d.datagrams }
+    counted_setback link setback (record { links = c.links; datagrams = d.datagrams; messages = c.messages })
+    ≡ record { links = (counted_setback link setback c).links; datagrams = d.datagrams; messages = (counted_setback link setback c).messages }
 joined-setback link None c d = refl
 joined-setback link (Some setback) c d = refl
 
 -- a sight changes nothing of datagrams, and nothing by them
 joined : (link : ℕ) (sight : Sight) (c d : NodeCounters) →
-    counted_sight link sight (record { links = c.links; datagrams = d.datagrams })
-    ≡ record { links = (counted_sight link sight c).links; datagrams = d.datagrams }
+    counted_sight link sight (record { links = c.links; datagrams = d.datagrams; messages = c.messages })
+    ≡ record { links = (counted_sight link sight c).links; datagrams = d.datagrams; messages = (counted_sight link sight c).messages }
 joined link Rose c d = refl
 joined link (CameIn frame outcome) c d = refl
 joined link (Dropped message) c d = refl

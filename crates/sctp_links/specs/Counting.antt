@@ -9,7 +9,7 @@ use Rattle.sctp_endpoint.specs.Refusing.{refusal}
 use Rattle.exchange_rules.specs.State.{QueueKind, State}
 use Rattle.sctp_gate.specs.Gates.{Gate, Did}
 use Rattle.sctp_gate.specs.Watching.{Sight, Rose, CameIn, Dropped, Fell, Failed, WentOut}
-use Rattle.served_link.specs.Counting.{NodeCounters, DatagramWent, WasSetBack, came, counted_at, counted_datagram, went}
+use Rattle.served_link.specs.Counting.{NodeCounters, DatagramWent, WasSetBack, counted_at, counted_datagram, frame_came, frame_went}
 use Rattle.served_link.specs.declared.setback.Setback.{Setback}
 use Rattle.served_link.specs.declared.setback.Setback.TheVariants as setback
 use Rattle.sctp_links.specs.declared.screening.Screened.{Screened}
@@ -26,11 +26,11 @@ counted_setback link (Some setback) c = counted_at link (WasSetBack setback) c
 -- a try that failed is counted, and so are frames that came in and went out, as over TCP
 abbrev pub counted_sight : (link : ℕ) → Sight → NodeCounters → NodeCounters
 counted_sight link Rose c = c
-counted_sight link (CameIn frame outcome) c = counted_at link (came frame outcome) c
+counted_sight link (CameIn frame outcome) c = frame_came link frame outcome c
 counted_sight link (Dropped message) c = c
 counted_sight link (Fell why) c = c
 counted_sight link (Failed why) c = counted_setback link (failed_by why) c
-counted_sight link (WentOut frame) c = counted_at link (went frame) c
+counted_sight link (WentOut frame) c = frame_went link frame c
 
 abbrev pub counted_sights : (link : ℕ) → List Sight → NodeCounters → NodeCounters
 counted_sights link [] c = c
@@ -46,6 +46,7 @@ abbrev pub counted_by : (link : ℕ) → List Sent → List Sight → NodeCounte
 counted_by link sent seen c = record {
   links = (counted_sights link seen c).links;
   datagrams = (counted_sent sent c).datagrams;
+  messages = (counted_sights link seen c).messages;
 }
 
 abbrev pub counted_did : {Q : Type 0} → (link : ℕ) → Did Q → NodeCounters → NodeCounters

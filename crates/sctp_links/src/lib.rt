@@ -17,6 +17,7 @@ pub mod refusals;
 pub mod screening;
 pub mod setbacks;
 pub mod sockets;
+pub mod status;
 
 pub use keys::Keys;
 pub use links::SctpLinks;

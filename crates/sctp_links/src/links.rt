@@ -33,7 +33,7 @@ use std::time::Duration;
 #[derive(Drop)]
 pub struct SctpLinks {
     peers: Vec<Peer>,
-    links: Vec<SctpLink>,
+    pub(crate) links: Vec<SctpLink>,
 }
 
 impl Model for SctpLinks {

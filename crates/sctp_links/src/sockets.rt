@@ -10,7 +10,7 @@ use mio::Registry;
 use mio::event::Event;
 use script::Sink;
 use sctp_endpoint::Address;
-use served_link::{Unwatched, Watch};
+use served_link::{AssociationStatus, Unwatched, Watch};
 use served_node::{DatagramSocket, Log, Node, OpenFault, Received};
 use settings::{FailureReason, LinkId};
 use settings_file::serve::{Remote, SctpTimes};
@@ -152,6 +152,11 @@ impl SctpSockets {
     pub fn close<W: Sink>(&mut self, node: &mut Node, log: &mut Log<'_, W>) {
         self.links
             .close(node, &mut self.socket, log, &mut Unwatched);
+    }
+
+    /// How the association of a link does. None if the link isn't over SCTP, or if its association isn't up.
+    pub fn status(&self, link: LinkId) -> Option<AssociationStatus> {
+        self.links.status(link)
     }
 
     /// How long it takes until a timer is due, or a try may begin.

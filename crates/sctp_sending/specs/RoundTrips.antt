@@ -2,6 +2,7 @@
 -- are whole milliseconds.
 use Rattle.std.specs.Prelude.{ℕ, ◌+◌, ◌*◌, ◌/◌, Option, Some, None, min, max}
 use Rattle.std.specs.Int.{abs_diff}
+use Rattle.std.specs.Option.{option_map}
 use Rattle.sctp_sending.specs.declared.bounds.Bounds.{Bounds}
 use Rattle.sctp_sending.specs.declared.bounds.Smoothed.{Smoothed}
 
@@ -14,6 +15,10 @@ pub record RoundTrips : Type 0 where
 -- nothing is measured yet
 abbrev pub first_round_trips : Bounds → RoundTrips
 first_round_trips b = record { bounds = b; measured = None; timeout = b.initial }
+
+-- the smoothed round trip, once one was measured: SRTT
+abbrev pub smoothed_round_trip : RoundTrips → Option ℕ
+smoothed_round_trip t = option_map (λ s. s.time) t.measured
 
 -- the first measurement (C2), and each later one (C3)
 abbrev pub smoothed_by : Option Smoothed → ℕ → Smoothed

@@ -7,6 +7,7 @@ ghost use Rattle.sctp_sending.specs.RoundTrips.{
   timeout_of,
   after_measured,
   backed_off,
+  smoothed_round_trip,
 };
 
 use crate::bounds::{Bounds, Smoothed};
@@ -54,6 +55,16 @@ impl RoundTrips {
         ensures fits { self.now.bounds.most ≤ 2 ^ 24 }
     {
         self.timeout
+    }
+
+    /// The smoothed round trip, in milliseconds: SRTT. None until a round trip was measured.
+    pub fn smoothed(&self) -> Option<u32>
+        ensures { result ≡ smoothed_round_trip self.now }
+    {
+        match self.measured {
+            Some(smoothed) => Some(smoothed.time),
+            None => None,
+        }
     }
 
     /// Takes a round trip of this many milliseconds into account. One that took longer than RTO.Max counts as that.

@@ -3,7 +3,7 @@
 ghost use Rattle.std.specs.Prelude.{◌≡◌, ◌<◌, ◌≤◌, ◌^◌, length, IfOk};
 ghost use Rattle.sctp_sending.specs.Outgoing.{octets_of, outgoing_at, tsn_at};
 ghost use Rattle.sctp_sending.specs.Cells.{given_as};
-ghost use Rattle.sctp_sending.specs.RoundTrips.{first_round_trips, after_measured, backed_off};
+ghost use Rattle.sctp_sending.specs.RoundTrips.{first_round_trips, after_measured, backed_off, smoothed_round_trip};
 ghost use Rattle.sctp_sending.specs.Sending.{
   first_sending,
   given,
@@ -192,6 +192,20 @@ impl Sender {
         ensures { result ≡ self.now.round_trips.timeout }
     {
         self.round_trips.timeout()
+    }
+
+    /// The smoothed round trip, in milliseconds: SRTT (RFC 9260 §6.3.1). None until a round trip was measured.
+    pub fn smoothed_round_trip(&self) -> Option<u32>
+        ensures { result ≡ smoothed_round_trip self.now.round_trips }
+    {
+        self.round_trips.smoothed()
+    }
+
+    /// The congestion window, in octets: cwnd (RFC 9260 §7.2).
+    pub fn congestion_window(&self) -> u32
+        ensures { result ≡ self.now.congestion.window }
+    {
+        self.congestion.window()
     }
 
     /// Forgets what was measured: the timeout is the first one again.

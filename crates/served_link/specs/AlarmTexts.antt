@@ -4,17 +4,12 @@ use Rattle.std.specs.Option.{option_map}
 use Rattle.settings.specs.Configuration.{Configuration}
 use Rattle.settings.specs.Points.{point_text}
 use Rattle.settings.specs.declared.point.PointFormat.{PointFormat}
+use Rattle.console.specs.Names.{name_in, set_name_in}
 use Rattle.served_link.specs.Alarms.{alarm_at}
 use Rattle.served_link.specs.declared.alarm.Alarm.{Alarm}
 use Rattle.served_link.specs.declared.alarm.Alarm.TheVariants as alarm
 
--- the name of a link or a set, and the point of a destination; nothing if none has this number
-abbrev pub link_name_in : Configuration → ℕ → List ℕ
-link_name_in c link = unwrap_or (option_map (λ row. row.name) (slice_get c.links link)) []
-
-abbrev pub set_name_in : Configuration → ℕ → List ℕ
-set_name_in c set = unwrap_or (option_map (λ row. row.name) (slice_get c.sets set)) []
-
+-- the point of a destination; nothing if none has this number
 abbrev pub destination_name_in : PointFormat → Configuration → ℕ → List ℕ
 destination_name_in points c destination =
     unwrap_or (option_map (λ row. point_text points row.point) (slice_get c.destinations destination)) []
@@ -26,7 +21,7 @@ alarm_name points c alarm.LateAny = codes "flag late_any"
 alarm_name points c alarm.Pool = codes "pool"
 alarm_name points c alarm.Capture = codes "capture"
 alarm_name points c alarm.Behind = codes "behind"
-alarm_name points c (alarm.Link link) = codes "link " ++ link_name_in c link
+alarm_name points c (alarm.Link link) = codes "link " ++ name_in c link
 alarm_name points c (alarm.Set set) = codes "set " ++ set_name_in c set
 alarm_name points c (alarm.Destination destination) =
     codes "destination " ++ destination_name_in points c destination

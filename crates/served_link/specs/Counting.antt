@@ -1,5 +1,5 @@
 -- What is counted for a link, and what it adds to each counter.
-use Rattle.std.specs.Prelude.{ℕ, ◌+◌, ◌-◌, ◌^◌, min, Bool, false, not, if◌then◌else◌, Option, None, Some}
+use Rattle.std.specs.Prelude.{ℕ, ◌+◌, ◌-◌, Bool, false, not, if◌then◌else◌, Option, None, Some}
 use Rattle.std.specs.Prelude.{List, length, replicate, slice_index, slice_index_or, slice_set}
 use Rattle.signalling_types.specs.Causes.{cause_number}
 use Rattle.signalling_types.specs.Message.{Message, is_management}
@@ -22,6 +22,9 @@ use Rattle.served_link.specs.declared.setback.Setback.TheVariants.{FewStreams, U
 use Rattle.served_link.specs.declared.setback.Setback.TheVariants.{WithoutCookie, LongCookie, EndedByPeer}
 use Rattle.served_link.specs.declared.setback.Setback.TheVariants.{Unanswered, BadAnswer, EndedByNode}
 use Rattle.served_link.specs.declared.datagrams.DatagramCounters.{DatagramCounters}
+use Rattle.served_link.specs.declared.messages.LinkMessages.{LinkMessages}
+use Rattle.served_link.specs.Messages.{heard_at, no_messages, sent_at}
+pub use Rattle.served_link.specs.Saturating.{one_more_at, saturated}
 
 -- what is counted for a link
 pub data Counted : Type 0 where
@@ -80,10 +83,6 @@ setback_number Unanswered = 11
 setback_number BadAnswer = 12
 setback_number EndedByNode = 13
 
--- a count of 64 bits and this many more, which stays at its greatest value
-abbrev pub saturated : ℕ → ℕ
-saturated n = min n (2 ^ 64 - 1)
-
 -- nothing is counted yet
 abbrev pub no_counts : LinkCounters
 no_counts = record {
@@ -98,9 +97,6 @@ no_counts = record {
   retries = 0;
   setbacks = replicate SETBACKS 0;
 }
-
-abbrev pub one_more_at : ℕ → List ℕ → List ℕ
-one_more_at place counts = slice_set counts place (saturated (slice_index counts place + 1))
 
 -- a message was queued or held; if it is a user's, it is forwarded
 abbrev pub sent_on : (has_user_message : Bool) → LinkCounters → LinkCounters
@@ -145,17 +141,33 @@ pub record NodeCounters : Type 0 where
   pub links : List LinkCounters
   -- of datagrams
   pub datagrams : DatagramCounters
+  -- of the messages of each link, by kind
+  pub messages : List LinkMessages
 
 abbrev pub no_datagrams : DatagramCounters
 no_datagrams = record { incoming = 0; outgoing = 0; strangers = 0 }
 
 -- nothing is counted yet for this many links
 abbrev pub first_counters : (links : ℕ) → NodeCounters
-first_counters links = record { links = replicate links no_counts; datagrams = no_datagrams }
+first_counters links = record {
+  links = replicate links no_counts;
+  datagrams = no_datagrams;
+  messages = replicate links no_messages;
+}
 
 -- one thing more is counted for a link
 abbrev pub counted_at : (link : ℕ) → Counted → NodeCounters → NodeCounters
 counted_at link what counters = record counters { links = row_counted_at link what counters.links }
+
+-- a frame that came in on a link with this outcome is counted, and so is its message
+abbrev pub frame_came : (link : ℕ) → (frame : List ℕ) → Outcome → NodeCounters → NodeCounters
+frame_came link frame outcome counters =
+    record (counted_at link (came frame outcome) counters) { messages = heard_at link (message_in frame) counters.messages }
+
+-- and those of one that went out
+abbrev pub frame_went : (link : ℕ) → (frame : List ℕ) → NodeCounters → NodeCounters
+frame_went link frame counters =
+    record (counted_at link (went frame) counters) { messages = sent_at link (message_in frame) counters.messages }
 
 -- what is counted of datagrams
 pub data CountedDatagram : Type 0 where

@@ -18,3 +18,7 @@ pub mod ServiceStates
 pub mod Severities
 pub mod ShownStates
 pub mod Times
+pub mod Kinds
+pub mod Messages
+pub mod Saturating
+pub mod Unavailable

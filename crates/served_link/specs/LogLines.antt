@@ -2,33 +2,42 @@
 use Rattle.std.specs.Prelude.{ℕ, ◌-◌, Bool, true, false, List, [], ◌++◌, codes, decimal, Option, None, Some}
 use Rattle.settings.specs.Configuration.{Configuration}
 use Rattle.settings.specs.declared.point.PointFormat.{PointFormat}
-use Rattle.served_link.specs.AlarmTexts.{alarm_name, destination_name_in, link_name_in, seconds_text, set_name_in}
-use Rattle.served_link.specs.DestinationStates.{access_words, set_of}
-use Rattle.served_link.specs.ServiceStates.{state_words}
+use Rattle.console.specs.Names.{name_in, set_name_in}
+use Rattle.served_link.specs.AlarmTexts.{alarm_name, destination_name_in, seconds_text}
+use Rattle.served_link.specs.DestinationStates.{access_words}
+use Rattle.served_link.specs.ServiceStates.{is_in_service, state_words}
 use Rattle.served_link.specs.declared.alarm.Alarm.{Alarm}
 use Rattle.served_link.specs.declared.alarms.AlarmChange.{AlarmChange}
 use Rattle.served_link.specs.declared.alarms.AlarmChange.TheVariants.{Raised, Cleared}
 use Rattle.served_link.specs.declared.destination_states.DestinationState.{DestinationState}
 use Rattle.served_link.specs.declared.service_states.ServiceState.{ServiceState}
 use Rattle.served_link.specs.declared.service_states.ServiceState.TheVariants as state
-use Rattle.served_link.specs.declared.service_states.StateSince.{StateSince}
+use Rattle.served_link.specs.declared.service_states.StateChange.{StateChange}
 
--- of a link whose messages change over: how many of them aren't confirmed
-abbrev pub unconfirmed_text : ServiceState → (waiting : ℕ) → List ℕ
-unconfirmed_text state.InService waiting = []
-unconfirmed_text state.Aligning waiting = []
-unconfirmed_text state.ChangingOver waiting = codes ", " ++ decimal waiting ++ codes " unconfirmed"
-unconfirmed_text state.Barred waiting = []
-unconfirmed_text state.Closing waiting = []
-unconfirmed_text state.Failed waiting = []
-unconfirmed_text state.Deactivated waiting = []
+-- of the messages of a link that leaves service: how many aren't confirmed as they begin to change over, or that they
+-- have changed over by now
+abbrev pub left_service : (was_in_service : Bool) → List ℕ
+left_service true = codes ", changed over"
+left_service false = []
 
--- a link: its state, and how long it was in the former one
-abbrev pub link_change_text : Configuration → (link : ℕ) → StateSince → ServiceState → (waiting now : ℕ) → List ℕ
-link_change_text c link former found waiting now =
-    codes "link " ++ link_name_in c link ++ codes " " ++ state_words found
-    ++ codes " after " ++ seconds_text (now - former.since_ms) ++ codes " s " ++ state_words former.state
-    ++ unconfirmed_text found waiting
+abbrev pub changeover_text : (was_in_service : Bool) → ServiceState → (waiting : ℕ) → List ℕ
+changeover_text was_in_service state.InService waiting = []
+changeover_text was_in_service state.UnderTest waiting = []
+changeover_text was_in_service state.ProcessorOutage waiting = []
+changeover_text was_in_service state.Aligning waiting = left_service was_in_service
+changeover_text was_in_service state.ChangingOver waiting = codes ", " ++ decimal waiting ++ codes " unconfirmed"
+changeover_text was_in_service state.Barred waiting = left_service was_in_service
+changeover_text was_in_service state.Closing waiting = left_service was_in_service
+changeover_text was_in_service state.NotYetInService waiting = left_service was_in_service
+changeover_text was_in_service state.Failed waiting = left_service was_in_service
+changeover_text was_in_service state.Deactivated waiting = left_service was_in_service
+
+-- a link: its state, how long it was in the former one, and what becomes of its messages
+abbrev pub link_change_text : Configuration → (link : ℕ) → StateChange → (waiting now : ℕ) → List ℕ
+link_change_text c link change waiting now =
+    codes "link " ++ name_in c link ++ codes " " ++ state_words change.state
+    ++ codes " after " ++ seconds_text (now - change.former.since_ms) ++ codes " s " ++ state_words change.former.state
+    ++ changeover_text (is_in_service change.former.state) change.state waiting
 
 -- a set: whether a link of it is in service
 abbrev pub availability : (is_available : Bool) → List ℕ
@@ -48,7 +57,7 @@ sets_by c None second = []
 sets_by c (Some set) second = codes " by " ++ set_name_in c set ++ second_set c second
 
 abbrev pub sets_text : Configuration → DestinationState → List ℕ
-sets_text c found = sets_by c (set_of found.first) (set_of found.second)
+sets_text c found = sets_by c found.first found.second
 
 -- a destination: whether messages have a way, and which sets they take
 abbrev pub destination_change_text : PointFormat → Configuration → (destination : ℕ) → DestinationState → List ℕ

@@ -1,42 +1,65 @@
 -- The states of links as an operator sees them, and what a look changes.
-use Rattle.std.specs.Prelude.{ℕ, Bool, true, false, List, codes, replicate, slice_get, slice_index_or, slice_set, if◌then◌else◌, Option, None, Some, nat_eq}
+use Rattle.std.specs.Prelude.{ℕ, Bool, true, false, ◌||◌, List, codes, replicate, slice_index_or, slice_set, if◌then◌else◌, Option, None, Some, nat_eq}
 use Rattle.served_link.specs.declared.service_states.ServiceState.{ServiceState}
 use Rattle.served_link.specs.declared.service_states.ServiceState.TheVariants as state
+use Rattle.served_link.specs.declared.service_states.StateChange.{StateChange}
 use Rattle.served_link.specs.declared.service_states.StateSince.{StateSince}
 
 -- the words of a state
 abbrev pub state_words : ServiceState → List ℕ
 state_words state.InService = codes "in service"
+state_words state.UnderTest = codes "under test"
+state_words state.ProcessorOutage = codes "processor outage"
 state_words state.Aligning = codes "aligning"
 state_words state.ChangingOver = codes "changing over"
 state_words state.Barred = codes "barred"
 state_words state.Closing = codes "closing"
+state_words state.NotYetInService = codes "not in service yet"
 state_words state.Failed = codes "failed"
 state_words state.Deactivated = codes "deactivated"
 
 -- the states by number
 abbrev pub state_number : ServiceState → ℕ
 state_number state.InService = 0
-state_number state.Aligning = 1
-state_number state.ChangingOver = 2
-state_number state.Barred = 3
-state_number state.Closing = 4
-state_number state.Failed = 5
-state_number state.Deactivated = 6
+state_number state.UnderTest = 1
+state_number state.ProcessorOutage = 2
+state_number state.Aligning = 3
+state_number state.ChangingOver = 4
+state_number state.Barred = 5
+state_number state.Closing = 6
+state_number state.NotYetInService = 7
+state_number state.Failed = 8
+state_number state.Deactivated = 9
 
--- a link is available in service alone (Q.704 §3.2.1)
+-- a link is aligned and proved (Q.703 §7)
+abbrev pub is_in_service : ServiceState → Bool
+is_in_service state.InService = true
+is_in_service state.UnderTest = true
+is_in_service state.ProcessorOutage = true
+is_in_service state.Aligning = false
+is_in_service state.ChangingOver = false
+is_in_service state.Barred = false
+is_in_service state.Closing = false
+is_in_service state.NotYetInService = false
+is_in_service state.Failed = false
+is_in_service state.Deactivated = false
+
+-- a link is available in service alone (Q.704 §3.2.1): blocked it isn't (§3.2.6), nor before its first test (Q.707 §2.2)
 abbrev pub is_available : ServiceState → Bool
 is_available state.InService = true
+is_available state.UnderTest = false
+is_available state.ProcessorOutage = false
 is_available state.Aligning = false
 is_available state.ChangingOver = false
 is_available state.Barred = false
 is_available state.Closing = false
+is_available state.NotYetInService = false
 is_available state.Failed = false
 is_available state.Deactivated = false
 
--- as a node starts its links are out of service, and wait for an association
+-- as a node starts its links are out of service, wait for an association, and were never available
 abbrev pub at_start : StateSince
-at_start = record { state = state.Failed; since_ms = 0 }
+at_start = record { state = state.NotYetInService; since_ms = 0; was_available = false }
 
 abbrev pub first_links : ℕ → List StateSince
 first_links links = replicate links at_start
@@ -44,15 +67,46 @@ first_links links = replicate links at_start
 abbrev pub same_state : (a b : ServiceState) → Bool
 same_state a b = nat_eq (state_number a) (state_number b)
 
--- how a link is seen after a look that finds it in this state: since then, if it wasn't before
-abbrev pub seen_after : ServiceState → (now : ℕ) → StateSince → StateSince
-seen_after found now link = if same_state link.state found then link else record { state = found; since_ms = now }
+-- a link that may open has failed only if it was available before
+abbrev pub may_open_as : (was_available : Bool) → ServiceState
+may_open_as false = state.NotYetInService
+may_open_as true = state.Failed
 
--- how it was seen before, if the look finds another state
-abbrev pub former_of : ServiceState → Option StateSince → Option StateSince
-former_of found None = None
-former_of found (Some link) = if same_state link.state found then None else Some link
+abbrev pub seen_as : (was_available : Bool) → ServiceState → ServiceState
+seen_as was_available state.InService = state.InService
+seen_as was_available state.UnderTest = state.UnderTest
+seen_as was_available state.ProcessorOutage = state.ProcessorOutage
+seen_as was_available state.Aligning = state.Aligning
+seen_as was_available state.ChangingOver = state.ChangingOver
+seen_as was_available state.Barred = state.Barred
+seen_as was_available state.Closing = state.Closing
+seen_as was_available state.NotYetInService = may_open_as was_available
+seen_as was_available state.Failed = may_open_as was_available
+seen_as was_available state.Deactivated = state.Deactivated
+
+-- what a look changes that finds a link in this state: nothing, if it is seen as before
+abbrev pub change_to : (seen : ServiceState) → StateSince → Option StateChange
+change_to seen link = if same_state link.state seen then None else Some (record { former = link; state = seen })
+
+abbrev pub change_of : (found : ServiceState) → StateSince → Option StateChange
+change_of found link = change_to (seen_as link.was_available found) link
+
+abbrev pub change_at : (found : ServiceState) → Option StateSince → Option StateChange
+change_at found None = None
+change_at found (Some link) = change_of found link
+
+-- how it is seen after the look: since then, if it wasn't seen so before
+abbrev pub after_change : Option StateChange → (found : ServiceState) → (now : ℕ) → StateSince → StateSince
+after_change None found now link = link
+after_change (Some change) found now link = record {
+  state = change.state;
+  since_ms = now;
+  was_available = link.was_available || is_available found;
+}
+
+abbrev pub seen_after : (found : ServiceState) → (now : ℕ) → StateSince → StateSince
+seen_after found now link = after_change (change_of found link) found now link
 
 -- the links after a look at one of them
-abbrev pub links_after : (link : ℕ) → ServiceState → (now : ℕ) → List StateSince → List StateSince
+abbrev pub links_after : (link : ℕ) → (found : ServiceState) → (now : ℕ) → List StateSince → List StateSince
 links_after link found now links = slice_set links link (seen_after found now (slice_index_or links link at_start))

@@ -1,15 +1,14 @@
 //! The names of alarms, and the lines of those that are raised.
 
 ghost use Rattle.std.specs.Prelude.{◌≡◌, ◌+◌, ◌<◌, ◌≤◌, ◌++◌, decimal, length};
-ghost use Rattle.served_link.specs.AlarmTexts.{alarm_line, alarm_name, destination_name_in, line_at};
-ghost use Rattle.served_link.specs.AlarmTexts.{link_name_in, seconds_text, set_name_in};
+ghost use Rattle.served_link.specs.AlarmTexts.{alarm_line, alarm_name, destination_name_in, line_at, seconds_text};
 
 use crate::alarm::Alarm;
 use crate::alarms::Alarms;
 use arrayvec::ArrayString;
+use console::{link_name, set_name};
 use itoa::Buffer;
 use settings::{POINT_OCTETS, PointFormat, Settings, point_text};
-use signalling_types::{Limits, LinkId, SetId};
 
 /// Octets of the line of an alarm, at most.
 pub const ALARM_OCTETS: usize = 112;
@@ -87,28 +86,6 @@ pub fn alarm_name(
         }
     }
     name
-}
-
-/// The name of a link; nothing if no link has this number.
-pub(crate) fn link_name(settings: &Settings, link: LinkId) -> &str
-    ensures name { result.now ≡ link_name_in settings.now link }
-    ensures fits { length result.now ≤ Limits.NAME_OCTETS }
-{
-    match settings.link_name(link) {
-        Some(name) => name,
-        None => "",
-    }
-}
-
-/// The name of a set; nothing if no set has this number.
-pub(crate) fn set_name(settings: &Settings, set: SetId) -> &str
-    ensures name { result.now ≡ set_name_in settings.now set }
-    ensures fits { length result.now ≤ Limits.NAME_OCTETS }
-{
-    match settings.sets().get(set.index()) {
-        Some(row) => row.name(),
-        None => "",
-    }
 }
 
 /// The point of a destination; nothing if no destination has this number.

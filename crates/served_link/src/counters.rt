@@ -1,25 +1,31 @@
 //! The counters of a node: of each of its links, and of its datagrams.
 
-ghost use Rattle.std.specs.Prelude.{◌≡◌, slice_get, IfOk};
+ghost use Rattle.std.specs.Prelude.{◌≡◌, IfOk, Some, slice_get};
 ghost use Rattle.std.specs.Option.{option_copied};
 ghost use Rattle.served_link.specs.Counting.{DatagramCame, DatagramWent, StrangerCame, counted_datagram};
-ghost use Rattle.served_link.specs.Counting.{Failure, Retry, WasSetBack, came, counted_at, first_counters, went};
+ghost use Rattle.served_link.specs.Counting.{Failure, Retry, WasSetBack, came, counted_at, first_counters};
+ghost use Rattle.served_link.specs.Counting.{frame_came, frame_went, went};
+ghost use Rattle.served_link.specs.Messages.{heard_at, sent_at};
+ghost use Rattle.signalling_types.specs.Message.{lent};
+ghost use Rattle.trace.specs.Observed.{message_in};
 
 use crate::datagrams::DatagramCounters;
 use crate::frame::has_user_message;
+use crate::messages::LinkMessages;
 use crate::row::LinkCounters;
 use crate::setback::Setback;
-use signalling_types::{FailureReason, LinkId, Outcome};
+use signalling_types::{FailureReason, LinkId, MsuRef, Outcome};
 use std::alloc::{AllocError, Global};
 use std::marker::Model;
 use trace::ObservedFrame;
 
-/// The counters of a node since start: of each link, and of datagrams. What is counted for a link that isn't there is
+/// The counters of a node since start: of each link, of its messages by kind, and of datagrams. What is counted for a link that isn't there is
 /// ignored.
 #[derive(Drop)]
 pub struct Counters {
     rows: Vec<LinkCounters>,
     datagrams: DatagramCounters,
+    messages: Vec<LinkMessages>,
 }
 
 impl Model for Counters {
@@ -27,7 +33,11 @@ impl Model for Counters {
 
     ghost Value = { NodeCounters };
 
-    ghost view = { λ c. record { links = c.rows.items; datagrams = c.datagrams } };
+    ghost view = { λ c. record {
+      links = c.rows.items;
+      datagrams = c.datagrams;
+      messages = c.messages.items;
+    } };
 }
 
 impl Counters {
@@ -38,6 +48,7 @@ impl Counters {
         Ok(Counters {
             rows: vec![in alloc; LinkCounters::new(); links]?,
             datagrams: DatagramCounters::new(),
+            messages: vec![in alloc; LinkMessages::new(); links]?,
         })
     }
 
@@ -48,8 +59,23 @@ impl Counters {
         self.rows.get(link.index())
     }
 
+    /// The messages of a link by kind, if there is such a link.
+    pub fn messages(&self, link: LinkId) -> Option<&LinkMessages>
+        ensures { option_copied result ≡ slice_get self.now.messages link }
+    {
+        self.messages.get(link.index())
+    }
+
     /// A frame came in on a link, and was handed in with this outcome.
     pub fn count_in(&mut self, link: LinkId, frame: &ObservedFrame<'_>, outcome: &Outcome)
+        ensures { self.new ≡ frame_came link frame.now outcome.now self.old }
+    {
+        self.count_arrival(link, frame, outcome);
+        self.count_heard(link, frame);
+    }
+
+    /// The frame is counted.
+    fn count_arrival(&mut self, link: LinkId, frame: &ObservedFrame<'_>, outcome: &Outcome)
         ensures { self.new ≡ counted_at link (came frame.now outcome.now) self.old }
     {
         if let Some(row) = self.rows.get_mut(link.index()) {
@@ -57,12 +83,62 @@ impl Counters {
         }
     }
 
-    /// A frame went out on a link.
+    /// Its message is counted, if it has one.
+    fn count_heard(&mut self, link: LinkId, frame: &ObservedFrame<'_>)
+        ensures { self.new ≡ record self.old { messages = heard_at link (message_in frame.now) self.old.messages } }
+    {
+        match frame.message() {
+            Some(message) => self.count_message_in(link, message),
+            None => {}
+        }
+    }
+
+    /// A message came in on a link.
+    fn count_message_in(&mut self, link: LinkId, message: MsuRef<'_>)
+        ensures { self.new ≡ record self.old {
+          messages = heard_at link (Some (lent message.entry)) self.old.messages;
+        } }
+    {
+        if let Some(row) = self.messages.get_mut(link.index()) {
+            row.heard.count(message);
+        }
+    }
+
+    /// A frame of these octets went out on a link. They are read once more, for its message.
     pub fn count_out(&mut self, link: LinkId, frame: &[u8])
+        ensures { self.new ≡ frame_went link frame.now self.old }
+    {
+        self.count_departure(link, frame);
+        self.count_sent(link, &ObservedFrame::new(frame));
+    }
+
+    /// The frame is counted.
+    fn count_departure(&mut self, link: LinkId, frame: &[u8])
         ensures { self.new ≡ counted_at link (went frame.now) self.old }
     {
         if let Some(row) = self.rows.get_mut(link.index()) {
             row.count_out(frame.len());
+        }
+    }
+
+    /// Its message is counted, if it has one.
+    fn count_sent(&mut self, link: LinkId, frame: &ObservedFrame<'_>)
+        ensures { self.new ≡ record self.old { messages = sent_at link (message_in frame.now) self.old.messages } }
+    {
+        match frame.message() {
+            Some(message) => self.count_message_out(link, message),
+            None => {}
+        }
+    }
+
+    /// A message went out on a link.
+    fn count_message_out(&mut self, link: LinkId, message: MsuRef<'_>)
+        ensures { self.new ≡ record self.old {
+          messages = sent_at link (Some (lent message.entry)) self.old.messages;
+        } }
+    {
+        if let Some(row) = self.messages.get_mut(link.index()) {
+            row.sent.count(message);
         }
     }
 

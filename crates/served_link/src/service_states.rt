@@ -2,21 +2,25 @@
 
 ghost use Rattle.std.specs.Prelude.{◌≡◌, ◌≤◌, IfOk, length, slice_get};
 ghost use Rattle.std.specs.Option.{option_copied};
-ghost use Rattle.served_link.specs.ServiceStates.{at_start, first_links, former_of, is_available, links_after};
-ghost use Rattle.served_link.specs.ServiceStates.{same_state, seen_after, state_number, state_words};
+ghost use Rattle.served_link.specs.ServiceStates.{at_start, change_at, change_of, first_links, is_available, is_in_service};
+ghost use Rattle.served_link.specs.ServiceStates.{links_after, seen_after, seen_as, state_words};
 
 use signalling_types::LinkId;
 use std::alloc::{AllocError, Global};
 use std::marker::Model;
 
 /// Octets of the words of a state, at most.
-const STATE_OCTETS: usize = 13;
+const STATE_OCTETS: usize = 18;
 
 /// The state of a link (Q.704 §3.2). It is available in service, and unavailable in each other state.
-#[derive(Clone, Copy)]
+#[derive(Clone, Copy, PartialEq, Eq)]
 pub enum ServiceState {
     /// It is in service (Q.704 §3.2.1).
     InService,
+    /// It is in service, but no user message takes it until it has passed its first test (Q.707 §2.2).
+    UnderTest,
+    /// It is in service, but blocked: the peer's processor is out (Q.704 §3.2.6).
+    ProcessorOutage,
     /// An association is there, and the link is being aligned and proved (Q.703 §7).
     Aligning,
     /// It has failed or was deactivated, and its messages change over to other links (Q.704 §5).
@@ -25,7 +29,9 @@ pub enum ServiceState {
     Barred,
     /// It has failed or was deactivated, and its association isn't closed yet.
     Closing,
-    /// It has failed, or has never been in service, and may open (Q.704 §3.2.2).
+    /// It may open, and hasn't been available since the node started.
+    NotYetInService,
+    /// It has failed since it was available, and may open (Q.704 §3.2.2).
     Failed,
     /// The operator took it out of service (Q.704 §3.2.4).
     Deactivated,
@@ -39,10 +45,13 @@ impl ServiceState {
     {
         match self {
             ServiceState::InService => "in service",
+            ServiceState::UnderTest => "under test",
+            ServiceState::ProcessorOutage => "processor outage",
             ServiceState::Aligning => "aligning",
             ServiceState::ChangingOver => "changing over",
             ServiceState::Barred => "barred",
             ServiceState::Closing => "closing",
+            ServiceState::NotYetInService => "not in service yet",
             ServiceState::Failed => "failed",
             ServiceState::Deactivated => "deactivated",
         }
@@ -55,26 +64,31 @@ impl ServiceState {
         matches!(self, ServiceState::InService)
     }
 
-    /// The number of the state.
-    fn number(self) -> u8
-        ensures { result ≡ state_number self }
+    /// Whether a link in this state is aligned and proved, available or not.
+    pub fn is_in_service(self) -> bool
+        ensures { result ≡ is_in_service self }
     {
-        match self {
-            ServiceState::InService => 0,
-            ServiceState::Aligning => 1,
-            ServiceState::ChangingOver => 2,
-            ServiceState::Barred => 3,
-            ServiceState::Closing => 4,
-            ServiceState::Failed => 5,
-            ServiceState::Deactivated => 6,
-        }
+        matches!(
+            self,
+            ServiceState::InService | ServiceState::UnderTest | ServiceState::ProcessorOutage
+        )
     }
 
-    /// Whether this is the same state as another.
-    fn is_same(self, other: ServiceState) -> bool
-        ensures { result ≡ same_state self other }
+    /// This state of a link that was available before, or wasn't: of the two states in which it may open, the one that
+    /// fits.
+    fn seen_as(self, was_available: bool) -> ServiceState
+        ensures { result ≡ seen_as was_available self }
     {
-        self.number() == other.number()
+        match self {
+            ServiceState::NotYetInService | ServiceState::Failed => {
+                if was_available {
+                    ServiceState::Failed
+                } else {
+                    ServiceState::NotYetInService
+                }
+            }
+            _ => self,
+        }
     }
 }
 
@@ -85,6 +99,17 @@ pub struct StateSince {
     pub state: ServiceState,
     /// Since when it is in this state, in milliseconds after the start.
     pub since_ms: u64,
+    /// Whether it was available then, or before.
+    pub was_available: bool,
+}
+
+/// A change of a link's state.
+#[derive(Clone, Copy)]
+pub struct StateChange {
+    /// The link before.
+    pub former: StateSince,
+    /// The state that it is in now.
+    pub state: ServiceState,
 }
 
 impl StateSince {
@@ -93,8 +118,24 @@ impl StateSince {
         ensures { result ≡ at_start }
     {
         StateSince {
-            state: ServiceState::Failed,
+            state: ServiceState::NotYetInService,
             since_ms: 0,
+            was_available: false,
+        }
+    }
+
+    /// What changes by a look that finds the link in this state.
+    fn change(self, found: ServiceState) -> Option<StateChange>
+        ensures { result ≡ change_of found self }
+    {
+        let state = found.seen_as(self.was_available);
+        if self.state == state {
+            None
+        } else {
+            Some(StateChange {
+                former: self,
+                state,
+            })
         }
     }
 
@@ -102,13 +143,13 @@ impl StateSince {
     fn after(self, found: ServiceState, now_ms: u64) -> StateSince
         ensures { result ≡ seen_after found now_ms self }
     {
-        if self.state.is_same(found) {
-            self
-        } else {
-            StateSince {
-                state: found,
+        match self.change(found) {
+            Some(change) => StateSince {
+                state: change.state,
                 since_ms: now_ms,
-            }
+                was_available: self.was_available || found.is_available(),
+            },
+            None => self,
         }
     }
 }
@@ -145,19 +186,14 @@ impl ServiceStates {
         self.rows.get(link.index())
     }
 
-    /// A link was found in this state, so many milliseconds after the start. Returns how it was seen before, if that
-    /// was another one.
-    pub fn note(&mut self, link: LinkId, found: ServiceState, now_ms: u64) -> Option<StateSince>
-        ensures former { result ≡ former_of found (slice_get self.old link) }
+    /// A link was found in this state, so many milliseconds after the start. Returns what changed, if anything did.
+    pub fn note(&mut self, link: LinkId, found: ServiceState, now_ms: u64) -> Option<StateChange>
+        ensures change { result ≡ change_at found (slice_get self.old link) }
         ensures links { self.new ≡ links_after link found now_ms self.old }
     {
         let row = self.rows.get_mut(link.index())?;
         let former = *row;
         *row = former.after(found, now_ms);
-        if former.state.is_same(found) {
-            None
-        } else {
-            Some(former)
-        }
+        former.change(found)
     }
 }

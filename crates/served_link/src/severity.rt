@@ -11,7 +11,7 @@ pub enum Severity {
     Warning,
     /// A change of a link, a set or a destination, an order, a notice.
     Notice,
-    /// What became of a socket.
+    /// What became of a socket, and that an alarm is cleared.
     Info,
     /// That a client came or went.
     Debug,
@@ -64,10 +64,7 @@ fn warns(text: &[u8]) -> bool
 fn tells_a_change(text: &[u8]) -> bool
     ensures { result ≡ tells_a_change text.now }
 {
-    begins(text, b"clear ")
-        || begins(text, b"link ")
-        || begins(text, b"set ")
-        || begins(text, b"destination ")
+    begins(text, b"link ") || begins(text, b"set ") || begins(text, b"destination ")
 }
 
 /// Whether a text says what was ordered, or what else an operator may want to know.

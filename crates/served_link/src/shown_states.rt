@@ -1,11 +1,12 @@
 //! What is seen of the links and the destinations of a node.
 
 ghost use Rattle.std.specs.Prelude.{◌≡◌};
-ghost use Rattle.served_link.specs.ShownStates.{access_by, destination_state_in, down_state, service_state_in, state_by};
+ghost use Rattle.served_link.specs.ShownStates.{access_by, destination_state_in, down_state, served_state, service_state_in};
+ghost use Rattle.served_link.specs.ShownStates.{state_by};
 
 use crate::destination_states::{Access, DestinationState};
 use crate::service_states::ServiceState;
-use exchange::{Exchange, LinkStanding, RouteStatus, Wants};
+use exchange::{Exchange, LinkStanding, Obstacle, RouteStatus, Wants};
 use signalling_types::LinkId;
 
 /// The state of a link; None if no link has this number.
@@ -16,12 +17,13 @@ pub fn service_state(exchange: &Exchange, link: LinkId) -> Option<ServiceState>
     let is_barred = exchange.is_barred(link);
     let may_restart = exchange.may_restart(link);
     let down = down_state(is_barred, may_restart, exchange.wants(link));
-    Some(state_by(view.standing, down))
+    let served = served_state(exchange.obstacle(link));
+    Some(state_by(view.standing, down, served))
 }
 
-/// The state of a link, by where it stands, and by the state that it has if it is down.
-fn state_by(standing: LinkStanding, down: ServiceState) -> ServiceState
-    ensures { result ≡ state_by standing down }
+/// The state of a link, by where it stands, and by the states that it has if it is down, and if it is in service.
+fn state_by(standing: LinkStanding, down: ServiceState, served: ServiceState) -> ServiceState
+    ensures { result ≡ state_by standing down served }
 {
     match standing {
         LinkStanding::Down => down,
@@ -29,7 +31,7 @@ fn state_by(standing: LinkStanding, down: ServiceState) -> ServiceState
         | LinkStanding::Aligned
         | LinkStanding::Proving
         | LinkStanding::AlignedReady => ServiceState::Aligning,
-        LinkStanding::InService => ServiceState::InService,
+        LinkStanding::InService => served,
     }
 }
 
@@ -47,6 +49,17 @@ fn down_state(is_barred: bool, may_restart: bool, wants: Wants) -> ServiceState
         Wants::Close => ServiceState::Closing,
         Wants::Open => ServiceState::Failed,
         Wants::Nothing => ServiceState::Deactivated,
+    }
+}
+
+/// The state of a link that is in service, by what keeps user messages off it. One whose peer is busy is available.
+fn served_state(obstacle: Option<Obstacle>) -> ServiceState
+    ensures { result ≡ served_state obstacle }
+{
+    match obstacle {
+        Some(Obstacle::Untested) => ServiceState::UnderTest,
+        Some(Obstacle::PeerOutage) => ServiceState::ProcessorOutage,
+        Some(Obstacle::PeerBusy) | None => ServiceState::InService,
     }
 }
 

@@ -1,27 +1,32 @@
 -- What the log is told of what is found at a node.
-use Rattle.std.specs.Prelude.{◌≡◌, ℕ, Bool, true, false, not, List, [], ◌∷◌, Option, None, Some, is_some, slice_get, slice_set}
+use Rattle.std.specs.Prelude.{◌≡◌, ℕ, Bool, true, false, not, List, [], ◌∷◌, Option, None, Some, is_some, slice_get, slice_set, unwrap_or}
+use Rattle.std.specs.Option.{option_map}
 use Rattle.std.specs.declared.time.Duration.{Duration}
 use Rattle.settings.specs.Configuration.{Configuration}
 use Rattle.settings.specs.declared.point.PointFormat.{PointFormat}
 use Rattle.script.specs.Streams.{Output}
 use Rattle.served_link.specs.Alarms.{change_at, noted, place_of}
-use Rattle.served_link.specs.DestinationStates.{former_state, is_closed}
+use Rattle.served_link.specs.DestinationStates.{is_changed, is_closed}
 use Rattle.served_link.specs.LogLines.{alarm_change_text, destination_change_text, link_change_text, set_change_text}
-use Rattle.served_link.specs.ServiceStates.{former_of, is_available, links_after}
+use Rattle.served_link.specs.ServiceStates.{change_at as state_change_at, is_available, links_after}
 use Rattle.served_link.specs.declared.alarm.Alarm.{Alarm}
 use Rattle.served_link.specs.declared.alarm.Alarm.TheVariants as alarm
 use Rattle.served_link.specs.declared.alarms.AlarmChange.{AlarmChange}
 use Rattle.served_link.specs.declared.destination_states.DestinationState.{DestinationState}
 use Rattle.served_link.specs.declared.service_states.ServiceState.{ServiceState}
+use Rattle.served_link.specs.declared.service_states.StateChange.{StateChange}
 use Rattle.served_link.specs.declared.service_states.StateSince.{StateSince}
+use Rattle.served_link.specs.declared.unavailable.Unavailable.{Unavailable}
 use Rattle.served_node.specs.Logging.{Writes, line_of, timed}
 
--- what was last seen of a node: since when each alarm is raised, and its links and destinations; the destination at
--- which the next look begins, and how points are shown
+-- what was last seen of a node: since when each alarm is raised, and its links and destinations; for how long each link
+-- and each set was unavailable; the destination at which the next look begins, and how points are shown
 pub record Watched : Type 0 where
   pub alarms : List (Option ℕ)
   pub links : List StateSince
   pub destinations : List DestinationState
+  pub link_times : List Unavailable
+  pub set_times : List Unavailable
   pub next : ℕ
   pub points : PointFormat
 
@@ -30,6 +35,10 @@ abbrev pub TellsEach : (now : Duration) → List (List ℕ) → (old new : Outpu
 TellsEach now [] old new = new ≡ old
 TellsEach now (text ∷ texts) old new =
     (between : Output) × Writes (line_of (timed now text)) old between × TellsEach now texts between new
+
+-- whether a link was in service when it was last seen
+abbrev pub is_available_in : List StateSince → (link : ℕ) → Bool
+is_available_in links link = unwrap_or (option_map (λ seen. is_available seen.state) (slice_get links link)) false
 
 -- ---- an alarm that is to be raised or isn't
 
@@ -54,45 +63,38 @@ set_texts c set is_available now w =
 
 -- ---- a link in this state
 
-abbrev pub after_link_by : Option StateSince → (link : ℕ) → ServiceState → (now : ℕ) → Watched → Watched
-after_link_by None link found now w = w
-after_link_by (Some former) link found now w = after_alarm (alarm.Link link) (not (is_available found)) now w
-
-abbrev pub after_link : (link : ℕ) → ServiceState → (now : ℕ) → Watched → Watched
+abbrev pub after_link : (link : ℕ) → (found : ServiceState) → (now : ℕ) → Watched → Watched
 after_link link found now w =
-    after_link_by (former_of found (slice_get w.links link)) link found now
+    after_alarm (alarm.Link link) (not (is_available found)) now
     (record w { links = links_after link found now w.links })
 
+-- a line if its state changed, and these behind it
 abbrev pub link_texts_by :
-    Option StateSince → Configuration → (link : ℕ) → ServiceState → (waiting now : ℕ) → Watched → List (List ℕ)
-link_texts_by None c link found waiting now w = []
-link_texts_by (Some former) c link found waiting now w =
-    link_change_text c link former found waiting now
-    ∷ alarm_texts w.points c (alarm.Link link) (alarm_change (alarm.Link link) (not (is_available found)) w) now []
+    Option StateChange → Configuration → (link waiting now : ℕ) → List (List ℕ) → List (List ℕ)
+link_texts_by None c link waiting now behind = behind
+link_texts_by (Some change) c link waiting now behind = link_change_text c link change waiting now ∷ behind
 
-abbrev pub link_texts : Configuration → (link : ℕ) → ServiceState → (waiting now : ℕ) → Watched → List (List ℕ)
+abbrev pub link_texts : Configuration → (link : ℕ) → (found : ServiceState) → (waiting now : ℕ) → Watched → List (List ℕ)
 link_texts c link found waiting now w =
-    link_texts_by (former_of found (slice_get w.links link)) c link found waiting now w
+    link_texts_by (state_change_at found (slice_get w.links link)) c link waiting now
+    (alarm_texts w.points c (alarm.Link link) (alarm_change (alarm.Link link) (not (is_available found)) w) now [])
 
 -- ---- a destination in this state
 
-abbrev pub after_destination_by : Option DestinationState → (number : ℕ) → DestinationState → (now : ℕ) → Watched → Watched
-after_destination_by None number found now w = w
-after_destination_by (Some former) number found now w = after_alarm (alarm.Destination number) (is_closed found.access) now w
-
-abbrev pub after_destination : (number : ℕ) → DestinationState → (now : ℕ) → Watched → Watched
+abbrev pub after_destination : (number : ℕ) → (found : DestinationState) → (now : ℕ) → Watched → Watched
 after_destination number found now w =
-    after_destination_by (former_state found (slice_get w.destinations number)) number found now
+    after_alarm (alarm.Destination number) (is_closed found.access) now
     (record w { destinations = slice_set w.destinations number found })
 
+-- a line if it was in another state before, and these behind it
 abbrev pub destination_texts_by :
-    Option DestinationState → Configuration → (number : ℕ) → DestinationState → (now : ℕ) → Watched → List (List ℕ)
-destination_texts_by None c number found now w = []
-destination_texts_by (Some former) c number found now w =
-    destination_change_text w.points c number found
-    ∷ alarm_texts w.points c (alarm.Destination number)
-    (alarm_change (alarm.Destination number) (is_closed found.access) w) now []
+    (is_changed : Bool) → PointFormat → Configuration → (number : ℕ) → DestinationState → List (List ℕ) → List (List ℕ)
+destination_texts_by false points c number found behind = behind
+destination_texts_by true points c number found behind = destination_change_text points c number found ∷ behind
 
-abbrev pub destination_texts : Configuration → (number : ℕ) → DestinationState → (now : ℕ) → Watched → List (List ℕ)
+abbrev pub destination_texts :
+    Configuration → (number : ℕ) → (found : DestinationState) → (now : ℕ) → Watched → List (List ℕ)
 destination_texts c number found now w =
-    destination_texts_by (former_state found (slice_get w.destinations number)) c number found now w
+    destination_texts_by (is_changed found (slice_get w.destinations number)) w.points c number found
+    (alarm_texts w.points c (alarm.Destination number)
+    (alarm_change (alarm.Destination number) (is_closed found.access) w) now [])

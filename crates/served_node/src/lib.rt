@@ -5,6 +5,7 @@
 
 pub mod capture_place;
 pub mod captured_links;
+mod changes;
 mod client_socket;
 pub mod clients;
 pub mod console_listener;
@@ -20,6 +21,7 @@ pub mod line_limits;
 pub mod listener;
 pub mod log;
 mod log_output;
+mod missed_notices;
 pub mod naming;
 pub mod node;
 pub mod node_watch;

@@ -81,6 +81,7 @@ impl Node {
         self.exchange.step(&Event::Tick);
         self.exchange.test_subsystems();
         self.look(FailureReason::Timer, log);
+        self.observers.tell_missed(log);
         let has_capture_failed = self.observers.has_capture_failed;
         self.observers
             .watch

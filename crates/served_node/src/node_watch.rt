@@ -1,19 +1,23 @@
 //! What the log says of a node: the changes of its links, its sets and its destinations, and its alarms.
 
-ghost use Rattle.std.specs.Prelude.{◌≡◌, [], is_some, not};
+ghost use Rattle.std.specs.Prelude.{◌≡◌, [], is_some, not, slice_get};
 ghost use Rattle.served_link.specs.DestinationStates.{is_closed};
+ghost use Rattle.served_link.specs.ServiceStates.{change_at};
 ghost use Rattle.served_link.specs.Times.{millis_of};
 ghost use Rattle.served_node.specs.NodeChanges.{TellsEach, after_alarm, after_destination, after_link, alarm_change};
 ghost use Rattle.served_node.specs.NodeChanges.{alarm_texts, destination_texts, link_texts, set_texts};
 
+mod times;
+
+use crate::changes::{tell_destination, tell_link};
 use crate::log::Log;
 use exchange::Exchange;
 use script::Sink;
 use served_link::times::millis;
 use served_link::{
     Alarm, Alarms, DestinationState, DestinationStates, ServiceState, ServiceStates,
-    alarm_change_line, destination_change_line, destination_state, is_pool_high, link_change_line,
-    service_state, set_change_line,
+    UnavailableTimes, alarm_change_line, destination_state, is_pool_high, service_state,
+    set_change_line,
 };
 use settings::{LinkId, PointFormat, SetId, Settings};
 use std::alloc::{AllocError, Global};
@@ -27,8 +31,14 @@ pub struct NodeWatch {
     alarms: Alarms,
     links: ServiceStates,
     destinations: DestinationStates,
+    /// For how long each link was unavailable.
+    link_times: UnavailableTimes,
+    /// For how long each set was unavailable.
+    set_times: UnavailableTimes,
     /// The number of the destination at which the next look begins.
     next: usize,
+    /// Whether the node was looked at.
+    has_looked: bool,
     points: PointFormat,
 }
 
@@ -39,7 +49,10 @@ impl Drop for NodeWatch {
             alarms: _,
             links: _,
             destinations: _,
+            link_times: _,
+            set_times: _,
             next: _,
+            has_looked: _,
             points: _,
         } = self;
     }
@@ -54,26 +67,34 @@ impl Model for NodeWatch {
       alarms = w.alarms;
       links = w.links;
       destinations = w.destinations;
+      link_times = w.link_times;
+      set_times = w.set_times;
       next = w.next;
       points = w.points;
     } };
 }
 
 impl NodeWatch {
-    /// A node with these settings as it starts. No link is in service, so the alarm of each link, set and destination
-    /// is raised. The error means that memory ran out.
+    /// A node with these settings as it starts. It wasn't looked at yet, and no alarm is raised. The error means that
+    /// memory ran out.
     pub(crate) fn new(
         alloc: Global,
         settings: &Settings,
         points: PointFormat,
     ) -> Result<NodeWatch, AllocError> {
+        let count = settings.destinations().len();
         let links = ServiceStates::new(alloc, settings.link_count())?;
-        let destinations = DestinationStates::new(alloc, settings.destinations().len())?;
+        let destinations = DestinationStates::new(alloc, count)?;
+        let link_times = UnavailableTimes::new(alloc, settings.link_count())?;
+        let set_times = UnavailableTimes::new(alloc, settings.sets().len())?;
         Ok(NodeWatch {
-            alarms: first_alarms(alloc, settings)?,
+            alarms: Alarms::new(alloc, count as u16)?,
             links,
             destinations,
+            link_times,
+            set_times,
             next: 0,
+            has_looked: false,
             points,
         })
     }
@@ -85,8 +106,8 @@ impl NodeWatch {
         &self.alarms
     }
 
-    /// Looks at each link, and if one changed at each set; at the flags, the pool, and whether the capture failed; and at
-    /// the next destinations. The log is told of changes, and of alarms that are raised or cleared.
+    /// Looks at each link, and at each set the first time, and if a link changed; at the flags, the pool, and whether the
+    /// capture failed; and at the next destinations. The log is told of changes, and of alarms that are raised or cleared.
     pub(crate) fn look<W: Sink>(
         &mut self,
         exchange: &Exchange,
@@ -104,10 +125,11 @@ impl NodeWatch {
         self.look_at_destinations(exchange, log);
     }
 
-    /// Looks at each link, and then, if one changed, at each set.
+    /// Looks at each link, and then at each set, if a link changed, or if that wasn't done yet.
     fn look_at_links<W: Sink>(&mut self, exchange: &Exchange, log: &mut Log<'_, W>) {
         let settings = exchange.settings();
-        let mut has_changed = false;
+        let mut has_changed = !self.has_looked;
+        self.has_looked = true;
         for k in 0..settings.link_count() {
             let link = LinkId::new(k as u8);
             if let Some(found) = service_state(exchange, link) {
@@ -117,6 +139,8 @@ impl NodeWatch {
         }
         if has_changed {
             self.look_at_sets(settings, log);
+            self.time_links(settings, millis(log.now));
+            self.time_sets(settings, millis(log.now));
         }
     }
 
@@ -129,8 +153,8 @@ impl NodeWatch {
         }
     }
 
-    /// A link was found in this state, with so many messages that aren't confirmed. Returns whether it was in another
-    /// state before, which the log is told of.
+    /// A link was found in this state, with so many messages that aren't confirmed. The log is told if it was in another
+    /// state before, and if its alarm is raised or cleared. Returns whether it was in another state.
     fn note_link<W: Sink>(
         &mut self,
         settings: &Settings,
@@ -143,15 +167,13 @@ impl NodeWatch {
         ensures told { TellsEach log.old.now
             (link_texts settings.now link found waiting (millis_of log.old.now) self.old)
             (W.output log.old.sink.now) (W.output log.new.sink.now) }
+        ensures changed { result ≡ is_some (change_at found (slice_get self.old.links link)) }
         ensures time { log.new.now ≡ log.old.now }
     {
-        let now_ms = millis(log.now);
-        let Some(former) = self.links.note(link, found, now_ms) else {
-            return false;
-        };
-        log.tell_change(&link_change_line(settings, link, former, found, waiting, now_ms));
+        let change = self.links.note(link, found, millis(log.now));
+        tell_link(settings, link, change, waiting, log);
         self.note_alarm(settings, &Alarm::Link(link), !found.is_available(), log);
-        true
+        change.is_some()
     }
 
     /// A link of this set is in service, or none is. The log is told if that was otherwise before.
@@ -177,10 +199,7 @@ impl NodeWatch {
     /// Whether a link of a set is in service.
     fn is_set_available(&self, settings: &Settings, set: SetId) -> bool {
         for (k, row) in settings.links().iter().enumerate() {
-            if row.set() == set
-                && let Some(seen) = self.links.link(LinkId::new(k as u8))
-                && seen.state.is_available()
-            {
+            if row.set() == set && self.is_link_available(LinkId::new(k as u8)) {
                 return true;
             }
         }
@@ -201,7 +220,8 @@ impl NodeWatch {
         }
     }
 
-    /// The destination of this number was found in this state. The log is told if it was in another one before.
+    /// The destination of this number was found in this state. The log is told if it was in another one before, and if
+    /// its alarm is raised or cleared.
     fn note_destination<W: Sink>(
         &mut self,
         settings: &Settings,
@@ -215,16 +235,11 @@ impl NodeWatch {
             (W.output log.old.sink.now) (W.output log.new.sink.now) }
         ensures time { log.new.now ≡ log.old.now }
     {
-        let Some(_former) = self.destinations.note(number as usize, found) else {
-            return;
-        };
-        log.tell_change(&destination_change_line(settings, self.points, number, found));
-        self.note_alarm(
-            settings,
-            &Alarm::Destination(number),
-            has_no_way(found),
-            log,
-        );
+        let is_closed = has_no_way(found);
+        let is_changed = self.destinations.note(number as usize, found);
+        tell_destination(settings, self.points, number, &found, is_changed, log);
+        let alarm = Alarm::Destination(number);
+        self.note_alarm(settings, &alarm, is_closed, log);
     }
 
     /// More ticks are due than a round can let pass, or no longer.
@@ -270,23 +285,7 @@ impl NodeWatch {
 fn has_no_way(state: DestinationState) -> bool
     ensures { result ≡ is_closed state.access }
 {
-    state.access().is_closed()
-}
-
-/// The alarms as a node starts.
-fn first_alarms(alloc: Global, settings: &Settings) -> Result<Alarms, AllocError> {
-    let destinations = settings.destinations().len() as u16;
-    let mut alarms = Alarms::new(alloc, destinations)?;
-    for k in 0..settings.link_count() {
-        alarms.note(&Alarm::Link(LinkId::new(k as u8)), true, 0);
-    }
-    for k in 0..settings.sets().len() {
-        alarms.note(&Alarm::Set(SetId::new(k as u8)), true, 0);
-    }
-    for destination in 0..destinations {
-        alarms.note(&Alarm::Destination(destination), true, 0);
-    }
-    Ok(alarms)
+    state.access.is_closed()
 }
 
 /// How many messages a link hasn't confirmed.

@@ -9,6 +9,7 @@ use crate::clients::ConsoleClients;
 use crate::console_session::News;
 use crate::held_file::HeldFile;
 use crate::log::Log;
+use crate::missed_notices::MissedNotices;
 use crate::node_watch::NodeWatch;
 use crate::noticing::Seen;
 use arrayvec::ArrayString;
@@ -46,6 +47,7 @@ pub struct Observers {
     pub now: Duration,
     pub(crate) points: PointFormat,
     pub(crate) seen: Seen,
+    pub(crate) missed_notices: MissedNotices,
     names: Vec<String>,
     pub(crate) capture: Option<FileCapture>,
     /// Which links the capture has.
@@ -76,6 +78,7 @@ impl Observers {
             now: Duration::ZERO,
             points,
             seen: Seen::new(),
+            missed_notices: MissedNotices::none(),
             names,
             capture: None,
             captured: CapturedLinks::none(),

@@ -2,7 +2,7 @@
 
 ghost use Rattle.std.specs.Prelude.{◌≡◌};
 ghost use Rattle.served_link.specs.Counting.{DatagramCame, DatagramWent, StrangerCame, counted_datagram};
-ghost use Rattle.served_link.specs.Counting.{WasSetBack, came, counted_at, went};
+ghost use Rattle.served_link.specs.Counting.{WasSetBack, counted_at, frame_came, frame_went};
 
 use crate::observers::{Observers, make_room};
 use served_link::Setback;
@@ -43,7 +43,7 @@ impl Observers {
     /// A message came in as a frame and was handed in, with this outcome. It is counted, and the clients that asked for
     /// frames or messages are told.
     pub fn message_came_in(&mut self, link: LinkId, frame: &ObservedFrame<'_>, outcome: &Outcome)
-        ensures { self.new.counters ≡ counted_at link (came frame.now outcome.now) self.old.counters }
+        ensures { self.new.counters ≡ frame_came link frame.now outcome.now self.old.counters }
     {
         self.counters.count_in(link, frame, outcome);
         self.show_frame(link, Direction::In, frame);
@@ -54,7 +54,7 @@ impl Observers {
 
     /// A frame was taken to go out as a message: it is counted, and clients that watch frames are told.
     pub fn message_went_out(&mut self, link: LinkId, frame: &[u8])
-        ensures { self.new.counters ≡ counted_at link (went frame.now) self.old.counters }
+        ensures { self.new.counters ≡ frame_went link frame.now self.old.counters }
     {
         self.counters.count_out(link, frame);
         if self.clients.asked.frames {

@@ -23,19 +23,32 @@ impl Observers {
     ) {
         let new = self.seen.look(exchange);
         if new.missed > 0 {
-            self.tell_missed(new.missed, log);
+            self.note_missed(new.missed);
         }
+        self.tell_missed(log);
         self.tell_last(exchange, new.kept, log);
         self.count_dropped_failures(exchange, new.kept, dropped);
         self.tell_flags(exchange, log);
     }
 
-    /// Tells how many notices were dropped for later ones before they could be told.
-    fn tell_missed<W: Sink>(&mut self, missed: u64, log: &mut Log<'_, W>) {
+    /// So many notices were dropped for later ones before they could be told: the clients that watch them hear it.
+    fn note_missed(&mut self, missed: u64) {
         let mut line = ArrayString::<LINE_OCTETS>::new();
         let _fits = write!(line, "missed {missed}");
         self.clients.tell_line(News::Notice, line.as_bytes());
-        log.tell(&line.as_str());
+        self.missed_notices.add(missed);
+    }
+
+    /// Tells the log how many notices were dropped before it could be told of them, once a second.
+    pub(crate) fn tell_missed<W: Sink>(&mut self, log: &mut Log<'_, W>) {
+        let due = self.missed_notices.due(log.now.as_secs());
+        tell_count(due, log);
+    }
+
+    /// Tells the log of those that it hasn't been told of, whenever it last was.
+    pub fn tell_last_missed<W: Sink>(&mut self, log: &mut Log<'_, W>) {
+        let rest = self.missed_notices.rest();
+        tell_count(rest, log);
     }
 
     /// Tells the log of a flag that was raised since the last time, and how often it was by now.
@@ -80,6 +93,13 @@ impl Observers {
                 self.counters.count_failure(link, reason);
             }
         }
+    }
+}
+
+/// Tells the log how many notices it has no line of, if there are some.
+fn tell_count<W: Sink>(missed: Option<u64>, log: &mut Log<'_, W>) {
+    if let Some(missed) = missed {
+        log.tell(&format_args!("missed {missed}"));
     }
 }
 

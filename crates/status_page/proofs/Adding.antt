@@ -30,6 +30,10 @@ text_behind (Ok u) old mid new first second third p q e =
     q ∙ ap (λ (t : List ℕ). t ++ second) p ∙ append_assoc old first second ∙ ap (λ (t : List ℕ). old ++ (first ++ t)) e
 text_behind (Err e) old mid new first second third p q same = tt
 
+-- two texts that were put
+pub text_both : (old mid new first second : List ℕ) → mid ≡ old ++ first → new ≡ mid ++ second → new ≡ old ++ (first ++ second)
+text_both old mid new first second p q = q ∙ ap (λ (t : List ℕ). t ++ second) p ∙ append_assoc old first second
+
 -- a text, which is the same as another
 pub text_as : {E : Type 0} (r : Result (Unit {0}) E) (old new first second : List ℕ)
     → OnOk r (new ≡ old ++ first) → first ≡ second → OnOk r (new ≡ old ++ second)

@@ -1,55 +1,39 @@
 -- The families of metrics: their names, what is said of them, and what is in each.
 use Rattle.std.specs.Prelude.{ℕ, List, [], ◌∷◌, map, codes}
-use Rattle.signalling_types.specs.declared.cause.Cause.{Cause}
-use Rattle.signalling_types.specs.declared.cause.Cause.TheVariants.{WrongNetwork, NoLabel, UnknownDestination}
-use Rattle.signalling_types.specs.declared.cause.Cause.TheVariants.{NoRoute, PoolFull, NoUserPart}
-use Rattle.signalling_types.specs.declared.cause.Cause.TheVariants.{NotInProfile, BadManagement, BadSccp}
-use Rattle.signalling_types.specs.declared.cause.Cause.TheVariants.{NoNature, NoDigits, Unequipped, TooLong}
-use Rattle.signalling_types.specs.declared.cause.Cause.TheVariants.{LostUnconfirmed, ManagementFull}
-use Rattle.signalling_types.specs.declared.cause.Cause.TheVariants.{NotFromAdjacent, LinkNotReady}
-use Rattle.signalling_types.specs.declared.cause.Cause.TheVariants.{ChangeoverPending, NoMemory, TableFull}
-use Rattle.signalling_types.specs.declared.cause.Cause.TheVariants.{DuplicateRow, NoSuchName, HopCounter, ShareFull}
-use Rattle.signalling_types.specs.declared.cause.Cause.TheVariants.{SubsystemProhibited}
-use Rattle.signalling_types.specs.declared.notice.FailureReason.{FailureReason}
-use Rattle.signalling_types.specs.declared.notice.FailureReason.TheVariants.{Association, Timer, Sequence}
-use Rattle.signalling_types.specs.declared.notice.FailureReason.TheVariants.{Status, Length, Changeover}
-use Rattle.signalling_types.specs.declared.notice.FailureReason.TheVariants.{Operator, Test}
 use Rattle.served_link.specs.declared.counter.Counter.{Counter}
 use Rattle.served_link.specs.declared.counter.Counter.TheVariants as counting
-use Rattle.served_link.specs.declared.setback.Setback.{Setback}
-use Rattle.served_link.specs.declared.setback.Setback.TheVariants.{OtherPort, TooMany, WithoutTag, HostName}
-use Rattle.served_link.specs.declared.setback.Setback.TheVariants.{FewStreams, Unwanted, NoTagLeft, ShuttingDown}
-use Rattle.served_link.specs.declared.setback.Setback.TheVariants.{WithoutCookie, LongCookie, EndedByPeer}
-use Rattle.served_link.specs.declared.setback.Setback.TheVariants.{Unanswered, BadAnswer, EndedByNode}
+use Rattle.status_page.specs.Reasons.{causes, init_reasons, management_kinds, notice_kinds, reasons, services}
+use Rattle.status_page.specs.Reasons.{try_reasons}
 use Rattle.status_page.specs.declared.kind.Kind.{Kind}
 use Rattle.status_page.specs.declared.kind.Kind.TheVariants.{Counter as Growing, Gauge}
 use Rattle.status_page.specs.declared.family.Family.{Family}
 use Rattle.status_page.specs.declared.family.Family.TheVariants.{Build, Uptime, LongestTurn, PoolLimit, Pool}
-use Rattle.status_page.specs.declared.family.Family.TheVariants.{Held, Notices, Flags}
-use Rattle.status_page.specs.declared.family.Family.TheVariants.{Raised, Lost, Broken, Rerouted, InService}
-use Rattle.status_page.specs.declared.family.Family.TheVariants.{ChangingOver, Barred, Queue}
-use Rattle.status_page.specs.declared.family.Family.TheVariants.{DatagramsReceived, DatagramsSent, Strangers}
-use Rattle.status_page.specs.declared.family.Family.TheVariants.{Accessible, Restricted, InUse}
-use Rattle.status_page.specs.declared.family.Family.TheVariants.{SetAvailable, SetLinks}
-use Rattle.status_page.specs.declared.family.Family.TheVariants.{FramesReceived, OctetsReceived, FramesSent}
-use Rattle.status_page.specs.declared.family.Family.TheVariants.{OctetsSent, Forwarded, Delivered, Refused}
-use Rattle.status_page.specs.declared.family.Family.TheVariants.{Failures, Retries, InitsRefused, TriesFailed}
+use Rattle.status_page.specs.declared.family.Family.TheVariants.{Held, Notices, Flags, Raised, Lost}
+use Rattle.status_page.specs.declared.family.Family.TheVariants.{Broken, Rerouted, Alarms, DatagramsReceived, DatagramsSent}
+use Rattle.status_page.specs.declared.family.Family.TheVariants.{Strangers, Accessible, Restricted, InUse, SetAvailable}
+use Rattle.status_page.specs.declared.family.Family.TheVariants.{SetLinks, SetUnavailable, SetUnavailabilities, InService, ChangingOver}
+use Rattle.status_page.specs.declared.family.Family.TheVariants.{Barred, LinkUnavailable, LinkUnavailabilities, Queue, FramesReceived}
+use Rattle.status_page.specs.declared.family.Family.TheVariants.{OctetsReceived, FramesSent, OctetsSent, Forwarded, Delivered}
+use Rattle.status_page.specs.declared.family.Family.TheVariants.{MessagesReceived, MessagesSent, ManagementReceived, ManagementSent, Refused}
+use Rattle.status_page.specs.declared.family.Family.TheVariants.{Failures, Retries, InitsRefused, TriesFailed, RoundTrip}
+use Rattle.status_page.specs.declared.family.Family.TheVariants.{RetransmissionTimeout, CongestionWindow}
 use Rattle.status_page.specs.declared.metric.Metric.{Metric}
-use Rattle.status_page.specs.declared.metric.Metric.TheVariants.{Node, Link, Set, Destination, Route}
+use Rattle.status_page.specs.declared.metric.Metric.TheVariants.{Alarm, Node, Link, Set, Destination, Route}
 use Rattle.status_page.specs.declared.metric.NodeMetric.TheVariants as of_node
 use Rattle.status_page.specs.declared.metric.LinkMetric.TheVariants as of_link
 use Rattle.status_page.specs.declared.metric.SetMetric.TheVariants as of_set
 use Rattle.status_page.specs.declared.metric.DestinationMetric.TheVariants as of_destination
-use Rattle.status_page.specs.declared.noticed.NoticeKind.{NoticeKind}
-use Rattle.status_page.specs.declared.noticed.NoticeKind.TheVariants as noticed
 
 -- all families, in the order in which they are shown
 abbrev pub families : List Family
 families =
-    Build ∷ Uptime ∷ LongestTurn ∷ PoolLimit ∷ Pool ∷ Held ∷ Notices ∷ Flags ∷ Raised ∷ Lost ∷ Broken ∷ Rerouted ∷
-    DatagramsReceived ∷ DatagramsSent ∷ Strangers ∷ Accessible ∷ Restricted ∷ InUse ∷ SetAvailable ∷ SetLinks ∷
-    InService ∷ ChangingOver ∷ Barred ∷ Queue ∷ FramesReceived ∷ OctetsReceived ∷ FramesSent ∷ OctetsSent ∷
-    Forwarded ∷ Delivered ∷ Refused ∷ Failures ∷ Retries ∷ InitsRefused ∷ TriesFailed ∷ []
+    Build ∷ Uptime ∷ LongestTurn ∷ PoolLimit ∷ Pool ∷ Held ∷ Notices ∷ Flags ∷ Raised ∷ Lost ∷ Broken ∷
+    Rerouted ∷ Alarms ∷ DatagramsReceived ∷ DatagramsSent ∷ Strangers ∷ Accessible ∷ Restricted ∷ InUse ∷
+    SetAvailable ∷ SetLinks ∷ SetUnavailable ∷ SetUnavailabilities ∷ InService ∷ ChangingOver ∷ Barred ∷
+    LinkUnavailable ∷ LinkUnavailabilities ∷ Queue ∷ FramesReceived ∷ OctetsReceived ∷ FramesSent ∷
+    OctetsSent ∷ Forwarded ∷ Delivered ∷ MessagesReceived ∷ MessagesSent ∷ ManagementReceived ∷
+    ManagementSent ∷ Refused ∷ Failures ∷ Retries ∷ InitsRefused ∷ TriesFailed ∷ RoundTrip ∷
+    RetransmissionTimeout ∷ CongestionWindow ∷ []
 
 -- the name: a counter ends in total, and a unit is in the name
 abbrev pub family_name : Family → List ℕ
@@ -65,6 +49,7 @@ family_name Raised = codes "stp_flag_raised_total"
 family_name Lost = codes "stp_messages_lost_total"
 family_name Broken = codes "stp_changeovers_broken_total"
 family_name Rerouted = codes "stp_flows_rerouted_total"
+family_name Alarms = codes "stp_alarm_raised"
 family_name DatagramsReceived = codes "stp_datagrams_received_total"
 family_name DatagramsSent = codes "stp_datagrams_sent_total"
 family_name Strangers = codes "stp_strangers_total"
@@ -73,9 +58,13 @@ family_name Restricted = codes "stp_destination_restricted"
 family_name InUse = codes "stp_route_in_use"
 family_name SetAvailable = codes "stp_set_available"
 family_name SetLinks = codes "stp_set_links_in_service"
+family_name SetUnavailable = codes "stp_set_unavailable_seconds_total"
+family_name SetUnavailabilities = codes "stp_set_unavailabilities_total"
 family_name InService = codes "stp_link_in_service"
 family_name ChangingOver = codes "stp_link_changing_over"
 family_name Barred = codes "stp_link_barred"
+family_name LinkUnavailable = codes "stp_link_unavailable_seconds_total"
+family_name LinkUnavailabilities = codes "stp_link_unavailabilities_total"
 family_name Queue = codes "stp_queue_messages"
 family_name FramesReceived = codes "stp_frames_received_total"
 family_name OctetsReceived = codes "stp_octets_received_total"
@@ -83,11 +72,18 @@ family_name FramesSent = codes "stp_frames_sent_total"
 family_name OctetsSent = codes "stp_octets_sent_total"
 family_name Forwarded = codes "stp_messages_forwarded_total"
 family_name Delivered = codes "stp_messages_delivered_total"
+family_name MessagesReceived = codes "stp_messages_received_total"
+family_name MessagesSent = codes "stp_messages_sent_total"
+family_name ManagementReceived = codes "stp_management_received_total"
+family_name ManagementSent = codes "stp_management_sent_total"
 family_name Refused = codes "stp_refused_total"
 family_name Failures = codes "stp_link_failures_total"
 family_name Retries = codes "stp_connection_retries_total"
 family_name InitsRefused = codes "stp_inits_refused_total"
 family_name TriesFailed = codes "stp_tries_failed_total"
+family_name RoundTrip = codes "stp_sctp_round_trip_seconds"
+family_name RetransmissionTimeout = codes "stp_sctp_retransmission_timeout_seconds"
+family_name CongestionWindow = codes "stp_sctp_congestion_window_octets"
 
 -- what is said of it
 abbrev pub family_help : Family → List ℕ
@@ -103,6 +99,7 @@ family_help Raised = codes "How often the flag was raised."
 family_help Lost = codes "Messages that notices named as lost."
 family_help Broken = codes "Changeovers of which it isn't known for sure what the peer has of the link."
 family_help Rerouted = codes "How often a flow changed its link set, but away from its destination's own."
+family_help Alarms = codes "1 if the alarm is raised, else 0; of destinations only those that are raised."
 family_help DatagramsReceived = codes "Datagrams of links that came."
 family_help DatagramsSent = codes "Datagrams of links that went out."
 family_help Strangers = codes "Datagrams that came and are no link's; they get no answer."
@@ -111,9 +108,13 @@ family_help Restricted = codes "1 if messages go to the destination by a restric
 family_help InUse = codes "1 if messages to the destination take the set, 0 if it leads there and they don't."
 family_help SetAvailable = codes "1 if a link of the set is in service, else 0."
 family_help SetLinks = codes "How many links of the set are in service."
+family_help SetUnavailable = codes "How long no link of the set was in service, also before the first one was."
+family_help SetUnavailabilities = codes "How often a link of the set was in service, and then none was."
 family_help InService = codes "1 if the link is in service, else 0."
 family_help ChangingOver = codes "1 if the link is down and its changeover isn't over, else 0."
 family_help Barred = codes "1 if the link can't open until its changeover order is answered, else 0."
+family_help LinkUnavailable = codes "How long the link wasn't in service, also before it first was."
+family_help LinkUnavailabilities = codes "How often the link was in service, and then wasn't, whatever the reason."
 family_help Queue = codes "Messages of the link that the peer hasn't confirmed, sent or not."
 family_help FramesReceived = codes "Frames that came in on the link."
 family_help OctetsReceived = codes "Octets of the frames that came in on the link."
@@ -121,11 +122,18 @@ family_help FramesSent = codes "Frames that went out on the link."
 family_help OctetsSent = codes "Octets of the frames that went out on the link."
 family_help Forwarded = codes "User messages from the link that were queued or held to go on."
 family_help Delivered = codes "Messages from the link for a user part or a subsystem of the node."
+family_help MessagesReceived = codes "Messages that came in on the link, by service indicator."
+family_help MessagesSent = codes "Messages that went out on the link, by service indicator."
+family_help ManagementReceived = codes "Management messages and link tests that came in on the link."
+family_help ManagementSent = codes "Management messages and link tests that went out on the link."
 family_help Refused = codes "Frames from the link that were refused, or whose message was."
 family_help Failures = codes "Failures of the link."
 family_help Retries = codes "Connections of the link that were tried again."
 family_help InitsRefused = codes "INITs and INIT ACKs of the link that were refused or left out."
 family_help TriesFailed = codes "Tries to open the link's association over SCTP that failed."
+family_help RoundTrip = codes "The smoothed round trip of the link's association over SCTP: SRTT."
+family_help RetransmissionTimeout = codes "The retransmission timeout of the link's association over SCTP: RTO."
+family_help CongestionWindow = codes "The congestion window of the link's association over SCTP: cwnd."
 
 -- whether it only grows
 abbrev pub kind_of : Family → Kind
@@ -141,6 +149,7 @@ kind_of Raised = Growing
 kind_of Lost = Growing
 kind_of Broken = Growing
 kind_of Rerouted = Growing
+kind_of Alarms = Gauge
 kind_of DatagramsReceived = Growing
 kind_of DatagramsSent = Growing
 kind_of Strangers = Growing
@@ -149,9 +158,13 @@ kind_of Restricted = Gauge
 kind_of InUse = Gauge
 kind_of SetAvailable = Gauge
 kind_of SetLinks = Gauge
+kind_of SetUnavailable = Growing
+kind_of SetUnavailabilities = Growing
 kind_of InService = Gauge
 kind_of ChangingOver = Gauge
 kind_of Barred = Gauge
+kind_of LinkUnavailable = Growing
+kind_of LinkUnavailabilities = Growing
 kind_of Queue = Gauge
 kind_of FramesReceived = Growing
 kind_of OctetsReceived = Growing
@@ -159,11 +172,18 @@ kind_of FramesSent = Growing
 kind_of OctetsSent = Growing
 kind_of Forwarded = Growing
 kind_of Delivered = Growing
+kind_of MessagesReceived = Growing
+kind_of MessagesSent = Growing
+kind_of ManagementReceived = Growing
+kind_of ManagementSent = Growing
 kind_of Refused = Growing
 kind_of Failures = Growing
 kind_of Retries = Growing
 kind_of InitsRefused = Growing
 kind_of TriesFailed = Growing
+kind_of RoundTrip = Gauge
+kind_of RetransmissionTimeout = Gauge
+kind_of CongestionWindow = Gauge
 
 -- what is behind each value: nothing, or the exponent of one that is in smaller units than its name says
 abbrev pub exponent_of : Family → List ℕ
@@ -179,6 +199,7 @@ exponent_of Raised = []
 exponent_of Lost = []
 exponent_of Broken = []
 exponent_of Rerouted = []
+exponent_of Alarms = []
 exponent_of DatagramsReceived = []
 exponent_of DatagramsSent = []
 exponent_of Strangers = []
@@ -187,9 +208,13 @@ exponent_of Restricted = []
 exponent_of InUse = []
 exponent_of SetAvailable = []
 exponent_of SetLinks = []
+exponent_of SetUnavailable = codes "e-3"
+exponent_of SetUnavailabilities = []
 exponent_of InService = []
 exponent_of ChangingOver = []
 exponent_of Barred = []
+exponent_of LinkUnavailable = codes "e-3"
+exponent_of LinkUnavailabilities = []
 exponent_of Queue = []
 exponent_of FramesReceived = []
 exponent_of OctetsReceived = []
@@ -197,41 +222,22 @@ exponent_of FramesSent = []
 exponent_of OctetsSent = []
 exponent_of Forwarded = []
 exponent_of Delivered = []
+exponent_of MessagesReceived = []
+exponent_of MessagesSent = []
+exponent_of ManagementReceived = []
+exponent_of ManagementSent = []
 exponent_of Refused = []
 exponent_of Failures = []
 exponent_of Retries = []
 exponent_of InitsRefused = []
 exponent_of TriesFailed = []
+exponent_of RoundTrip = codes "e-3"
+exponent_of RetransmissionTimeout = codes "e-3"
+exponent_of CongestionWindow = []
 
-abbrev pub kind_name : Kind → List ℕ
-kind_name Growing = codes "counter"
-kind_name Gauge = codes "gauge"
-
--- the causes of refusals, and the reasons of failures
-abbrev pub causes : List Cause
-causes =
-    WrongNetwork ∷ NoLabel ∷ UnknownDestination ∷ NoRoute ∷ PoolFull ∷ NoUserPart ∷ NotInProfile ∷
-    BadManagement ∷ BadSccp ∷ NoNature ∷ NoDigits ∷ Unequipped ∷ TooLong ∷ LostUnconfirmed ∷ ManagementFull ∷
-    NotFromAdjacent ∷ LinkNotReady ∷ ChangeoverPending ∷ NoMemory ∷ TableFull ∷ DuplicateRow ∷ NoSuchName
-    ∷ HopCounter ∷ ShareFull ∷ SubsystemProhibited ∷ []
-
-abbrev pub reasons : List FailureReason
-reasons = Association ∷ Timer ∷ Sequence ∷ Status ∷ Length ∷ Changeover ∷ Operator ∷ Test ∷ []
-
--- why INITs are refused, and why tries fail
-abbrev pub init_reasons : List Setback
-init_reasons =
-    OtherPort ∷ TooMany ∷ WithoutTag ∷ HostName ∷ FewStreams ∷ Unwanted ∷ NoTagLeft ∷ ShuttingDown ∷
-    WithoutCookie ∷ LongCookie ∷ []
-
-abbrev pub try_reasons : List Setback
-try_reasons = EndedByPeer ∷ Unanswered ∷ BadAnswer ∷ EndedByNode ∷ []
-
--- the kinds of notices
-abbrev pub notice_kinds : List NoticeKind
-notice_kinds =
-    noticed.Refused ∷ noticed.Frame ∷ noticed.Failed ∷ noticed.Lost ∷ noticed.Unsent ∷ noticed.Expired ∷
-    noticed.Unbarred ∷ noticed.Late ∷ noticed.Missed ∷ []
+abbrev pub type_name : Kind → List ℕ
+type_name Growing = codes "counter"
+type_name Gauge = codes "gauge"
 
 -- a counter of each link
 abbrev pub counted : Counter → Metric
@@ -251,6 +257,7 @@ metrics_of Raised = Node of_node.TimesLost ∷ Node of_node.TimesLate ∷ []
 metrics_of Lost = Node of_node.MessagesLost ∷ []
 metrics_of Broken = Node of_node.TimesBroken ∷ []
 metrics_of Rerouted = Node of_node.TimesRerouted ∷ []
+metrics_of Alarms = Alarm ∷ []
 metrics_of DatagramsReceived = Node of_node.DatagramsReceived ∷ []
 metrics_of DatagramsSent = Node of_node.DatagramsSent ∷ []
 metrics_of Strangers = Node of_node.Strangers ∷ []
@@ -259,9 +266,13 @@ metrics_of Restricted = Destination of_destination.Restricted ∷ []
 metrics_of InUse = Route ∷ []
 metrics_of SetAvailable = Set of_set.Available ∷ []
 metrics_of SetLinks = Set of_set.LinksInService ∷ []
+metrics_of SetUnavailable = Set of_set.UnavailableTime ∷ []
+metrics_of SetUnavailabilities = Set of_set.Unavailabilities ∷ []
 metrics_of InService = Link of_link.InService ∷ []
 metrics_of ChangingOver = Link of_link.ChangingOver ∷ []
 metrics_of Barred = Link of_link.Barred ∷ []
+metrics_of LinkUnavailable = Link of_link.UnavailableTime ∷ []
+metrics_of LinkUnavailabilities = Link of_link.Unavailabilities ∷ []
 metrics_of Queue = Link of_link.Waiting ∷ []
 metrics_of FramesReceived = counted counting.FramesIn ∷ []
 metrics_of OctetsReceived = counted counting.OctetsIn ∷ []
@@ -269,8 +280,15 @@ metrics_of FramesSent = counted counting.FramesOut ∷ []
 metrics_of OctetsSent = counted counting.OctetsOut ∷ []
 metrics_of Forwarded = counted counting.Forwarded ∷ []
 metrics_of Delivered = counted counting.Delivered ∷ []
+metrics_of MessagesReceived = map (λ service. Link (of_link.ServiceHeard service)) services
+metrics_of MessagesSent = map (λ service. Link (of_link.ServiceSent service)) services
+metrics_of ManagementReceived = map (λ kind. Link (of_link.ManagementHeard kind)) management_kinds
+metrics_of ManagementSent = map (λ kind. Link (of_link.ManagementSent kind)) management_kinds
 metrics_of Refused = map (λ cause. counted (counting.Refused cause)) causes
 metrics_of Failures = map (λ reason. counted (counting.Failed reason)) reasons
 metrics_of Retries = counted counting.Retries ∷ []
 metrics_of InitsRefused = map (λ reason. counted (counting.Setbacks reason)) init_reasons
 metrics_of TriesFailed = map (λ reason. counted (counting.Setbacks reason)) try_reasons
+metrics_of RoundTrip = Link of_link.RoundTrip ∷ []
+metrics_of RetransmissionTimeout = Link of_link.RetransmissionTimeout ∷ []
+metrics_of CongestionWindow = Link of_link.CongestionWindow ∷ []

@@ -7,9 +7,12 @@ pub mod Bounds
 pub mod Each
 pub mod Noticed
 pub mod Places
+pub mod Reasons
 pub mod Families
+pub mod Facts
 pub mod Measuring
 pub mod Samples
+pub mod AlarmSamples
 pub mod Metrics
 pub mod Members
 pub mod States

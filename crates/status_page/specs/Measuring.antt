@@ -1,5 +1,5 @@
 -- The value of each metric.
-use Rattle.std.specs.Prelude.{ℕ, zero, suc, ◌+◌, ◌/◌, Bool, true, false, ◌&&◌, ◌||◌, ◌==◌, not, nat_eq, nat_lt, count_by, drop, length, unwrap_or, List, slice_get}
+use Rattle.std.specs.Prelude.{ℕ, zero, suc, ◌+◌, ◌/◌, Bool, true, false, ◌&&◌, ◌||◌, ◌==◌, not, nat_eq, nat_lt, count_by, drop, length, unwrap_or, List, slice_get, slice_index, slice_index_or, if◌then◌else◌, Option, None, Some}
 use Rattle.std.specs.List.{list_any}
 use Rattle.std.specs.Option.{option_map}
 use Rattle.signalling_types.specs.Causes.{cause_number}
@@ -11,7 +11,14 @@ use Rattle.cell_pool.specs.Lanes.{is_user_picked}
 use Rattle.link.specs.Queue.{count_confirmed}
 use Rattle.served_link.specs.declared.counter.Counter.{Counter}
 use Rattle.served_link.specs.declared.counter.Counter.TheVariants as counting
-use Rattle.served_link.specs.declared.datagrams.DatagramCounters.{DatagramCounters}
+use Rattle.served_link.specs.declared.association_status.AssociationStatus.{AssociationStatus}
+use Rattle.served_link.specs.declared.management_kind.ManagementKind.{ManagementKind}
+use Rattle.served_link.specs.declared.messages.LinkMessages.{LinkMessages}
+use Rattle.served_link.specs.declared.messages.MessageCounts.{MessageCounts}
+use Rattle.served_link.specs.declared.unavailable.Unavailable.{Unavailable}
+use Rattle.served_link.specs.Kinds.{kind_number}
+use Rattle.served_link.specs.Messages.{no_messages}
+use Rattle.served_link.specs.Unavailable.{unavailable_by}
 use Rattle.served_link.specs.declared.row.LinkCounters.{LinkCounters}
 use Rattle.served_link.specs.Counting.{no_counts, saturated, value_of}
 use Rattle.routes.specs.declared.route.RouteStatus.{RouteStatus}
@@ -29,10 +36,9 @@ use Rattle.status_page.specs.declared.metric.SetMetric.{SetMetric}
 use Rattle.status_page.specs.declared.metric.SetMetric.TheVariants as of_set
 use Rattle.status_page.specs.declared.metric.DestinationMetric.{DestinationMetric}
 use Rattle.status_page.specs.declared.metric.DestinationMetric.TheVariants as of_destination
-use Rattle.status_page.specs.declared.noticed.NoticeLog.{NoticeLog}
+use Rattle.status_page.specs.Facts.{NodeFacts}
 use Rattle.status_page.specs.Noticed.{kind_seen}
 use Rattle.status_page.specs.Places.{is_of_set}
-use Rattle.status_page.specs.declared.times.Times.{Times}
 
 abbrev pub bit : Bool → ℕ
 bit true = 1
@@ -91,14 +97,32 @@ users_on q s link =
 abbrev pub counters_at : List LinkCounters → ℕ → LinkCounters
 counters_at rows link = unwrap_or (slice_get rows link) no_counts
 
-abbrev pub link_value : {Q : Type 0} → QueueKind Q → LinkMetric → State Q → List LinkCounters → ℕ → ℕ
-link_value q of_link.InService s rows k = bit (is_in_service q s k)
-link_value q of_link.ChangingOver s rows k = bit (is_changing_over q s k)
-link_value q of_link.Barred s rows k = bit (is_barred_at s k)
-link_value q of_link.Waiting s rows k = waiting_on q s k
-link_value q (of_link.Counted counter) s rows k = value_of counter (counters_at rows k)
+abbrev pub messages_of : List LinkMessages → ℕ → LinkMessages
+messages_of rows link = unwrap_or (slice_get rows link) no_messages
 
--- ---- which metrics of a link are shown
+-- how many messages were of a kind, or had a service indicator
+abbrev pub kind_count : ManagementKind → MessageCounts → ℕ
+kind_count kind counts = slice_index counts.kinds (kind_number kind)
+
+abbrev pub service_count : (service : ℕ) → MessageCounts → ℕ
+service_count service counts = slice_index_or counts.services service 0
+
+-- for how many milliseconds something was unavailable by now, and how often it became so
+abbrev pub unavailable_ms : (now : ℕ) → Option Unavailable → ℕ
+unavailable_ms now None = 0
+unavailable_ms now (Some u) = unavailable_by now u
+
+abbrev pub unavailabilities : Option Unavailable → ℕ
+unavailabilities None = 0
+unavailabilities (Some u) = u.times
+
+-- how the association of a link does, if it is over SCTP, and up
+abbrev pub association_of : List (Option AssociationStatus) → (link : ℕ) → Option AssociationStatus
+association_of associations link = slice_index_or associations link None
+
+abbrev pub round_trip_of : Option AssociationStatus → Option ℕ
+round_trip_of None = None
+round_trip_of (Some a) = a.round_trip_ms
 
 -- the causes that alerts name
 abbrev pub is_watched : Cause → Bool
@@ -117,13 +141,31 @@ is_shown_at_zero (counting.Failed reason) = true
 is_shown_at_zero counting.Retries = true
 is_shown_at_zero (counting.Setbacks reason) = false
 
--- whether a metric of a link is shown while it has this value
-abbrev pub is_shown : LinkMetric → (value : ℕ) → Bool
-is_shown of_link.InService value = true
-is_shown of_link.ChangingOver value = true
-is_shown of_link.Barred value = true
-is_shown of_link.Waiting value = true
-is_shown (of_link.Counted counter) value = is_shown_at_zero counter || nat_lt 0 value
+-- a count, if it is shown
+abbrev pub count_if : (is_shown_at_zero : Bool) → ℕ → Option ℕ
+count_if is_shown_at_zero n = if is_shown_at_zero || nat_lt 0 n then Some n else None
+
+-- the value of a metric of a link, if it has one that is shown
+abbrev pub link_value : {Q : Type 0} → QueueKind Q → LinkMetric → State Q → NodeFacts → ℕ → Option ℕ
+link_value q of_link.InService s f k = Some (bit (is_in_service q s k))
+link_value q of_link.ChangingOver s f k = Some (bit (is_changing_over q s k))
+link_value q of_link.Barred s f k = Some (bit (is_barred_at s k))
+link_value q of_link.Waiting s f k = Some (waiting_on q s k)
+link_value q of_link.UnavailableTime s f k = Some (unavailable_ms f.times.uptime_ms (slice_get f.link_times k))
+link_value q of_link.Unavailabilities s f k = Some (unavailabilities (slice_get f.link_times k))
+link_value q (of_link.Counted counter) s f k =
+    count_if (is_shown_at_zero counter) (value_of counter (counters_at f.counters.links k))
+link_value q (of_link.ServiceHeard service) s f k =
+    count_if false (service_count service (messages_of f.counters.messages k).heard)
+link_value q (of_link.ServiceSent service) s f k =
+    count_if false (service_count service (messages_of f.counters.messages k).sent)
+link_value q (of_link.ManagementHeard kind) s f k =
+    count_if false (kind_count kind (messages_of f.counters.messages k).heard)
+link_value q (of_link.ManagementSent kind) s f k =
+    count_if false (kind_count kind (messages_of f.counters.messages k).sent)
+link_value q of_link.RoundTrip s f k = round_trip_of (association_of f.associations k)
+link_value q of_link.RetransmissionTimeout s f k = option_map (λ a. a.timeout_ms) (association_of f.associations k)
+link_value q of_link.CongestionWindow s f k = option_map (λ a. a.congestion_window) (association_of f.associations k)
 
 -- ---- of a set
 
@@ -140,9 +182,11 @@ serving_first q s set (suc k) = saturated (serving_first q s set k + serves_in q
 abbrev pub links_in_service : {Q : Type 0} → QueueKind Q → State Q → (set : ℕ) → ℕ
 links_in_service q s set = serving_first q s set (length s.settings.links)
 
-abbrev pub set_value : {Q : Type 0} → QueueKind Q → SetMetric → State Q → (set : ℕ) → ℕ
-set_value q of_set.Available s set = bit (nat_lt 0 (links_in_service q s set))
-set_value q of_set.LinksInService s set = links_in_service q s set
+abbrev pub set_value : {Q : Type 0} → QueueKind Q → SetMetric → State Q → NodeFacts → (set : ℕ) → ℕ
+set_value q of_set.Available s f set = bit (nat_lt 0 (links_in_service q s set))
+set_value q of_set.LinksInService s f set = links_in_service q s set
+set_value q of_set.UnavailableTime s f set = unavailable_ms f.times.uptime_ms (slice_get f.set_times set)
+set_value q of_set.Unavailabilities s f set = unavailabilities (slice_get f.set_times set)
 
 -- ---- of a destination and of a route; if there is no such destination it is 0
 
@@ -189,23 +233,22 @@ users_on_links q s = users_on_first q s (length s.settings.links)
 abbrev pub kept_messages : {Q : Type 0} → QueueKind Q → State Q → ℕ
 kept_messages q s = saturated (held_users q s + users_on_links q s)
 
--- the value of a metric of the node, with these datagrams counted, at these times
-abbrev pub node_value :
-    {Q : Type 0} → QueueKind Q → NodeMetric → State Q → DatagramCounters → NoticeLog → (times : Times) → ℕ
-node_value q of_node.Build s datagrams log times = 1
-node_value q of_node.Uptime s datagrams log times = times.uptime_ms / 1000
-node_value q of_node.LongestTurn s datagrams log times = times.longest_turn_us
-node_value q of_node.PoolLimit s datagrams log times = s.settings.pool
-node_value q of_node.Pool s datagrams log times = kept_messages q s
-node_value q of_node.Held s datagrams log times = held_users q s
-node_value q (of_node.Notices kind) s datagrams log times = kind_seen kind log
-node_value q of_node.LostAny s datagrams log times = bit (lost_any s.node.parts)
-node_value q of_node.LateAny s datagrams log times = bit (late_any s.node.parts)
-node_value q of_node.TimesLost s datagrams log times = s.node.parts.times_lost
-node_value q of_node.TimesLate s datagrams log times = s.node.parts.times_late
-node_value q of_node.MessagesLost s datagrams log times = s.node.parts.messages_lost
-node_value q of_node.TimesBroken s datagrams log times = s.node.parts.times_broken
-node_value q of_node.TimesRerouted s datagrams log times = s.reroutings.times
-node_value q of_node.DatagramsReceived s datagrams log times = datagrams.incoming
-node_value q of_node.DatagramsSent s datagrams log times = datagrams.outgoing
-node_value q of_node.Strangers s datagrams log times = datagrams.strangers
+-- the value of a metric of the node
+abbrev pub node_value : {Q : Type 0} → QueueKind Q → NodeMetric → State Q → NodeFacts → ℕ
+node_value q of_node.Build s f = 1
+node_value q of_node.Uptime s f = f.times.uptime_ms / 1000
+node_value q of_node.LongestTurn s f = f.times.longest_turn_us
+node_value q of_node.PoolLimit s f = s.settings.pool
+node_value q of_node.Pool s f = kept_messages q s
+node_value q of_node.Held s f = held_users q s
+node_value q (of_node.Notices kind) s f = kind_seen kind f.notices
+node_value q of_node.LostAny s f = bit (lost_any s.node.parts)
+node_value q of_node.LateAny s f = bit (late_any s.node.parts)
+node_value q of_node.TimesLost s f = s.node.parts.times_lost
+node_value q of_node.TimesLate s f = s.node.parts.times_late
+node_value q of_node.MessagesLost s f = s.node.parts.messages_lost
+node_value q of_node.TimesBroken s f = s.node.parts.times_broken
+node_value q of_node.TimesRerouted s f = s.reroutings.times
+node_value q of_node.DatagramsReceived s f = f.counters.datagrams.incoming
+node_value q of_node.DatagramsSent s f = f.counters.datagrams.outgoing
+node_value q of_node.Strangers s f = f.counters.datagrams.strangers

@@ -1,12 +1,14 @@
 -- The lines of metrics, in Prometheus' text format 0.0.4.
-use Rattle.std.specs.Prelude.{ℕ, List, [], ◌++◌, codes, decimal}
+use Rattle.std.specs.Prelude.{ℕ, List, [], ◌++◌, codes, decimal, Option, None, Some}
 use Rattle.signalling_types.specs.Causes.{cause_name}
 use Rattle.signalling_types.specs.Notices.{failure_name}
 use Rattle.served_link.specs.declared.counter.Counter.{Counter}
 use Rattle.served_link.specs.declared.counter.Counter.TheVariants.{FramesIn, OctetsIn, FramesOut, OctetsOut}
 use Rattle.served_link.specs.declared.counter.Counter.TheVariants.{Forwarded, Delivered, Refused, Failed, Retries}
 use Rattle.served_link.specs.declared.counter.Counter.TheVariants.{Setbacks}
+use Rattle.served_link.specs.Kinds.{kind_name}
 use Rattle.served_link.specs.Lines.{setback_name}
+use Rattle.served_link.specs.declared.management_kind.ManagementKind.{ManagementKind}
 use Rattle.status_page.specs.declared.family.Family.{Family}
 use Rattle.status_page.specs.declared.labels.TheConstants.{VERSION}
 use Rattle.status_page.specs.declared.metric.NodeMetric.{NodeMetric}
@@ -15,18 +17,23 @@ use Rattle.status_page.specs.declared.metric.LinkMetric.{LinkMetric}
 use Rattle.status_page.specs.declared.metric.LinkMetric.TheVariants as of_link
 use Rattle.status_page.specs.declared.noticed.NoticeKind.{NoticeKind}
 use Rattle.status_page.specs.declared.noticed.NoticeKind.TheVariants as noticed
-use Rattle.status_page.specs.Families.{exponent_of, family_name, family_help, kind_name, kind_of}
+use Rattle.status_page.specs.Families.{exponent_of, family_name, family_help, kind_of, type_name}
 
 -- the two lines before a family
 abbrev pub head_text : Family → List ℕ
 head_text family =
     codes "# HELP " ++ family_name family ++ codes " " ++ family_help family
-    ++ codes "\n# TYPE " ++ family_name family ++ codes " " ++ kind_name (kind_of family) ++ codes "\n"
+    ++ codes "\n# TYPE " ++ family_name family ++ codes " " ++ type_name (kind_of family) ++ codes "\n"
 
 -- the line of a sample
 abbrev pub sample_text : Family → (labels : List ℕ) → (value : ℕ) → List ℕ
 sample_text family labels value =
     family_name family ++ labels ++ codes " " ++ decimal value ++ exponent_of family ++ codes "\n"
+
+-- the same, if there is a value
+abbrev pub text_if : Option ℕ → Family → (labels : List ℕ) → List ℕ
+text_if None family labels = []
+text_if (Some value) family labels = sample_text family labels value
 
 -- ---- labels
 
@@ -74,12 +81,28 @@ counter_labels (Failed reason) = codes ",reason=\"" ++ failure_name reason ++ co
 counter_labels Retries = []
 counter_labels (Setbacks reason) = codes ",reason=\"" ++ setback_name reason ++ codes "\""
 
+abbrev pub service_label : (service : ℕ) → List ℕ
+service_label service = codes ",service=\"" ++ decimal service ++ codes "\""
+
+abbrev pub kind_label : ManagementKind → List ℕ
+kind_label kind = codes ",message=\"" ++ kind_name kind ++ codes "\""
+
+-- the service indicator of messages, or their kind
 abbrev pub metric_labels : LinkMetric → List ℕ
 metric_labels of_link.InService = []
 metric_labels of_link.ChangingOver = []
 metric_labels of_link.Barred = []
 metric_labels of_link.Waiting = []
+metric_labels of_link.UnavailableTime = []
+metric_labels of_link.Unavailabilities = []
 metric_labels (of_link.Counted counter) = counter_labels counter
+metric_labels (of_link.ServiceHeard service) = service_label service
+metric_labels (of_link.ServiceSent service) = service_label service
+metric_labels (of_link.ManagementHeard kind) = kind_label kind
+metric_labels (of_link.ManagementSent kind) = kind_label kind
+metric_labels of_link.RoundTrip = []
+metric_labels of_link.RetransmissionTimeout = []
+metric_labels of_link.CongestionWindow = []
 
 -- the name of a set, and the point that it leads to
 abbrev pub set_pairs : (set adjacent : List ℕ) → List ℕ

@@ -1,5 +1,5 @@
 -- The state of a node, as JSON.
-use Rattle.std.specs.Prelude.{ℕ, suc, ◌+◌, ◌-◌, ◌^◌, ◌%◌, List, [], ◌∷◌, ◌++◌, length, map, flat_map, codes, Option, Some, None}
+use Rattle.std.specs.Prelude.{ℕ, suc, ◌+◌, ◌-◌, ◌^◌, ◌%◌, List, [], ◌∷◌, ◌++◌, length, map, flat_map, codes, slice_get, slice_index_or, unwrap_or, Option, Some, None}
 use Rattle.json.specs.Token.{Token, string}
 use Rattle.signalling_types.specs.Causes.{cause_name}
 use Rattle.signalling_types.specs.Notices.{failure_name}
@@ -20,12 +20,18 @@ use Rattle.served_link.specs.declared.counter.Counter.TheVariants.{Setbacks}
 use Rattle.served_link.specs.Lines.{setback_name}
 use Rattle.served_link.specs.declared.row.LinkCounters.{LinkCounters}
 use Rattle.served_link.specs.Counting.{value_of}
+use Rattle.served_link.specs.AlarmTexts.{alarm_name}
+use Rattle.served_link.specs.Alarms.{alarm_at}
+use Rattle.served_link.specs.ServiceStates.{at_start, state_words}
+use Rattle.served_link.specs.declared.alarm.Alarm.{Alarm}
+use Rattle.served_link.specs.declared.service_states.StateSince.{StateSince}
 use Rattle.status_page.specs.Each.{each}
+use Rattle.status_page.specs.Facts.{NodeFacts}
 use Rattle.status_page.specs.declared.labels.TheConstants.{VERSION}
 use Rattle.status_page.specs.declared.noticed.NoticeKind.{NoticeKind}
 use Rattle.status_page.specs.declared.noticed.NoticeKind.TheVariants as noticed
 use Rattle.status_page.specs.declared.noticed.NoticeLog.{NoticeLog}
-use Rattle.status_page.specs.Families.{causes, init_reasons, notice_kinds, reasons, try_reasons}
+use Rattle.status_page.specs.Reasons.{causes, init_reasons, notice_kinds, reasons, try_reasons}
 use Rattle.status_page.specs.Measuring.{counters_at, held_users, is_changing_over, kept_messages}
 use Rattle.status_page.specs.Noticed.{kind_seen, time_of}
 use Rattle.status_page.specs.Places.{set_name_of, sets_to}
@@ -78,21 +84,27 @@ view_members v =
 abbrev pub name_members : Configuration → (link : ℕ) → List Token
 name_members c link = text_member (codes "name") (name_in c link) ++ text_member (codes "set") (set_name_of c link)
 
+-- the state of a link in words, and since when it is in that, as it was last seen
+abbrev pub state_since_members : StateSince → List Token
+state_since_members seen =
+    text_member (codes "service") (state_words seen.state) ++ number_member (codes "since_ms") seen.since_ms
+
 -- a link, as it is shown, by its number
-abbrev pub link_object : {Q : Type 0} → QueueKind Q → State Q → List LinkCounters → ℕ → LinkView → List Token
-link_object q s rows k v =
+abbrev pub link_object : {Q : Type 0} → QueueKind Q → State Q → NodeFacts → ℕ → LinkView → List Token
+link_object q s f k v =
     object (name_members s.settings k ++ view_members v
     ++ bool_member (codes "changing_over") (is_changing_over q s k)
     ++ bool_member (codes "barred") (is_barred_at s k)
-    ++ all_counters (counters_at rows k))
+    ++ state_since_members (unwrap_or (slice_get f.states k) at_start)
+    ++ all_counters (counters_at f.counters.links k))
 
 -- the same, if there is such a link
-abbrev pub shown_link : {Q : Type 0} → QueueKind Q → State Q → List LinkCounters → ℕ → Option LinkView → List Token
-shown_link q s rows k None = []
-shown_link q s rows k (Some v) = link_object q s rows k v
+abbrev pub shown_link : {Q : Type 0} → QueueKind Q → State Q → NodeFacts → ℕ → Option LinkView → List Token
+shown_link q s f k None = []
+shown_link q s f k (Some v) = link_object q s f k v
 
-unfoldable pub link_tokens : {Q : Type 0} → QueueKind Q → State Q → List LinkCounters → ℕ → List Token
-link_tokens q s rows k = shown_link q s rows k (link_view q s k)
+unfoldable pub link_tokens : {Q : Type 0} → QueueKind Q → State Q → NodeFacts → ℕ → List Token
+link_tokens q s f k = shown_link q s f k (link_view q s k)
 
 -- a set, and the point that it leads to
 abbrev pub set_tokens : PointFormat → SetEntry → List Token
@@ -157,6 +169,24 @@ kind_member log kind = number_member (kind_key kind) (kind_seen kind log)
 abbrev pub kind_members : NoticeLog → List NoticeKind → List Token
 kind_members log kinds = flat_map (kind_member log) kinds
 
+-- ---- alarms
+
+-- an alarm that is raised since then
+abbrev pub alarm_object : PointFormat → Configuration → Alarm → (since : ℕ) → List Token
+alarm_object points c alarm since =
+    object (text_member (codes "name") (alarm_name points c alarm) ++ number_member (codes "since_ms") since)
+
+-- the same, if there is one, and it is raised
+abbrev pub raised_tokens : PointFormat → Configuration → Option Alarm → (since : Option ℕ) → List Token
+raised_tokens points c None since = []
+raised_tokens points c (Some alarm) None = []
+raised_tokens points c (Some alarm) (Some since) = alarm_object points c alarm since
+
+-- the alarm at a place of the table
+unfoldable pub alarm_tokens : {Q : Type 0} → State Q → NodeFacts → (place : ℕ) → List Token
+alarm_tokens s f place =
+    raised_tokens f.points s.settings (alarm_at place) (slice_index_or f.alarms place None)
+
 -- ---- the node
 
 -- the version, the time since the start in milliseconds, and the longest turn in microseconds
@@ -188,18 +218,17 @@ count_members q s =
 unfoldable pub node_members : {Q : Type 0} → QueueKind Q → PointFormat → State Q → (times : Times) → List Token
 node_members q points s times = program_members times ++ place_members points s.settings ++ count_members q s
 
--- the node, and its sets, links, destinations and notices
-unfoldable pub state_members :
-    {Q : Type 0} → QueueKind Q → PointFormat → State Q → List LinkCounters → NoticeLog → (times : Times) → List Token
-state_members q points s rows log times =
-    node_members q points s times
-    ++ array_member (codes "sets") (flat_map (set_tokens points) s.settings.sets)
-    ++ array_member (codes "links") (each (link_tokens q s rows) (length s.settings.links))
-    ++ array_member (codes "routes") (each (route_tokens points s) (length s.settings.destinations))
-    ++ object_member (codes "notice_kinds") (kind_members log notice_kinds)
-    ++ array_member (codes "notices") (each (notice_tokens points s log) (length s.node.parts.notices.last))
+-- the node, its alarms that are raised, and its sets, links, destinations and notices
+unfoldable pub state_members : {Q : Type 0} → QueueKind Q → State Q → NodeFacts → List Token
+state_members q s f =
+    node_members q f.points s f.times
+    ++ array_member (codes "alarms") (each (alarm_tokens s f) (length f.alarms))
+    ++ array_member (codes "sets") (flat_map (set_tokens f.points) s.settings.sets)
+    ++ array_member (codes "links") (each (link_tokens q s f) (length s.settings.links))
+    ++ array_member (codes "routes") (each (route_tokens f.points s) (length s.settings.destinations))
+    ++ object_member (codes "notice_kinds") (kind_members f.notices notice_kinds)
+    ++ array_member (codes "notices") (each (notice_tokens f.points s f.notices) (length s.node.parts.notices.last))
 
 -- the whole state
-abbrev pub state_tokens :
-    {Q : Type 0} → QueueKind Q → PointFormat → State Q → List LinkCounters → NoticeLog → (times : Times) → List Token
-state_tokens q points s rows log times = object (state_members q points s rows log times)
+abbrev pub state_tokens : {Q : Type 0} → QueueKind Q → State Q → NodeFacts → List Token
+state_tokens q s f = object (state_members q s f)

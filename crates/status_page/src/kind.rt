@@ -1,7 +1,7 @@
 //! What the metrics of a family do over time.
 
 ghost use Rattle.std.specs.Prelude.{◌≡◌, ◌≤◌, length};
-ghost use Rattle.status_page.specs.Families.{kind_name};
+ghost use Rattle.status_page.specs.Families.{type_name};
 
 /// What a metric does over time.
 #[derive(Clone, Copy)]
@@ -15,7 +15,7 @@ pub enum Kind {
 impl Kind {
     /// The kind's name in a TYPE line.
     pub fn name(self) -> &'static str
-        ensures name { result.now ≡ kind_name self }
+        ensures name { result.now ≡ type_name self }
         ensures fits { length result.now ≤ 7 }
     {
         match self {

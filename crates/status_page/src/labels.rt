@@ -1,12 +1,14 @@
 //! The labels of samples.
 
 ghost use Rattle.std.specs.Prelude.{◌≡◌, ◌+◌, ◌≤◌, ◌++◌, length};
-ghost use Rattle.status_page.specs.Samples.{counter_labels, destination_labels, kind_labels, link_labels, metric_labels, node_labels, route_labels, set_labels, set_pairs};
+ghost use Rattle.status_page.specs.Samples.{counter_labels, destination_labels, kind_label, kind_labels, link_labels};
+ghost use Rattle.status_page.specs.Samples.{metric_labels, node_labels, route_labels, service_label, set_labels, set_pairs};
 
 use crate::metric::{LinkMetric, NodeMetric};
 use crate::noticed::NoticeKind;
 use arrayvec::ArrayString;
-use served_link::Counter;
+use itoa::Buffer;
+use served_link::{Counter, ManagementKind};
 use settings::POINT_OCTETS;
 use signalling_types::Limits;
 
@@ -153,11 +155,45 @@ fn push_further(metric: LinkMetric, labels: &mut ArrayString<LABELS_OCTETS>)
 {
     match metric {
         LinkMetric::Counted(counter) => push_reason(counter, labels),
+        LinkMetric::ServiceHeard(service) | LinkMetric::ServiceSent(service) => {
+            push_service(service, labels)
+        }
+        LinkMetric::ManagementHeard(kind) | LinkMetric::ManagementSent(kind) => {
+            push_kind(kind, labels)
+        }
         LinkMetric::InService
         | LinkMetric::ChangingOver
         | LinkMetric::Barred
-        | LinkMetric::Waiting => {}
+        | LinkMetric::Waiting
+        | LinkMetric::UnavailableTime
+        | LinkMetric::Unavailabilities
+        | LinkMetric::RoundTrip
+        | LinkMetric::RetransmissionTimeout
+        | LinkMetric::CongestionWindow => {}
     }
+}
+
+/// Appends the label of messages of a service indicator.
+fn push_service(service: u8, labels: &mut ArrayString<LABELS_OCTETS>)
+    requires { length labels.old.bytes ≤ 98 }
+    ensures label { labels.new.bytes ≡ labels.old.bytes ++ service_label service }
+    ensures short { length labels.new.bytes ≤ length labels.old.bytes + 32 }
+{
+    let mut digits = Buffer::new();
+    labels.push_str(",service=\"");
+    labels.push_str(digits.format(service));
+    labels.push_str("\"");
+}
+
+/// Appends the label of management messages or link tests of a kind.
+fn push_kind(kind: ManagementKind, labels: &mut ArrayString<LABELS_OCTETS>)
+    requires { length labels.old.bytes ≤ 98 }
+    ensures label { labels.new.bytes ≡ labels.old.bytes ++ kind_label kind }
+    ensures short { length labels.new.bytes ≤ length labels.old.bytes + 32 }
+{
+    labels.push_str(",message=\"");
+    labels.push_str(kind.name());
+    labels.push_str("\"");
 }
 
 /// Appends the label of a counter of refusals, failures or setbacks, its cause or its reason.

@@ -2,16 +2,21 @@
 //! and the page that a person reads. It does no input or output.
 #![tactic(auto)]
 
+mod alarm_labels;
+mod alarm_sampling;
 pub mod answer;
 pub mod asking;
 pub mod content;
 mod counted;
+pub mod facts;
 pub mod family;
 pub mod kind;
 pub mod labels;
 mod link_state;
+mod link_values;
 pub mod measuring;
 mod members;
+mod message_kinds;
 pub mod metric;
 mod metrics;
 pub mod names;
@@ -20,9 +25,11 @@ pub mod page;
 pub mod patience;
 mod places;
 mod reasons;
+mod route_values;
 mod sample;
 mod sampling;
 pub mod service;
+mod set_values;
 mod state;
 pub mod text;
 pub mod times;
@@ -30,6 +37,7 @@ pub mod times;
 pub use answer::Answer;
 pub use asking::answer_request;
 pub use content::StatusPage;
+pub use facts::Facts;
 pub use measuring::kept_messages;
 pub use names::PageNames;
 pub use noticed::{NoticeKind, NoticeLog};

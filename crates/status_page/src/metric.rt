@@ -1,7 +1,7 @@
 //! What is measured.
 
 use crate::noticed::NoticeKind;
-use served_link::Counter;
+use served_link::{Counter, ManagementKind};
 
 /// One thing that is measured.
 #[derive(Clone, Copy)]
@@ -16,6 +16,8 @@ pub enum Metric {
     Destination(DestinationMetric),
     /// Of each route, a set that leads to a destination: whether messages take it.
     Route,
+    /// Of each alarm: whether it is raised.
+    Alarm,
 }
 
 /// What is measured of the node as a whole.
@@ -68,8 +70,26 @@ pub enum LinkMetric {
     Barred,
     /// Messages of its queue that aren't confirmed.
     Waiting,
+    /// For how many milliseconds it wasn't in service since the start.
+    UnavailableTime,
+    /// How often it was in service, and then wasn't.
+    Unavailabilities,
     /// What was counted for it.
     Counted(Counter),
+    /// Messages that came in with this service indicator.
+    ServiceHeard(u8),
+    /// Messages that went out with this service indicator.
+    ServiceSent(u8),
+    /// Management messages or link tests of a kind that came in.
+    ManagementHeard(ManagementKind),
+    /// Management messages or link tests of a kind that went out.
+    ManagementSent(ManagementKind),
+    /// The smoothed round trip of its association over SCTP, in milliseconds.
+    RoundTrip,
+    /// The retransmission timeout of its association over SCTP, in milliseconds.
+    RetransmissionTimeout,
+    /// The congestion window of its association over SCTP, in octets.
+    CongestionWindow,
 }
 
 /// What is measured of each set.
@@ -79,6 +99,10 @@ pub enum SetMetric {
     Available,
     /// How many of its links are in service.
     LinksInService,
+    /// For how many milliseconds none of its links was in service since the start.
+    UnavailableTime,
+    /// How often a link of it was in service, and then none was.
+    Unavailabilities,
 }
 
 /// What is measured of each destination.

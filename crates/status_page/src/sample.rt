@@ -1,7 +1,7 @@
 //! Lines of metrics.
 
 ghost use Rattle.std.specs.Prelude.{◌≡◌, ◌++◌, ◌≤◌, OnOk, length};
-ghost use Rattle.status_page.specs.Samples.{head_text, sample_text};
+ghost use Rattle.status_page.specs.Samples.{head_text, sample_text, text_if};
 
 use crate::family::{Family, HELP_OCTETS, NAME_OCTETS};
 use crate::labels::LABELS_OCTETS;
@@ -55,6 +55,22 @@ pub(crate) fn put_sample(
     let mut line = ArrayString::<SAMPLE_OCTETS>::new();
     write_sample(family, labels, value, &mut line);
     body.put_slice(line.as_bytes())
+}
+
+/// Appends the line of a sample, if there is a value.
+pub(crate) fn put_if(
+    value: Option<u64>,
+    family: Family,
+    labels: &str,
+    body: &mut Rope,
+) -> Result<(), AllocError>
+    requires { length labels.now ≤ LABELS_OCTETS }
+    ensures { OnOk result (body.new.items ≡ body.old.items ++ text_if value family labels.now) }
+{
+    match value {
+        Some(value) => put_sample(family, labels, value, body),
+        None => Ok(()),
+    }
 }
 
 /// Writes the line of a sample.

@@ -1,22 +1,30 @@
 //! The samples of metrics that each link, each set, each destination or each route has.
 
-ghost use Rattle.std.specs.Prelude.{◌≡◌, ◌++◌, ◌≤◌, OnOk, flat_map, length};
+ghost use Rattle.std.specs.Prelude.{◌≡◌, ◌++◌, OnOk, flat_map};
 ghost use Rattle.exchange.specs.KeptQueues.{kept};
-ghost use Rattle.status_page.specs.Metrics.{destination_sample, destination_samples, link_sample, link_samples, route_sample, route_samples, set_sample, set_samples, text_if, ways_text};
+ghost use Rattle.console.specs.Names.{set_name_in};
+ghost use Rattle.status_page.specs.Facts.{facts_of};
+ghost use Rattle.status_page.specs.Metrics.{destination_sample, destination_samples, link_sample, link_samples};
+ghost use Rattle.status_page.specs.Metrics.{route_sample, route_samples, set_sample, set_samples, ways_text};
+ghost use Rattle.status_page.specs.Places.{adjacent_text, destination_text};
+ghost use Rattle.status_page.specs.Samples.{route_labels};
 
+use crate::facts::Facts;
 use crate::family::Family;
 use crate::labels::{LABELS_OCTETS, destination_labels, link_labels, route_labels, set_labels};
-use crate::measuring::{destination_value, is_shown, link_value, set_value, use_value};
+use crate::link_values::link_value;
 use crate::metric::{DestinationMetric, LinkMetric, SetMetric};
 use crate::places::{
     adjacent_text, adjacent_text_of, destination_text, set_name, set_name_of, sets_to,
 };
-use crate::sample::put_sample;
+use crate::route_values::{destination_value, use_value};
+use crate::sample::{put_if, put_sample};
+use crate::set_values::set_value;
+use arrayvec::ArrayString;
 use console::link_name;
 use exchange::Exchange;
 use http_server::Rope;
-use served_link::Counters;
-use settings::PointFormat;
+use settings::{PointFormat, Settings};
 use signalling_types::{LinkId, SetId};
 use std::alloc::AllocError;
 
@@ -25,74 +33,45 @@ pub(crate) fn put_link_samples(
     family: Family,
     metric: LinkMetric,
     exchange: &Exchange,
-    counters: &Counters,
-    points: PointFormat,
+    facts: &Facts<'_>,
     body: &mut Rope,
 ) -> Result<(), AllocError>
     ensures { OnOk result (body.new.items
-        ≡ body.old.items ++ link_samples kept points exchange.now counters.now.links family metric) }
+        ≡ body.old.items ++ link_samples kept exchange.now (facts_of facts.now) family metric) }
 {
     for k in 0..exchange.settings().link_count() {
-        put_link_sample(
-            family,
-            metric,
-            exchange,
-            counters,
-            LinkId::new(k as u8),
-            points,
-            body,
-        )?;
+        put_link_sample(family, metric, exchange, facts, LinkId::new(k as u8), body)?;
     }
     Ok(())
 }
 
-/// Appends the sample of a link.
+/// Appends the sample of a link, if there is a value.
 #[tactic(auto, unfolding(crate::specs::Metrics::link_sample))]
 fn put_link_sample(
     family: Family,
     metric: LinkMetric,
     exchange: &Exchange,
-    counters: &Counters,
+    facts: &Facts<'_>,
     link: LinkId,
-    points: PointFormat,
     body: &mut Rope,
 ) -> Result<(), AllocError>
     ensures { OnOk result (body.new.items
-        ≡ body.old.items ++ link_sample kept points exchange.now counters.now.links family metric link) }
+        ≡ body.old.items ++ link_sample kept exchange.now (facts_of facts.now) family metric link) }
 {
     let settings = exchange.settings();
-    let adjacent = adjacent_text_of(settings, link, points);
+    let adjacent = adjacent_text_of(settings, link, facts.points);
     let labels = link_labels(
         metric,
         link_name(settings, link),
         set_name_of(settings, link),
         adjacent.as_str(),
     );
-    let value = link_value(metric, exchange, counters, link);
     put_if(
-        is_shown(metric, value),
+        link_value(metric, exchange, facts, link),
         family,
         labels.as_str(),
-        value,
         body,
     )
-}
-
-/// Appends the line of a sample, if it is shown.
-fn put_if(
-    is_shown: bool,
-    family: Family,
-    labels: &str,
-    value: u64,
-    body: &mut Rope,
-) -> Result<(), AllocError>
-    requires { length labels.now ≤ LABELS_OCTETS }
-    ensures { OnOk result (body.new.items ≡ body.old.items ++ text_if is_shown family labels.now value) }
-{
-    if is_shown {
-        return put_sample(family, labels, value, body);
-    }
-    Ok(())
 }
 
 /// Appends the samples of all sets.
@@ -100,14 +79,14 @@ pub(crate) fn put_set_samples(
     family: Family,
     metric: SetMetric,
     exchange: &Exchange,
-    points: PointFormat,
+    facts: &Facts<'_>,
     body: &mut Rope,
 ) -> Result<(), AllocError>
     ensures { OnOk result (body.new.items
-        ≡ body.old.items ++ set_samples kept points exchange.now family metric) }
+        ≡ body.old.items ++ set_samples kept exchange.now (facts_of facts.now) family metric) }
 {
     for k in 0..exchange.settings().sets().len() {
-        put_set_sample(family, metric, exchange, SetId::new(k as u8), points, body)?;
+        put_set_sample(family, metric, exchange, facts, SetId::new(k as u8), body)?;
     }
     Ok(())
 }
@@ -118,19 +97,19 @@ fn put_set_sample(
     family: Family,
     metric: SetMetric,
     exchange: &Exchange,
+    facts: &Facts<'_>,
     set: SetId,
-    points: PointFormat,
     body: &mut Rope,
 ) -> Result<(), AllocError>
     ensures { OnOk result (body.new.items
-        ≡ body.old.items ++ set_sample kept points exchange.now family metric set) }
+        ≡ body.old.items ++ set_sample kept exchange.now (facts_of facts.now) family metric set) }
 {
-    let adjacent = adjacent_text(exchange.settings(), set, points);
+    let adjacent = adjacent_text(exchange.settings(), set, facts.points);
     let labels = set_labels(set_name(exchange.settings(), set), adjacent.as_str());
     put_sample(
         family,
         labels.as_str(),
-        set_value(metric, exchange, set),
+        set_value(metric, exchange, facts, set),
         body,
     )
 }
@@ -243,14 +222,26 @@ fn put_route_sample(
     ensures { OnOk result (body.new.items
         ≡ body.old.items ++ route_sample points exchange.now family destination set) }
 {
-    let settings = exchange.settings();
-    let text = destination_text(settings, destination, points);
-    let adjacent = adjacent_text(settings, set, points);
-    let labels = route_labels(text.as_str(), set_name(settings, set), adjacent.as_str());
+    let labels = labels_of(exchange.settings(), destination, set, points);
     put_sample(
         family,
         labels.as_str(),
         use_value(exchange, destination, set),
         body,
     )
+}
+
+/// The labels of the route to a destination by a set.
+fn labels_of(
+    settings: &Settings,
+    destination: usize,
+    set: SetId,
+    points: PointFormat,
+) -> ArrayString<LABELS_OCTETS>
+    ensures { result.bytes ≡ route_labels (destination_text points settings.now destination)
+        (set_name_in settings.now set) (adjacent_text points settings.now set) }
+{
+    let text = destination_text(settings, destination, points);
+    let adjacent = adjacent_text(settings, set, points);
+    route_labels(text.as_str(), set_name(settings, set), adjacent.as_str())
 }

@@ -155,9 +155,14 @@ impl Server {
             &mut log,
             user,
         );
-        let is_page_busy = self
-            .page
-            .show(self.alloc, registry, &self.node, now, self.longest_turn);
+        let is_page_busy = self.page.show(
+            self.alloc,
+            registry,
+            &self.node,
+            &self.links,
+            now,
+            self.longest_turn,
+        );
         self.is_busy = round.is_busy || is_page_busy;
         self.is_stopping |= round.stops;
         self.node.observers.flush_capture(&mut log);

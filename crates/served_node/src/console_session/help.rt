@@ -23,6 +23,7 @@ release LINK              the link may open though its changeover order isn't an
 title add T P N DIGITS POINT ROUTE SSN
                           a translation row is added; behind SSN perhaps backup POINT, then perhaps
                           changed PLAN NATURE REMOVE ADD
+title set ..              the same, but it replaces a row of the same T P N DIGITS
 title remove T P N DIGITS a translation row is removed
 users                     from now on each message for this point: local LINK HEX
 watch                     from now on each notice as it falls

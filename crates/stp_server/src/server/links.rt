@@ -6,9 +6,9 @@ use crate::tcp_links::TcpLinks;
 use mio::Registry;
 use script::Sink;
 use sctp_links::{Keys, SctpSockets};
-use served_link::Watch;
+use served_link::{AssociationStatus, Watch};
 use served_node::{Log, Node, OpenFault};
-use settings::LinkId;
+use settings::{Limits, LinkId};
 use settings_file::serve::{Endpoint, Remote, SctpTimes};
 use std::alloc::{AllocError, Global};
 use std::marker::Model;
@@ -133,6 +133,17 @@ impl ServerLinks {
             }
             None => is_busy,
         }
+    }
+
+    /// How the association of each link does, by the number of the link. None unless it is over SCTP, and up.
+    pub(crate) fn associations(&self) -> [Option<AssociationStatus>; Limits::LINKS] {
+        let mut associations = [None; Limits::LINKS];
+        if let Some(sctp) = &self.sctp {
+            for (k, status) in associations.iter_mut().enumerate() {
+                *status = sctp.status(LinkId::new(u8::try_from(k).unwrap_or(u8::MAX)));
+            }
+        }
+        associations
     }
 
     /// Associations over SCTP end by ABORT. Returns whether there may be some.

@@ -1,12 +1,13 @@
 //! The status page of a server.
 
 use crate::served_page::ServedPage;
+use crate::server::links::ServerLinks;
 use mio::Registry;
 use mio::event::Event;
 use script::Sink;
 use served_link::times::{micros, millis};
 use served_node::{Log, Node, OpenFault};
-use status_page::{NoticeLog, StatusPage, Times};
+use status_page::{Facts, NoticeLog, StatusPage, Times};
 use std::alloc::Global;
 use std::marker::Model;
 use std::net::{Net, SocketAddr};
@@ -80,12 +81,13 @@ impl NodePage {
     }
 
     /// Shows the page to those who look at it. Notices that are new came now. The longest turn so far took so long.
-    /// Returns whether there is more to do at once.
+    /// Returns whether there is more to do at once. How associations do is asked for only then.
     pub(crate) fn show(
         &mut self,
         alloc: Global,
         registry: &Registry,
         node: &Node,
+        links: &ServerLinks,
         now: Duration,
         longest_turn: Duration,
     ) -> bool {
@@ -97,16 +99,28 @@ impl NodePage {
         if exchange.notice_count() != self.notices.count {
             self.notices.look(exchange, now_ms);
         }
-        let content = StatusPage {
-            alloc,
-            exchange,
+        if !page.is_busy(now_ms) {
+            return false;
+        }
+        let associations = links.associations();
+        let facts = Facts {
             counters: &node.observers.counters,
             notices: &self.notices,
+            alarms: node.observers.watch.alarms(),
+            states: node.observers.watch.links(),
+            link_times: node.observers.watch.link_times(),
+            set_times: node.observers.watch.set_times(),
+            associations: &associations,
             points: self.points,
             times: Times {
                 uptime_ms: now_ms,
                 longest_turn_us: micros(longest_turn),
             },
+        };
+        let content = StatusPage {
+            alloc,
+            exchange,
+            facts: &facts,
         };
         page.turn(registry, &content, now_ms);
         page.is_busy(now_ms)

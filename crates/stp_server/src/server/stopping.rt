@@ -19,13 +19,15 @@ use std::time::Duration;
 const KEPT_OCTETS: usize = 25;
 
 impl Server {
-    /// Its associations over SCTP end by ABORT, and what was captured goes out. Then the log is told how many user
-    /// messages the node keeps, if it keeps some: they end with it, and no notice says so.
+    /// Its associations over SCTP end by ABORT, and what was captured goes out. Then the log is told of how many
+    /// notices it has no line, and how many user messages the node keeps, if it keeps some: they end with it, and no
+    /// notice says so.
     pub fn stop<W: Sink>(&mut self, now: Duration, log: &mut W) {
         let mut log = Log { sink: log, now };
         if self.links.close(&mut self.node, &mut log) {
             self.node.observers.flush_capture(&mut log);
         }
+        self.node.observers.tell_last_missed(&mut log);
         if let Some(line) = kept_line(&self.node.exchange) {
             log.tell(&line.as_str());
         }

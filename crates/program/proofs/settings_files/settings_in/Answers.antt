@@ -1,5 +1,6 @@
 use Rattle.std.proofs.Common.{inl, inr, refl}
 use Rattle.settings_file.specs.Faults.{no_memory}
+use Rattle.settings_file.specs.declared.serve.fault.ServeFault.TheVariants.{Settings}
 use Rattle.program.specs.Folders.{AreSettings}
 use Rattle.program.proofs.Files.{file-fault, told-explains}
 use Rattle.program.proofs.settings_files.settings_in.Goals as goal
@@ -19,7 +20,7 @@ returns-in-Err-clause-ended g c =
         told.0,
         g.E.Sink.output c.warn.new.errors,
         c.warn.ensures,
-        told-explains c.args.file.now octets _ c.in-Err.fault _ _ c.requires told.1,
+        told-explains c.args.file.now octets _ (Settings c.in-Err.fault) _ _ c.requires told.1,
       )
       | inr told ↦ (no_memory, inl refl, told.0, g.E.Sink.output c.warn.new.errors, c.warn.ensures, inr told.1)
     ]

@@ -13,7 +13,7 @@ returns-in-Ok g c = λ octets are. inl (record {
 })
 
 pub returns-in-Err : goal.returns-in-Err
-returns-in-Err g c = λ octets are. elim c.tell_server_fault.ensures [
+returns-in-Err g c = λ octets are. elim c.tell_console_fault.ensures [
   | inl told ↦ inr (
     c.in-Err.fault,
     record { document = table_view c.args.document.now; are = are; first = λ s. inr (c.in-Err.ensures s) },

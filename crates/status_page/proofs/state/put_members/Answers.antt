@@ -10,5 +10,6 @@ returns c =
     (both c.args.out.now c.put_routes.new.out c.put_kinds.new.out _ _
     (both c.args.out.now c.put_links.new.out c.put_routes.new.out _ _
     (both c.args.out.now c.put_sets.new.out c.put_links.new.out _ _
-    (both c.args.out.now c.put_node.new.out c.put_sets.new.out _ _ c.in_ok-put_node.ensures c.in_ok-put_sets.ensures)
-    c.in_ok-put_links.ensures) c.in_ok-put_routes.ensures) c.in_ok-put_kinds.ensures) c.put_notices.ensures
+    (both c.args.out.now c.put_alarms.new.out c.put_sets.new.out _ _
+    (both c.args.out.now c.put_node.new.out c.put_alarms.new.out _ _ c.in_ok-put_node.ensures c.in_ok-put_alarms.ensures)
+    c.in_ok-put_sets.ensures) c.in_ok-put_links.ensures) c.in_ok-put_routes.ensures) c.in_ok-put_kinds.ensures) c.put_notices.ensures

@@ -1,13 +1,13 @@
 use Rattle.std.proofs.Common.{◌∙◌, ℕ, List, ap}
 use Rattle.sctp_gate.specs.Watching.{CameIn}
-use Rattle.served_link.specs.Counting.{came, counted_at}
+use Rattle.served_link.specs.Counting.{frame_came}
 use Rattle.sctp_links.proofs.Counted.{seen-counted}
 use Rattle.sctp_links.proofs.observer.GateObserverWatch.came_in.Goals as goal
 
 pub returns : goal.returns
 returns g c =
     let counted = c.message_came_in.ensures
-    ∙ ap (λ (xs : List ℕ). counted_at c.args.self.now.link (came xs c.args.outcome.now)
+    ∙ ap (λ (xs : List ℕ). frame_came c.args.self.now.link xs c.args.outcome.now
     c.args.self.now.observers.now.counters) c.new-frame.ensures in
     record {
       more = λ sent seen h. (

@@ -1,0 +1,11 @@
+-- The routes so far were put.
+use Rattle.std.proofs.Common.{◌≡◌, ◌++◌}
+use Rattle.status_page.specs.Each.{each}
+use Rattle.status_page.specs.States.{route_tokens}
+use Rattle.status_page.proofs.state.destinations.put_each_route.Given as goal
+
+abbrev pub invariant-loop-k : goal.invariant-loop-k
+invariant-loop-k l = record {
+  tokens : l.out.tokens ≡ l.fn.out.tokens ++ each (route_tokens l.fn.points l.fn.exchange) l.k;
+  before : l.out.before ≡ l.fn.out.before;
+}
