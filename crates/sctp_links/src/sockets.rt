@@ -22,8 +22,8 @@ use std::time::Duration;
 /// Octets of a datagram, at most.
 const DATAGRAM_OCTETS: usize = 65_535;
 
-/// Once so many octets were received in a round, no further datagram is: one read of a link over TCP brings as many.
-const ROUND_OCTETS: usize = 65_536;
+/// Once so many octets were received in a round, no further datagram is: the reads of a link over TCP bring as many.
+const ROUND_OCTETS: usize = 262_144;
 
 /// Datagrams that are received in one round, at most. Short ones take time, too.
 const DATAGRAMS: usize = 512;

@@ -18,8 +18,8 @@ use std::marker::Model;
 use std::net::{Net, SocketAddr};
 use std::time::Duration;
 
-/// Octets that one read of a link asks for, and all that a link may bring in one round. The socket for datagrams has as
-/// many (`sctp_links`).
+/// Octets that one read of a link asks for. A link may bring those of a few reads in one round, and the socket for
+/// datagrams as many (`sctp_links`).
 const READ_OCTETS: usize = 65_536;
 
 /// The links of a node over TCP, each with its listener or the address that it connects to, and its connection.

@@ -15,6 +15,9 @@ use settings_file::serve::Endpoint;
 use std::net::{Net, SocketAddr};
 use std::time::Duration;
 
+/// Reads of a link in one round, at most.
+const READS: usize = 4;
+
 /// Writes of a link in one round, at most. The reads of the other links bring no more octets, so what goes on from them
 /// to one link doesn't pile up while its socket takes it.
 const WRITES: usize = 64;
@@ -199,8 +202,8 @@ impl LinkSocket {
         self.next_try = now.saturating_add(Duration::from_secs(seconds));
     }
 
-    /// Makes one read, to the front of the buffer, and hands in what came. So each link has as many octets of a round
-    /// as the buffer has, and none holds up the others. If something came, the next wait for a try is the first one
+    /// Makes a few reads, to the front of the buffer, and hands in what came. So each link has as many octets of a round
+    /// as these reads bring, and none holds up the others. If something came, the next wait for a try is the first one
     /// again.
     pub(crate) fn read<W: Sink, U: Watch>(
         &mut self,
@@ -209,13 +212,15 @@ impl LinkSocket {
         log: &mut Log<'_, W>,
         user: &mut U,
     ) {
-        let Some(connection) = &mut self.connection else {
-            return;
-        };
-        match connection.read(buffer, node, log, user) {
-            Transfer::Some => self.retry.start_again(),
-            Transfer::None => {}
-            Transfer::Over(why) => self.end(why, node, log),
+        for _ in 0..READS {
+            let Some(connection) = &mut self.connection else {
+                return;
+            };
+            match connection.read(buffer, node, log, user) {
+                Transfer::Some => self.retry.start_again(),
+                Transfer::None => return,
+                Transfer::Over(why) => return self.end(why, node, log),
+            }
         }
     }
 
