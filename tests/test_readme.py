@@ -6,7 +6,7 @@ import unittest
 from pathlib import Path
 
 README = Path(__file__).resolve().parent.parent / "README.md"
-LINES = 160
+LINES = 150
 MEAN_WORDS = 16
 LONG_WORDS = 30
 LONG_OF = 10
