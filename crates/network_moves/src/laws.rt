@@ -77,7 +77,7 @@ pub fn each_message_is_accounted_for()
 /// The second half of the node law, of a group of nodes that keeps to itself, whatever else the others do. It keeps to
 /// itself if its nodes put what concerns it (user messages for it, and orders and answers about the links between its
 /// nodes) on links between its nodes alone. After every list of moves from the first network on, while no node of the
-/// group is broken, though others may be, start again, and put anything in flight that speaks for nobody else: of any
+/// group is broken, though others may be, start again, and put anything in flight that speaks for nobody of it: of any
 /// kind of user messages for the group, as many came in at each of its nodes as ended there; came from it to a node of
 /// the group by a link; wait, at the node or on such a link; or are gone. And no more are gone than its notices of loss
 /// name.

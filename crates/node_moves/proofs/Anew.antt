@@ -6,7 +6,7 @@ use Rattle.node_moves.proofs.Grown.{IsUnraised, same-grown}
 use Rattle.node_moves.proofs.Reading.{says_of}
 use Rattle.node_moves.proofs.Flights.{changed-here, changed-other}
 use Rattle.node_moves.proofs.Running.{first-shown}
-use Rattle.node_moves.proofs.Closed.{either-true, each-true, is_one_of, for_one_of, hop_points, are-hop, stays-between}
+use Rattle.node_moves.proofs.Closed.{either-true, each-true, is_one_of, for_one_of, hop_points, are-hop, hop-outside, stays-between}
 use Rattle.node_moves.proofs.Hops.{near-in, far-in, led, comes-by}
 use Rattle.node_moves.proofs.Everywhere.{IsKept, IsSameNode, one-step}
 use Rattle.node_moves.proofs.Changes.{SpareAll, nobody, spares-nobody, AreAt, at-after, Comes, ChangeGoes, all-changes}
@@ -78,15 +78,15 @@ none-managed c holds (m ∷ ms) e =
 
 module _ (settings : (point : ℕ) → Configuration) (near far : ℕ) where
   -- what comes from outside changes nothing but what is in flight
-  put-same : (c : Configuration) (link : ℕ) (text : List ℕ) (r : Result FrameValue FrameFault) (x : NetworkNode) → IsSameNode x (put_in c link text r x)
-  put-same c link text (Ok (StatusFrame bsn fsn status)) x = record { node = refl; submitted = refl; came = refl; accepted = refl; made = refl; named = refl }
-  put-same c link text (Ok (EmptyFrame bsn fsn)) x = record { node = refl; submitted = refl; came = refl; accepted = refl; made = refl; named = refl }
-  put-same c link text (Ok (MessageFrame bsn fsn sio sif)) x = by (may_come c link (record { sio = sio; sif = sif }))
+  put-same : (link : ℕ) (text : List ℕ) (r : Result FrameValue FrameFault) (x : NetworkNode) → IsSameNode x (put_in settings link text r x)
+  put-same link text (Ok (StatusFrame bsn fsn status)) x = record { node = refl; submitted = refl; came = refl; accepted = refl; made = refl; named = refl }
+  put-same link text (Ok (EmptyFrame bsn fsn)) x = record { node = refl; submitted = refl; came = refl; accepted = refl; made = refl; named = refl }
+  put-same link text (Ok (MessageFrame bsn fsn sio sif)) x = by (may_come settings (record { sio = sio; sif = sif }))
     where
       by : (b : Bool) → IsSameNode x (if b then record x { user_data = updated x.user_data link (x.user_data link ++ text ∷ []) } else x)
       by true = record { node = refl; submitted = refl; came = refl; accepted = refl; made = refl; named = refl }
       by false = record { node = refl; submitted = refl; came = refl; accepted = refl; made = refl; named = refl }
-  put-same c link text (Err fault) x = record { node = refl; submitted = refl; came = refl; accepted = refl; made = refl; named = refl }
+  put-same link text (Err fault) x = record { node = refl; submitted = refl; came = refl; accepted = refl; made = refl; named = refl }
 
   outside-keeps : (P : Configuration → NetworkNode → Type 0) → IsKept P → (y : ℕ) (w : NetworkState) (point : ℕ) (b : Bool) (f : NetworkNode → NetworkNode) → ((x : NetworkNode) → IsSameNode x (f x)) → P (settings y) (w.node y)
       → P (settings y) ((if b then changed point f w else w).node y)
@@ -113,7 +113,7 @@ module _ (settings : (point : ℕ) → Configuration) (near far : ℕ) where
       (outside-keeps (λ c x. HasCounted before.node.parts x) (counted-kept before.node.parts) y w point (leads_out settings point link) (be_led link) (λ x. record { node = refl; submitted = refl; came = refl; accepted = refl; made = refl; named = refl }) k)
   counted-after y before (ComesOutside point link text ∷ changes) e h w k =
       counted-after y before changes e h.1 (after_change settings (ComesOutside point link text) w)
-      (outside-keeps (λ c x. HasCounted before.node.parts x) (counted-kept before.node.parts) y w point (leads_out settings point link) (put_in (settings point) link text (read_frame text)) (put-same (settings point) link text (read_frame text)) k)
+      (outside-keeps (λ c x. HasCounted before.node.parts x) (counted-kept before.node.parts) y w point (leads_out settings point link) (put_in settings link text (read_frame text)) (put-same link text (read_frame text)) k)
   counted-after y before (Restarts point ∷ changes) e h w k =
       counted-after y before changes e h.1 (after_change settings (Restarts point) w)
       (subst (HasCounted before.node.parts) (sym (changed-other point (restarted (settings point)) w y (others-apart y e point h.0))) k)
@@ -142,7 +142,7 @@ module _ (settings : (point : ℕ) → Configuration) (near far : ℕ) where
       (outside-keeps P kept y w point (leads_out settings point link) (be_led link) (λ x. record { node = refl; submitted = refl; came = refl; accepted = refl; made = refl; named = refl }) k)
   changes-keep P kept again y (ComesOutside point link text ∷ changes) w k =
       changes-keep P kept again y changes (after_change settings (ComesOutside point link text) w)
-      (outside-keeps P kept y w point (leads_out settings point link) (put_in (settings point) link text (read_frame text)) (put-same (settings point) link text (read_frame text)) k)
+      (outside-keeps P kept y w point (leads_out settings point link) (put_in settings link text (read_frame text)) (put-same link text (read_frame text)) k)
 
   -- at each node, whatever is done
   pub capped-after : (y : ℕ) (changes : List Change) (w : NetworkState) → IsCapped (w.node y) → IsCapped ((after_changes settings changes w).node y)
@@ -182,7 +182,7 @@ module _ (settings : (point : ℕ) → Configuration) (t : ArePlaced settings) (
 
   abbrev reached : Comes settings t (hop_points near far) (are-hop near far) nobody no-nodes (first_network settings) quiet.first_network start
   reached =
-      (all-changes settings t (hop_points near far) (are-hop near far) nobody no-nodes before (spares-nobody before) (first_network settings)).goes quiet.first_network at-first
+      (all-changes settings t (hop_points near far) (are-hop near far) nobody no-nodes (hop-outside settings near far fn ff) before (spares-nobody before) (first_network settings)).goes quiet.first_network at-first
       (first-shown settings t (hop_points near far) (are-hop near far))
 
   abbrev p : Network
@@ -200,7 +200,7 @@ module _ (settings : (point : ℕ) → Configuration) (t : ArePlaced settings) (
   at-begun x fx = record { lasts = begun-lasts (hop_points near far) p (at-p x fx).lasts; led = (at-p x fx).led }
 
   abbrev since : ChangeGoes settings t (hop_points near far) (are-hop near far) (is_one_of near far) two-nodes (begun_anew start) now
-  since = all-changes settings t (hop_points near far) (are-hop near far) (is_one_of near far) two-nodes changes (others-spared near far changes others) (begun_anew start)
+  since = all-changes settings t (hop_points near far) (are-hop near far) (is_one_of near far) two-nodes (hop-outside settings near far fn ff) changes (others-spared near far changes others) (begun_anew start)
 
   abbrev goes_on : Comes settings t (hop_points near far) (are-hop near far) (is_one_of near far) two-nodes (begun_anew start) (begun p) now
   goes_on = since.goes (begun p) at-begun (begun-shown settings t start p reached.shown)

@@ -53,7 +53,7 @@ module _ (settings : (point : ℕ) → Configuration) where
       if leads_out settings point link then changed point (be_led link) w else w
   after_change (ComesOutside point link text) w =
       if leads_out settings point link
-      then changed point (put_in (settings point) link text (read_frame text)) w
+      then changed point (put_in settings link text (read_frame text)) w
       else w
 
   abbrev pub after_changes : List Change → NetworkState → NetworkState

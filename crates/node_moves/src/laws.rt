@@ -97,8 +97,9 @@ pub fn messages_come_over_a_hop()
 /// neither of the two counts a possible loss, each that it accepted came or waits, and none twice. It is so in both
 /// directions. At first nothing is left between any two nodes. `messages_come_over_a_hop` is the law from there on,
 /// where no node starts again and no link leads out. Links may lead out of the network, to points without a node
-/// (`specs/Outside.antt`): then any frame may come by them whose order or answer, if it has one, is about that link and
-/// from its other end.
+/// (`specs/Outside.antt`): then any frame may come by them whose message has at most 272 octets, and which carries no
+/// changeover order or acknowledgement from a node to a node, and no emergency one. So a neighbour outside may send its
+/// own by another link of the set, about one that failed (Q.704 §5.4).
 pub fn hops_begin_anew()
     ensures once { hops_begin_anew }
     ensures flags { nothing_is_lost_anew }
