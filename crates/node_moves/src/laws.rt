@@ -21,7 +21,7 @@ ghost use Rattle.node_moves.specs.MatedRun.{ComesByTheMate};
 ghost use Rattle.node_moves.specs.NetworkAnew.{ends_begin_anew, first_networks_are_quiet, nodes_begin_anew};
 ghost use Rattle.node_moves.specs.NetworkAnew.{nodes_lose_nothing_anew, nothing_is_lost_from_end_to_end_anew};
 ghost use Rattle.node_moves.specs.NetworkAnew.{sums_begin_anew};
-ghost use Rattle.node_moves.specs.Possible.{links_may_fail, statuses_may_be_harmed};
+ghost use Rattle.node_moves.specs.Possible.{links_may_fail, outside_may_say_anything_else, statuses_may_be_harmed};
 
 /// The node law. While no node is broken: of user messages, by any test, those that came from a node to its neighbours
 /// and those that wait there, in Held or on a link, are together no more than it accepted. So a message that it
@@ -155,10 +155,13 @@ pub fn a_message_comes_anew()
     ensures { BeginsAnew }
 {}
 
-/// The laws ask this little of links. On a link of a node the next link status in flight may be lost, or come twice.
-/// The association of a link may be lost at any moment, and a tick may pass; the exchange of the node then does what
-/// the rules say.
+/// The laws ask this little of links, and of points outside. On a link of a node the next link status in flight may be
+/// lost, or come twice. The association of a link may be lost at any moment, and a tick may pass; the exchange of the
+/// node then does what the rules say. A link that leads out may open at its other end at any moment, and the node may
+/// follow. Any link status may come by it, and any User Data; but no message of more than 272 octets, no changeover
+/// order or acknowledgement from a node to a node or with a number of more than 24 bits, and no emergency one.
 pub fn the_worst_may_happen()
     ensures statuses { statuses_may_be_harmed }
     ensures links { links_may_fail }
+    ensures outside { outside_may_say_anything_else }
 {}
