@@ -64,3 +64,5 @@ pub mod NetworkAnew
 pub mod EachFate
 pub mod HopRun
 pub mod AnewRun
+pub mod Beside
+pub mod OutsideRun

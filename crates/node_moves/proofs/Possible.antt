@@ -4,12 +4,11 @@ use Rattle.node_moves.proofs.Definitions.{Configuration, Message, Management, Mg
 use Rattle.node_moves.proofs.Closed.{both-true}
 use Rattle.node_moves.proofs.Flights.{changed-here, updated-here}
 use Rattle.node_moves.specs.Networks.{NetworkNode, NetworkState, IsNode, DoublesStatus, Loses, LosesStatus, Ticks, after_step, changed, did_here, next_in, with_statuses}
-use Rattle.node_moves.specs.Anew.{OpensOutside, ComesOutside, after_change}
+use Rattle.node_moves.specs.Anew.{ComesOutside, after_change}
 use Rattle.node_moves.specs.Networks.{be_led, is_node, updated}
 use Rattle.node_moves.specs.Outside.{is_from_outside, leads_out, may_come, put_in, speaks_for_itself}
 use Rattle.node_moves.specs.Possible.{IsFromOutside, MayBeSaid, MayComeFromOutside, links_may_fail, outside_may_say_anything_else, statuses_may_be_harmed}
 use Rattle.m2pa_codec.specs.Frames.{FrameValue, EmptyFrame, MessageFrame, StatusFrame, read_frame}
-use Rattle.m2pa_codec.specs.declared.status.LinkStatus.{LinkStatus}
 use Rattle.mtp3_codec.specs.declared.management.Management.TheVariants as says
 use Rattle.signalling_types.specs.declared.limits.TheConstants.Limits.{SIF_OCTETS}
 use Rattle.signalling_types.specs.declared.notice.FrameFault.{FrameFault}

@@ -13,4 +13,5 @@ pub mod Outside
 pub mod Anew
 pub mod EachFate
 pub mod AnewRun
+pub mod OutsideRun
 pub mod NetworkAnew
