@@ -66,3 +66,4 @@ pub mod HopRun
 pub mod AnewRun
 pub mod Beside
 pub mod OutsideRun
+pub mod NetworkAnewRun

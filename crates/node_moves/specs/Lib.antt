@@ -15,3 +15,4 @@ pub mod EachFate
 pub mod AnewRun
 pub mod OutsideRun
 pub mod NetworkAnew
+pub mod NetworkAnewRun

@@ -21,6 +21,7 @@ ghost use Rattle.node_moves.specs.MatedRun.{ComesByTheMate};
 ghost use Rattle.node_moves.specs.NetworkAnew.{ends_begin_anew, first_networks_are_quiet, nodes_begin_anew};
 ghost use Rattle.node_moves.specs.NetworkAnew.{nodes_lose_nothing_anew, nothing_is_lost_from_end_to_end_anew};
 ghost use Rattle.node_moves.specs.NetworkAnew.{sums_begin_anew};
+ghost use Rattle.node_moves.specs.NetworkAnewRun.{NetworkBeginsAnew};
 ghost use Rattle.node_moves.specs.OutsideRun.{ComesByAnotherLink};
 ghost use Rattle.node_moves.specs.Possible.{links_may_fail, outside_may_say_anything_else, statuses_may_be_harmed};
 
@@ -156,7 +157,14 @@ pub fn a_message_comes_anew()
     ensures { BeginsAnew }
 {}
 
-/// What comes from outside doesn't end it. Of two nodes that are a hop, a set of two links leads from the one to a point
+/// Nor are those of whole networks anew. Of the same four nodes, each starts again while a message waits at one of them.
+/// It is gone, and nobody names it. Then nothing is left at any node: all links open again, and the next message comes,
+/// once. No node counts a break or a possible loss since.
+pub fn a_network_begins_anew()
+    ensures { NetworkBeginsAnew }
+{}
+
+/// What comes from outside doesn't end the law of hops. Of two nodes that are a hop, a set of two links leads from the one to a point
 /// without a node. One of these fails, and the node awaits the answer to its order. The order and the answer of the
 /// point outside come by the other link (Q.704 §5.4); so the changeover is complete, and the link may open again.
 /// Neither node counts a break or a possible loss, and a message from the one to the other comes, once.
