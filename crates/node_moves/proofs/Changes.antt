@@ -12,6 +12,7 @@ use Rattle.node_moves.proofs.Flights.{IsSameFlight, changed-here, changed-other,
 use Rattle.node_moves.proofs.World.{IsFlown, AreData, AreStatuses, IsData, IsStatus, Shown, rests, place_at}
 use Rattle.node_moves.proofs.Steps.{StepGoes, Reaches}
 use Rattle.node_moves.proofs.Running.{all-steps}
+use Rattle.node_moves.proofs.Malformed.{malformed-step}
 use Rattle.node_moves.proofs.FromOutside.{Comes_so, data-more, statuses-more, speaks-own, outside_of, outside-move, outside-broken, outside-shown}
 use Rattle.node_moves.proofs.StartedAgain.{after, restart-shown, restart-move, restart-broken}
 use Rattle.node_moves.proofs.GivenUp as given
@@ -242,7 +243,7 @@ module _ (settings : (point : ℕ) → Configuration) (t : ArePlaced settings) (
             (cases_eq y x)
 
     text-outside : KnowsOutside settings shape → (w : NetworkState) (x link : ℕ) (text : List ℕ) (r : Result FrameValue FrameFault) → read_frame text ≡ r → IsNode settings x → link < length (settings x).links
-        → is_node settings (peer_of (settings x) link) ≡ false → ChangeGoes w (changed x (put_in settings link text r) w)
+        → is_node settings (peer_of (settings x) link) ≡ false → ChangeGoes w (changed x (put_in settings x link text r) w)
     text-outside known w x link text (Ok (StatusFrame bsn fsn status)) e fx inside out = status-outside w x link text fx inside out (record { value = StatusFrame bsn fsn status; reads = e; status = refl })
     text-outside known w x link text (Ok (EmptyFrame bsn fsn)) e fx inside out =
         data-outside w x link text (machine.EmptyFrame fsn bsn) fx inside out (record { value = EmptyFrame bsn fsn; reads = e; carries = refl }) refl
@@ -254,7 +255,7 @@ module _ (settings : (point : ℕ) → Configuration) (t : ArePlaced settings) (
             data-outside w x link text (machine.MessageFrame fsn bsn (record { sio = sio; sif = sif })) fx inside out (record { value = MessageFrame bsn fsn sio sif; reads = e; carries = refl })
             (let own : one_if (saying says_of (speaks_for_others shape (place_at settings t x link).link) (record { sio = sio; sif = sif })) ≡ 0 = speaks-own settings shape o known (place_at settings t x link).link (record { sio = sio; sif = sif }) may in omega (arith, own))
         by false may = unmoved w x
-    text-outside known w x link text (Err fault) e fx inside out = unmoved w x
+    text-outside known w x link text (Err fault) e fx inside out = by-step w _ (malformed-step settings t shape o w x link fx inside text fault e)
 
     -- where a link leads out
     if-out : (w : NetworkState) (x link : ℕ) (v : NetworkState) → (IsNode settings x → link < length (settings x).links → is_node settings (peer_of (settings x) link) ≡ false → ChangeGoes w v)
@@ -290,7 +291,7 @@ module _ (settings : (point : ℕ) → Configuration) (t : ArePlaced settings) (
     one-change known (GivesUp point link) spared w = by-giving-up w point link spared
     one-change known (OpensOutside point link) spared w = if-out w point link (changed point (be_led link) w) (opens-outside w point link)
     one-change known (ComesOutside point link text) spared w =
-        if-out w point link (changed point (put_in settings link text (read_frame text)) w) (text-outside known w point link text (read_frame text) refl)
+        if-out w point link (changed point (put_in settings point link text (read_frame text)) w) (text-outside known w point link text (read_frame text) refl)
 
     pub all-changes : KnowsOutside settings shape → (changes : List Change) → SpareAll kept changes → (w : NetworkState) → ChangeGoes w (after_changes settings changes w)
     all-changes known [] spared w = no-change w

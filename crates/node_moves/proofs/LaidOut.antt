@@ -183,7 +183,7 @@ module _ (settings : (point : ℕ) → Configuration) where
   change_in (Restarts point) t = changed_at point (restarted (settings point)) t
   change_in (GivesUp point link) t = changed_at point (given_up link) t
   change_in (OpensOutside point link) t = if_in (leads_out settings point link) point (be_led link) t
-  change_in (ComesOutside point link text) t = if_in (leads_out settings point link) point (put_in settings link text (read_frame text)) t
+  change_in (ComesOutside point link text) t = if_in (leads_out settings point link) point (put_in settings point link text (read_frame text)) t
 
   if-is : (b : Bool) (point : ℕ) (f : NetworkNode → NetworkNode) (t : Four) → (if b then changed point f (network_of t) else network_of t) ≡ network_of (if_in b point f t)
   if-is true point f t = changed-is f t point
@@ -194,7 +194,7 @@ module _ (settings : (point : ℕ) → Configuration) where
   change-is (Restarts point) t = changed-is (restarted (settings point)) t point
   change-is (GivesUp point link) t = changed-is (given_up link) t point
   change-is (OpensOutside point link) t = if-is (leads_out settings point link) point (be_led link) t
-  change-is (ComesOutside point link text) t = if-is (leads_out settings point link) point (put_in settings link text (read_frame text)) t
+  change-is (ComesOutside point link text) t = if-is (leads_out settings point link) point (put_in settings point link text (read_frame text)) t
 
   abbrev pub changes_in : List Change → Four → Four
   changes_in [] t = t

@@ -28,6 +28,7 @@ pub mod Steps
 pub mod Coming
 pub mod Data
 pub mod Handing
+pub mod Malformed
 pub mod BothEnds
 pub mod Opening
 pub mod Outgoing

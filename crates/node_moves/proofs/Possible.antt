@@ -108,8 +108,8 @@ module _ (settings : (point : ℕ) → Configuration) where
     at-there : (f : NetworkNode → NetworkNode) → (if leads_out settings point link then changed point f w else w).node point ≡ f x
     at-there f = ap (λ (b : Bool). (if b then changed point f w else w).node point) out ∙ changed-here point f w
 
-    put-so : (text : List ℕ) (r : Result FrameValue FrameFault) → read_frame text ≡ r → (after_change settings (ComesOutside point link text) w).node point ≡ put_in settings link text r x
-    put-so text r e = at-there (put_in settings link text (read_frame text)) ∙ ap (λ (q : Result FrameValue FrameFault). put_in settings link text q x) e
+    put-so : (text : List ℕ) (r : Result FrameValue FrameFault) → read_frame text ≡ r → (after_change settings (ComesOutside point link text) w).node point ≡ put_in settings point link text r x
+    put-so text r e = at-there (put_in settings point link text (read_frame text)) ∙ ap (λ (q : Result FrameValue FrameFault). put_in settings point link text q x) e
 
     pub outside-may : MayComeFromOutside settings w point link
     outside-may = record {
@@ -120,6 +120,7 @@ module _ (settings : (point : ℕ) → Configuration) where
           ap (λ (y : NetworkNode). y.user_data link) (put-so text (Ok (MessageFrame bsn fsn sio sif)) e)
           ∙ ap (λ (b : Bool). (if b then record x { user_data = updated x.user_data link (x.user_data link ++ text ∷ []) } else x).user_data link) (comes-so (record { sio = sio; sif = sif }) h)
           ∙ updated-here x.user_data link (x.user_data link ++ text ∷ []);
+      malformed = λ text fault e. ap (λ (y : NetworkNode). y.node) (put-so text (Err fault) e);
     }
 
 pub may-come : outside_may_say_anything_else

@@ -6,13 +6,14 @@ use Rattle.signalling_types.specs.declared.limits.TheConstants.Limits.{SIF_OCTET
 use Rattle.settings.specs.Configuration.{Configuration}
 use Rattle.settings.specs.Well.{IsWell}
 use Rattle.exchange_rules.specs.Routing.{peer_of}
+use Rattle.exchange_rules.specs.State.{FrameCame}
 use Rattle.m2pa_codec.specs.Frames.{FrameValue, EmptyFrame, MessageFrame, StatusFrame}
 use Rattle.signalling_types.specs.declared.notice.FrameFault.{FrameFault}
 use Rattle.mtp3_codec.specs.Management.{read_management}
 use Rattle.mtp3_codec.specs.declared.fault.MgmtFault.{MgmtFault}
 use Rattle.mtp3_codec.specs.declared.management.Management.{Management}
 use Rattle.mtp3_codec.specs.declared.management.Management.TheVariants as says
-use Rattle.node_moves.specs.Networks.{NetworkNode, IsNode, is_node, other_end, updated}
+use Rattle.node_moves.specs.Networks.{NetworkNode, IsNode, happens, is_node, other_end, updated}
 
 -- each node is at its point, and its settings are checked; and each of its links that leads to a node has its other end
 -- there. The others lead out
@@ -60,14 +61,15 @@ module _ (settings : (point : ℕ) → Configuration) where
       not (nat_lt SIF_OCTETS (length m.sif))
       && (not (nat_eq (service_indicator m) 0) || speaks_for_itself m (read_management m.sif))
 
-  -- such a frame is in flight to the node on a link, whatever its numbers; no text that is no frame
-  abbrev pub put_in : (link : ℕ) → List ℕ → Result FrameValue FrameFault → NetworkNode → NetworkNode
-  put_in link text (Ok (StatusFrame bsn fsn status)) x =
+  -- such a frame is in flight to the node at a point on a link, whatever its numbers. A text that is no frame is handed
+  -- in at once
+  abbrev pub put_in : (point link : ℕ) → List ℕ → Result FrameValue FrameFault → NetworkNode → NetworkNode
+  put_in point link text (Ok (StatusFrame bsn fsn status)) x =
       record x { statuses = updated x.statuses link (x.statuses link ++ text ∷ []) }
-  put_in link text (Ok (EmptyFrame bsn fsn)) x =
+  put_in point link text (Ok (EmptyFrame bsn fsn)) x =
       record x { user_data = updated x.user_data link (x.user_data link ++ text ∷ []) }
-  put_in link text (Ok (MessageFrame bsn fsn sio sif)) x =
+  put_in point link text (Ok (MessageFrame bsn fsn sio sif)) x =
       if may_come (record { sio = sio; sif = sif })
       then record x { user_data = updated x.user_data link (x.user_data link ++ text ∷ []) }
       else x
-  put_in link text (Err fault) x = x
+  put_in point link text (Err fault) x = happens (settings point) (FrameCame link text) x

@@ -1,14 +1,15 @@
 -- What is promised of a network is promised against this: what the links between its nodes may do, and points outside.
-use Rattle.std.specs.Prelude.{◌≡◌, ◌<◌, ◌≤◌, ◌^◌, ℕ, true, List, [], ◌∷◌, ◌++◌, length, Ok}
+use Rattle.std.specs.Prelude.{◌≡◌, ◌<◌, ◌≤◌, ◌^◌, ℕ, true, List, [], ◌∷◌, ◌++◌, length, Ok, Err}
 use Rattle.signalling_types.specs.Message.{Message, dpc_of, opc_of, service_indicator}
 use Rattle.signalling_types.specs.declared.limits.TheConstants.Limits.{SIF_OCTETS}
 use Rattle.settings.specs.Configuration.{Configuration}
 use Rattle.exchange_rules.specs.Routing.{peer_of}
-use Rattle.exchange_rules.specs.State.{Ticked, WentDown}
+use Rattle.exchange_rules.specs.State.{FrameCame, Ticked, WentDown}
 use Rattle.m2pa_codec.specs.Frames.{EmptyFrame, MessageFrame, StatusFrame, read_frame}
 use Rattle.m2pa_codec.specs.declared.status.LinkStatus.{LinkStatus}
 use Rattle.mtp3_codec.specs.Management.{read_management}
 use Rattle.mtp3_codec.specs.declared.management.Management.TheVariants as says
+use Rattle.signalling_types.specs.declared.notice.FrameFault.{FrameFault}
 use Rattle.node_moves.specs.Anew.{OpensOutside, ComesOutside, after_change}
 use Rattle.node_moves.specs.Networks.{NetworkState, IsNode, DoublesStatus, Loses, LosesStatus, Ticks, after_event}
 use Rattle.node_moves.specs.Networks.{after_step}
@@ -66,7 +67,8 @@ module _ (settings : (point : ℕ) → Configuration) where
         read_management m.sif ≡ Ok (says.EmergencyChangeoverAcknowledgement slc) → ⊥
 
   -- by a link to a point without a node the other end may open, and then the node may follow; and these frames may be in
-  -- flight to it: any link status, any User Data without a message, and any with a message that may be said
+  -- flight to it: any link status, any User Data without a message, and any with a message that may be said. A text that
+  -- is no frame may be handed in
   pub record MayComeFromOutside (w : NetworkState) (point link : ℕ) : Type 0 where
     pub opens : ((after_change settings (OpensOutside point link) w).node point).follows link ≡ true
     pub statuses : (text : List ℕ) (bsn fsn : ℕ) (status : LinkStatus) →
@@ -80,6 +82,9 @@ module _ (settings : (point : ℕ) → Configuration) where
         read_frame text ≡ Ok (MessageFrame bsn fsn sio sif) → MayBeSaid (record { sio = sio; sif = sif }) →
         ((after_change settings (ComesOutside point link text) w).node point).user_data link
         ≡ (w.node point).user_data link ++ text ∷ []
+    pub malformed : (text : List ℕ) (fault : FrameFault) → read_frame text ≡ Err fault →
+        ((after_change settings (ComesOutside point link text) w).node point).node
+        ≡ after_event (settings point) (FrameCame link text) (w.node point)
 
 abbrev pub outside_may_say_anything_else : Type 0
 outside_may_say_anything_else =

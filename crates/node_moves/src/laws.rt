@@ -99,9 +99,9 @@ pub fn messages_come_over_a_hop()
 /// neither of the two counts a possible loss, each that it accepted came or waits, and none twice. It is so in both
 /// directions. At first nothing is left between any two nodes. `messages_come_over_a_hop` is the law from there on,
 /// where no node starts again and no link leads out. Links may lead out of the network, to points without a node
-/// (`specs/Outside.antt`): then any frame may come by them whose message has at most 272 octets, and which carries no
-/// changeover order or acknowledgement from a node to a node, and no emergency one. So a neighbour outside may send its
-/// own by another link of the set, about one that failed (Q.704 §5.4).
+/// (`specs/Outside.antt`): then any frame may come by them, also one that can't be read, unless its message has more
+/// than 272 octets, or is a changeover order or acknowledgement from a node to a node, or an emergency one. So a
+/// neighbour outside may send its own by another link of the set, about one that failed (Q.704 §5.4).
 pub fn hops_begin_anew()
     ensures once { hops_begin_anew }
     ensures flags { nothing_is_lost_anew }
@@ -175,8 +175,9 @@ pub fn an_order_comes_by_another_link()
 /// The laws ask this little of links, and of points outside. On a link of a node the next link status in flight may be
 /// lost, or come twice. The association of a link may be lost at any moment, and a tick may pass; the exchange of the
 /// node then does what the rules say. A link that leads out may open at its other end at any moment, and the node may
-/// follow. Any link status may come by it, and any User Data; but no message of more than 272 octets, no changeover
-/// order or acknowledgement from a node to a node or with a number of more than 24 bits, and no emergency one.
+/// follow. Any link status may come by it, any User Data, and what can't be read; but no message of more than 272
+/// octets, no changeover order or acknowledgement from a node to a node or with a number of more than 24 bits, and no
+/// emergency one.
 pub fn the_worst_may_happen()
     ensures statuses { statuses_may_be_harmed }
     ensures links { links_may_fail }
