@@ -3,7 +3,7 @@ use Rattle.network_moves.proofs.Basics.{◌≡◌, ◌≢◌, ℕ, Bool, true, f
 use Rattle.network_moves.proofs.Definitions.{Message, Near, Far, Saying, UserMessage, Order, Answer, Other, one_if, LinkEnd, Line, Node, Network, Shape, Place, line_at, point_at, node_at, Gone, MayOpen, with_wait, with_completion, opened_first, opened_second, with_service, closed_line, OpensFirst, OpensSecond, Enters, Breaks, ReleasesBar, HearsUnreasonableOrder, HearsUnreasonableAnswer}
 use Rattle.network_moves.specs.Returning.{GivesUpFollowing, Strays, StartsAgain, restarted, strayed, unled}
 use Rattle.network_moves.specs.Groups.{KeepsToItself, says_of_group}
-use Rattle.network_moves.specs.Networks.{leads_out, speaks_for_others}
+use Rattle.network_moves.specs.Networks.{leads_out, spoofs}
 use Rattle.network_moves.specs.Sayings.{saying}
 use Rattle.network_moves.specs.Moves as moves
 use Rattle.std.proofs.lemmas.Bool.{eqb-true}
@@ -159,7 +159,7 @@ module _ (shape : Shape) (read : Message → Saying) (group : ℕ → Bool) (for
 
   -- so a word about one speaks for others
   said-within : KeepsToItself shape read group for_group → (link : ℕ) → within shape read group for_group link ≡ false → (for_it : Bool) (s : Saying)
-      → one_if (says_of_group shape read group for_group (false && for_it) s) ≤ one_if (speaks_for_others shape link s)
+      → one_if (says_of_group shape read group for_group (false && for_it) s) ≤ one_if (spoofs shape link s)
   said-within c link out for_it UserMessage = omega arith
   said-within c link out for_it (Order about maker number) = about-by c link out about (not (nat_lt number (2 ^ 24))) (within shape read group for_group about) refl
   said-within c link out for_it (Answer about maker number) = about-by c link out about (not (nat_lt number (2 ^ 24))) (within shape read group for_group about) refl
@@ -179,7 +179,7 @@ module _ (shape : Shape) (read : Message → Saying) (group : ℕ → Bool) (for
               l.to_far,
               m.fewer gone,
               frames-append gone m.left m.new,
-              frames-fewer gone (saying read (speaks_for_others shape m.place.link)) (λ x. said-within c m.place.link out (for_group x) (read x)) m.new,
+              frames-fewer gone (saying read (spoofs shape m.place.link)) (λ x. said-within c m.place.link out (for_group x) (read x)) m.new,
             );
         to_near = refl;
       })

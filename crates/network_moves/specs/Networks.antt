@@ -124,13 +124,13 @@ leads_out shape link = shape.outside (shape.point link Near) || shape.outside (s
 
 -- a word that comes by this link is about another one, of which no end is outside; or it has a number that no message
 -- has: these have 24 bits. (A word about a link that leads out may come by any, Q.704 §5.4)
-abbrev pub speaks_for_others : Shape → (link : ℕ) → Saying → Bool
-speaks_for_others shape link UserMessage = false
-speaks_for_others shape link (Order about maker number) =
+abbrev pub spoofs : Shape → (link : ℕ) → Saying → Bool
+spoofs shape link UserMessage = false
+spoofs shape link (Order about maker number) =
     (not (nat_eq about link) && not (leads_out shape about)) || not (nat_lt number (2 ^ 24))
-speaks_for_others shape link (Answer about maker number) =
+spoofs shape link (Answer about maker number) =
     (not (nat_eq about link) && not (leads_out shape about)) || not (nat_lt number (2 ^ 24))
-speaks_for_others shape link Other = false
+spoofs shape link Other = false
 
 -- ---- what the near end's messages are
 

@@ -22,7 +22,7 @@ use Rattle.node_moves.specs.Networks.{NetworkNode, NetworkState, IsNode, be_led,
 use Rattle.m2pa_codec.specs.Frames.{FrameValue, EmptyFrame, MessageFrame, StatusFrame, read_frame}
 use Rattle.signalling_types.specs.declared.notice.FrameFault.{FrameFault}
 use Rattle.network_moves.proofs.Lasting.{lasts-after}
-use Rattle.network_moves.specs.Networks.{frames_by, speaks_for_others}
+use Rattle.network_moves.specs.Networks.{frames_by, spoofs}
 
 -- changes by which none of these nodes starts again, or gives up following
 abbrev pub Spares : (kept : ℕ → Bool) → Change → Type 0
@@ -175,7 +175,7 @@ module _ (settings : (point : ℕ) → Configuration) (t : ArePlaced settings) (
 
     -- User Data
     data-outside : (w : NetworkState) (x link : ℕ) (text : List ℕ) (frame : Frame) → IsNode settings x → link < length (settings x).links → is_node settings (peer_of (settings x) link) ≡ false → IsData text frame
-        → frames_by (saying says_of (speaks_for_others shape (place_at settings t x link).link)) (frame ∷ []) ≡ 0
+        → frames_by (saying says_of (spoofs shape (place_at settings t x link).link)) (frame ∷ []) ≡ 0
         → ChangeGoes w (changed x (λ e. record e { user_data = updated e.user_data link (e.user_data link ++ text ∷ []) }) w)
     data-outside w x link text frame fx inside out is own = by-outside w x link (λ e. record e { user_data = updated e.user_data link (e.user_data link ++ text ∷ []) }) fx inside out refl (λ p s.
         let y : Line = line_at p (place_at settings t x link) in
@@ -253,7 +253,7 @@ module _ (settings : (point : ℕ) → Configuration) (t : ArePlaced settings) (
             → ChangeGoes w (changed x (λ q. if b then record q { user_data = updated q.user_data link (q.user_data link ++ text ∷ []) } else q) w)
         by true may =
             data-outside w x link text (machine.MessageFrame fsn bsn (record { sio = sio; sif = sif })) fx inside out (record { value = MessageFrame bsn fsn sio sif; reads = e; carries = refl })
-            (let own : one_if (saying says_of (speaks_for_others shape (place_at settings t x link).link) (record { sio = sio; sif = sif })) ≡ 0 = speaks-own settings shape o known (place_at settings t x link).link (record { sio = sio; sif = sif }) may in omega (arith, own))
+            (let own : one_if (saying says_of (spoofs shape (place_at settings t x link).link) (record { sio = sio; sif = sif })) ≡ 0 = speaks-own settings shape o known (place_at settings t x link).link (record { sio = sio; sif = sif }) may in omega (arith, own))
         by false may = unmoved w x
     text-outside known w x link text (Err fault) e fx inside out = by-step w _ (malformed-step settings t shape o w x link fx inside text fault e)
 

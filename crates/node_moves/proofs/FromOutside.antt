@@ -11,11 +11,11 @@ use Rattle.node_moves.proofs.Flights.{IsSameFlight, same-flight, changed-here, c
 use Rattle.node_moves.proofs.Closed.{each-true}
 use Rattle.node_moves.proofs.Ending.{peer-at}
 use Rattle.node_moves.specs.Networks.{Fate, NetworkNode, NetworkState, IsNode, is_node, changed, messages_of}
-use Rattle.node_moves.specs.Outside.{ArePlaced, is_from_outside, speaks_for_itself, may_come}
+use Rattle.node_moves.specs.Outside.{ArePlaced, is_from_outside, spoofs_nobody, may_come}
 use Rattle.exchange_rules.proofs.MadeManagement.{adjacent-fits}
 use Rattle.mtp3_codec.specs.declared.management.Management.TheVariants as says
 use Rattle.network_moves.specs.Moves as moves
-use Rattle.network_moves.specs.Networks.{frames_by, leads_out, speaks_for_others}
+use Rattle.network_moves.specs.Networks.{frames_by, leads_out, spoofs}
 use Rattle.network_moves.specs.Returning.{strayed}
 
 -- ---- a message that may come speaks for nobody else
@@ -66,7 +66,7 @@ module _ (settings : (point : ℕ) → Configuration) (shape : Shape) (o : IsSha
         for-outside (nat_eq (place_of (opc_of m) (dpc_of m) slc).link link) (leads_out shape (place_of (opc_of m) (dpc_of m) slc).link) (nat_lt number (2 ^ 24))
         (out-between (opc_of m) (dpc_of m) slc (omega arith) (omega arith) fits two.0) two.1
 
-    word-own : (r : Result Management MgmtFault) → HasCode r → speaks_for_itself settings m r ≡ true → speaks_for_others shape link (read_says (opc_of m) (dpc_of m) r) ≡ false
+    word-own : (r : Result Management MgmtFault) → HasCode r → spoofs_nobody settings m r ≡ true → spoofs shape link (read_says (opc_of m) (dpc_of m) r) ≡ false
     word-own (Ok (says.ExtendedChangeoverOrder slc number)) h e = about-so slc number h.fits e
     word-own (Ok (says.ExtendedChangeoverAcknowledgement slc number)) h e = about-so slc number h.fits e
     word-own (Ok (says.EmergencyChangeoverOrder slc)) h e = absurd cc
@@ -90,15 +90,15 @@ module _ (settings : (point : ℕ) → Configuration) (shape : Shape) (o : IsSha
     managed-or true b e f = e
     managed-or false b e f = absurd cc
 
-    own-said : (a b d : Bool) → is_long m ≡ a → is_management m ≡ b → nat_eq (service_indicator m) testing ≡ d → may_come settings m ≡ true → speaks_for_others shape link (says_by a b d m) ≡ false
+    own-said : (a b d : Bool) → is_long m ≡ a → is_management m ≡ b → nat_eq (service_indicator m) testing ≡ d → may_come settings m ≡ true → spoofs shape link (says_by a b d m) ≡ false
     own-said true b d e f g h = (let s : (is_long m ≡ false) × _ = short-of (is_long m) _ h in let no : true ≡ false = sym e ∙ s.0 in absurd cc)
     own-said false false d e f g h = refl
     own-said false true true e f g h = refl
     own-said false true false e f g h =
         let lowest : nat_eq (service_indicator m) 0 ≡ true = grind (arith, nat_tests, f, g) in
-        word-own (read_management m.sif) (read-fits m.sif) (managed-or (nat_eq (service_indicator m) 0) (speaks_for_itself settings m (read_management m.sif)) (short-of (is_long m) _ h).1 lowest)
+        word-own (read_management m.sif) (read-fits m.sif) (managed-or (nat_eq (service_indicator m) 0) (spoofs_nobody settings m (read_management m.sif)) (short-of (is_long m) _ h).1 lowest)
 
-    pub speaks-own : may_come settings m ≡ true → one_if (saying says_of (speaks_for_others shape link) m) ≡ 0
+    pub speaks-own : may_come settings m ≡ true → one_if (saying says_of (spoofs shape link) m) ≡ 0
     unfolding says_of
     speaks-own h = none-if _ (own-said (is_long m) (is_management m) (nat_eq (service_indicator m) testing) refl refl refl h)
 
@@ -142,7 +142,7 @@ module _ (settings : (point : ℕ) → Configuration) (t : ArePlaced settings) (
     pub left : List Frame
     pub fewer : (test : Message → Bool) → frames_by test left ≤ frames_by test (line_at p its).to_near
     pub new : List Frame
-    pub own : frames_by (saying says_of (speaks_for_others shape its.link)) new ≡ 0
+    pub own : frames_by (saying says_of (spoofs shape its.link)) new ≡ 0
     pub told : ℕ
     pub follows : Bool
     pub user_data : AreData ((f (w.node x)).user_data link) (left ++ new)

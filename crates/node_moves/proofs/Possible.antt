@@ -6,7 +6,7 @@ use Rattle.node_moves.proofs.Flights.{changed-here, updated-here}
 use Rattle.node_moves.specs.Networks.{NetworkNode, NetworkState, IsNode, DoublesStatus, Loses, LosesStatus, Ticks, after_step, changed, did_here, next_in, with_statuses}
 use Rattle.node_moves.specs.Anew.{ComesOutside, after_change}
 use Rattle.node_moves.specs.Networks.{be_led, is_node, updated}
-use Rattle.node_moves.specs.Outside.{is_from_outside, leads_out, may_come, put_in, speaks_for_itself}
+use Rattle.node_moves.specs.Outside.{is_from_outside, leads_out, may_come, put_in, spoofs_nobody}
 use Rattle.node_moves.specs.Possible.{IsFromOutside, MayBeSaid, MayComeFromOutside, links_may_fail, outside_may_say_anything_else, statuses_may_be_harmed}
 use Rattle.m2pa_codec.specs.Frames.{FrameValue, EmptyFrame, MessageFrame, StatusFrame, read_frame}
 use Rattle.mtp3_codec.specs.declared.management.Management.TheVariants as says
@@ -73,7 +73,7 @@ module _ (settings : (point : ℕ) → Configuration) where
       (not-both-so (is_node settings (opc_of m)) (is_node settings (dpc_of m)) h.apart)
       (grind (arith, nat_tests, h.fits))
 
-  said-so : (m : Message) → MayBeSaid settings m → service_indicator m ≡ 0 → (r : Result Management MgmtFault) → read_management m.sif ≡ r → speaks_for_itself settings m r ≡ true
+  said-so : (m : Message) → MayBeSaid settings m → service_indicator m ≡ 0 → (r : Result Management MgmtFault) → read_management m.sif ≡ r → spoofs_nobody settings m r ≡ true
   said-so m h lowest (Ok (says.ExtendedChangeoverOrder slc number)) e = from-so m number (h.order lowest slc number e)
   said-so m h lowest (Ok (says.ExtendedChangeoverAcknowledgement slc number)) e = from-so m number (h.answer lowest slc number e)
   said-so m h lowest (Ok (says.EmergencyChangeoverOrder slc)) e = absurd (h.no_emergency_order lowest slc e)
@@ -91,9 +91,9 @@ module _ (settings : (point : ℕ) → Configuration) where
 
   comes-so : (m : Message) → MayBeSaid settings m → may_come settings m ≡ true
   comes-so m h =
-      both-true (not (nat_lt SIF_OCTETS (length m.sif))) (not (nat_eq (service_indicator m) 0) || speaks_for_itself settings m (read_management m.sif))
+      both-true (not (nat_lt SIF_OCTETS (length m.sif))) (not (nat_eq (service_indicator m) 0) || spoofs_nobody settings m (read_management m.sif))
       (grind (arith, nat_tests, h.short))
-      (if-managed (nat_eq (service_indicator m) 0) (speaks_for_itself settings m (read_management m.sif)) (λ lowest. said-so m h (eqb-true (service_indicator m) 0 lowest) (read_management m.sif) refl))
+      (if-managed (nat_eq (service_indicator m) 0) (spoofs_nobody settings m (read_management m.sif)) (λ lowest. said-so m h (eqb-true (service_indicator m) 0 lowest) (read_management m.sif) refl))
 
   module _ (w : NetworkState) (point link : ℕ) (its : IsNode settings point) (inside : link < length (settings point).links) (none : IsNode settings (peer_of (settings point) link) → ⊥) where
     out : leads_out settings point link ≡ true

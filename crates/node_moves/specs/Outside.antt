@@ -36,30 +36,29 @@ module _ (settings : (point : ℕ) → Configuration) where
   is_from_outside m number =
       not (is_node settings (opc_of m) && is_node settings (dpc_of m)) && nat_lt number (2 ^ 24)
 
-  -- so nobody outside speaks for a node to another. Nor does anybody there make an emergency changeover order, or answer
-  -- one
-  abbrev pub speaks_for_itself : Message → Result Management MgmtFault → Bool
-  speaks_for_itself m (Ok (says.ExtendedChangeoverOrder slc number)) = is_from_outside m number
-  speaks_for_itself m (Ok (says.ExtendedChangeoverAcknowledgement slc number)) = is_from_outside m number
-  speaks_for_itself m (Ok (says.EmergencyChangeoverOrder slc)) = false
-  speaks_for_itself m (Ok (says.EmergencyChangeoverAcknowledgement slc)) = false
-  speaks_for_itself m (Ok (says.ChangebackDeclaration slc code)) = true
-  speaks_for_itself m (Ok (says.ChangebackAcknowledgement slc code)) = true
-  speaks_for_itself m (Ok (says.TransferProhibited point)) = true
-  speaks_for_itself m (Ok (says.TransferRestricted point)) = true
-  speaks_for_itself m (Ok (says.TransferAllowed point)) = true
-  speaks_for_itself m (Ok (says.RouteSetTestProhibited point)) = true
-  speaks_for_itself m (Ok (says.RouteSetTestRestricted point)) = true
-  speaks_for_itself m (Ok says.TrafficRestartAllowed) = true
-  speaks_for_itself m (Ok (says.UserPartUnavailable point user_part cause)) = true
-  speaks_for_itself m (Err fault) = true
+  -- so nobody outside spoofs a node to another. Nor does anybody there make an emergency changeover order, or answer one
+  abbrev pub spoofs_nobody : Message → Result Management MgmtFault → Bool
+  spoofs_nobody m (Ok (says.ExtendedChangeoverOrder slc number)) = is_from_outside m number
+  spoofs_nobody m (Ok (says.ExtendedChangeoverAcknowledgement slc number)) = is_from_outside m number
+  spoofs_nobody m (Ok (says.EmergencyChangeoverOrder slc)) = false
+  spoofs_nobody m (Ok (says.EmergencyChangeoverAcknowledgement slc)) = false
+  spoofs_nobody m (Ok (says.ChangebackDeclaration slc code)) = true
+  spoofs_nobody m (Ok (says.ChangebackAcknowledgement slc code)) = true
+  spoofs_nobody m (Ok (says.TransferProhibited point)) = true
+  spoofs_nobody m (Ok (says.TransferRestricted point)) = true
+  spoofs_nobody m (Ok (says.TransferAllowed point)) = true
+  spoofs_nobody m (Ok (says.RouteSetTestProhibited point)) = true
+  spoofs_nobody m (Ok (says.RouteSetTestRestricted point)) = true
+  spoofs_nobody m (Ok says.TrafficRestartAllowed) = true
+  spoofs_nobody m (Ok (says.UserPartUnavailable point user_part cause)) = true
+  spoofs_nobody m (Err fault) = true
 
-  -- whether a message may come from outside: it is no longer than a signalling information field, and speaks for no node
-  -- to another
+  -- whether a message may come from outside: it is no longer than a signalling information field, and spoofs no node to
+  -- another
   abbrev pub may_come : Message → Bool
   may_come m =
       not (nat_lt SIF_OCTETS (length m.sif))
-      && (not (nat_eq (service_indicator m) 0) || speaks_for_itself m (read_management m.sif))
+      && (not (nat_eq (service_indicator m) 0) || spoofs_nobody m (read_management m.sif))
 
   -- such a frame is in flight to the node at a point on a link, whatever its numbers. A text that is no frame is handed
   -- in at once

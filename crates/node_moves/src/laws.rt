@@ -13,7 +13,7 @@ ghost use Rattle.node_moves.specs.EachFate.{each_message_has_its_fate};
 ghost use Rattle.node_moves.specs.EndToEnd.{each_message_is_accounted_for, messages_come_from_end_to_end};
 ghost use Rattle.node_moves.specs.HopRun.{MatesAreAHop};
 ghost use Rattle.node_moves.specs.Hops.{messages_come_over_a_hop, nothing_is_lost_over_a_hop};
-ghost use Rattle.node_moves.specs.Laws.{each_message_ends_once};
+ghost use Rattle.node_moves.specs.Laws.{each_message_of_a_node_ends_once};
 ghost use Rattle.node_moves.specs.LossRun.{NamesWhatIsLost};
 ghost use Rattle.node_moves.specs.Lossless.{flags_tell_of_each_loss, nodes_lose_nothing};
 ghost use Rattle.node_moves.specs.Lossless.{nothing_is_lost_from_end_to_end};
@@ -30,7 +30,7 @@ ghost use Rattle.node_moves.specs.Possible.{links_may_fail, outside_may_say_anyt
 /// accepted once comes to one neighbour at most, once at most, and doesn't wait there if it came. The rest, which
 /// neither came nor wait, are gone: by any test, no more than the node named as lost; nor than `messages_lost` counts.
 pub fn each_message_of_a_node_ends_once()
-    ensures { each_message_ends_once }
+    ensures { each_message_of_a_node_ends_once }
 {}
 
 /// What comes to a node it accepts, unless it ends there. So the node laws of neighbours are joined. This asks nothing
