@@ -12,7 +12,7 @@ KEPT_NOTICES = 64
 LOST = 100
 LINE_OCTETS = 8300
 QUESTIONS = 6000
-HELP_LINES = 30
+HELP_LINES = 35
 ROUTE = f"route {FAR} to-{FAR} allowed"
 FLAGS = ["flag lost_any 0", "flag late_any 0"]
 
@@ -61,7 +61,6 @@ MISTAKES = {
     "take e0": OF_SCRIPTS,
     "wants e0": OF_SCRIPTS,
     "show lnks": "show has no lnks; the nearest is links",
-    "show link e0": "show has no link; the nearest is links",
     "show everything": "show has no everything; help lists them",
     f"show {'x' * 33}": "show has no such text; help lists them",
     "show": OF_SHOW,

@@ -1,6 +1,6 @@
 -- What a console answers and shows, as its client reads it.
 use Rattle.std.specs.Prelude.{◌≡◌, ◌⊎◌, ℕ, ◌≤◌, Bool, true, false, List, [], ◌∷◌, ◌++◌, length, take}
-use Rattle.std.specs.Prelude.{Option, Some}
+use Rattle.std.specs.Prelude.{Option, None, Some, codes}
 use Rattle.settings.specs.Configuration.{Configuration, TitleEntry}
 use Rattle.signalling_types.specs.declared.limits.TheConstants.Limits.{NAME_OCTETS}
 use Rattle.signalling_types.specs.declared.notice.Notice.{Notice}
@@ -17,6 +17,14 @@ use Rattle.console.specs.Texts.{link_text, route_text, title_text, subsystem_tex
 use Rattle.script.specs.Texts.{outcome_line}
 use Rattle.served_link.specs.AlarmTexts.{alarm_line}
 use Rattle.served_link.specs.declared.alarm.Alarm.{Alarm}
+use Rattle.served_link.specs.declared.service_states.StateSince.{StateSince}
+use Rattle.settings.specs.Configuration.{LinkEntry, SetEntry}
+use Rattle.console.specs.NearestLinks.{near_link_text, no_link_text}
+use Rattle.console.specs.TitleAnswers.{led_line, refusal_line}
+use Rattle.console.specs.declared.title_answers.Standing.{Standing}
+use Rattle.signalling_types.specs.declared.cause.Cause.{Cause}
+use Rattle.served_node.specs.Listings.{fact_text, length_text, set_text}
+use Rattle.served_node.specs.declared.console_session.link_facts.LinkFact.{LinkFact}
 use Rattle.served_node.specs.Captured.{Captured, captured_line}
 use Rattle.served_node.specs.Clients.{ClientState, told_of, untold}
 use Rattle.served_node.specs.Lines.{Heard as Line, HearsUsers, HearsNotices, HearsFrames, HearsHelp, HearsQuit, HearsStop, HearsVersion}
@@ -105,6 +113,10 @@ pub record AnswersNone (text : List ℕ) : Type 0 where
   pub whole : text ≡ line ++ 10 ∷ []
   pub none : IsNone line
 
+-- a text is nothing, or a line that answers none
+abbrev pub AtMostShown : List ℕ → Type 0
+AtMostShown text = (text ≡ []) ⊎ AnswersNone text
+
 -- what is shown, and notices, answer none
 pub record ShownAnswersNone : Type 0 where
   pub links : (name : List ℕ) (v : LinkView) (is_barred : Bool) → IsNone (link_text name v is_barred)
@@ -121,3 +133,19 @@ pub record ShownAnswersNone : Type 0 where
   pub captured : (name : List ℕ) (is_on : Bool) → IsNone (captured_line name is_on)
   pub alarms : (points : PointFormat) (c : Configuration) (alarm : Alarm) (since : ℕ)
       → IsNone (alarm_line points c alarm since)
+  pub timers : (tick_ms : ℕ) (key : List ℕ) (ticks : Option ℕ)
+      → AnswersNone (codes "timer " ++ key ++ length_text tick_ms ticks)
+  pub sets : (points : PointFormat) (set : SetEntry) (in_service links : ℕ)
+      → AnswersNone (set_text points set in_service links)
+  pub facts : (points : PointFormat) (states : List StateSince) (s : Kept) (link : ℕ) (row : LinkEntry) (v : LinkView)
+      (fact : LinkFact) → AtMostShown (fact_text points states s link row v fact)
+  pub near : (name : Option (List ℕ)) → AtMostShown (near_link_text name)
+  pub leads : (points : PointFormat) (stands : Standing) (first point : ℕ)
+      → AnswersNone (led_line points stands first point None)
+
+-- a name that no link has, and a title that is refused, are answered by a refusal, behind what shows nothing
+pub record TestsAnswer : Type 0 where
+  pub no_link : (lacks_memory : Bool) (c : Configuration) (name : List ℕ)
+      → (near : List ℕ) × (no_link_text lacks_memory c name ≡ codes "refused 22 NoSuchName\n" ++ near)
+      × AtMostShown near
+  pub refused : (cause : Cause) → Answers true false false (refusal_line cause)

@@ -8,11 +8,18 @@ mod client;
 mod command;
 mod counting;
 mod help;
+mod link_facts;
+mod listing;
 mod outbox;
+mod set_lines;
+mod settings_text;
+mod timer_lines;
 
 pub use answering::do_script_line;
 pub use client::{ConsoleClient, ConsoleContext, Ending, LINE_OCTETS, News};
 pub use command::{ConsoleLine, parse_console_line};
 pub use counting::print_counters;
 pub use help::HELP;
+pub use link_facts::LinkFact;
+pub use listing::Listing;
 pub use outbox::{OUTBOX_OCTETS, Outbox};

@@ -1,0 +1,170 @@
+-- What a client is shown of a node's timers, its sets and one of its links: texts of a line for each.
+use Rattle.std.specs.Prelude.{ℕ, zero, suc, ◌+◌, ◌*◌, Bool, true, false, ◌&&◌, nat_eq, if◌then◌else◌, List, [], ◌++◌, codes, decimal, length}
+use Rattle.std.specs.Prelude.{slice_get, Option, None, Some}
+use Rattle.settings.specs.Configuration.{Configuration, LinkEntry, SetEntry}
+use Rattle.settings.specs.Points.{point_text}
+use Rattle.settings.specs.declared.point.PointFormat.{PointFormat}
+use Rattle.exchange.specs.Calls.{Kept}
+use Rattle.exchange.specs.KeptQueues.{kept}
+use Rattle.exchange.specs.Views.{is_barred_at, link_view}
+use Rattle.exchange.specs.declared.view.LinkView.{LinkView}
+use Rattle.console.specs.Names.{set_name_in}
+use Rattle.console.specs.Texts.{given_text}
+use Rattle.console.specs.TimerKeys.{KeyedTimer, keyed_timers}
+use Rattle.console.specs.SettingsTexts.{entries_of, rows_of}
+use Rattle.console.specs.declared.settings_part.SettingsPart.{SettingsPart}
+use Rattle.console.specs.declared.settings_part.TheConstants.{SETTINGS_PARTS}
+use Rattle.console.specs.declared.timer_keys.TheConstants.{TIMERS}
+use Rattle.served_link.specs.AlarmTexts.{seconds_text}
+use Rattle.served_link.specs.ServiceStates.{is_available, state_words}
+use Rattle.served_link.specs.ShownStates.{service_state_in}
+use Rattle.served_link.specs.declared.service_states.ServiceState.{ServiceState}
+use Rattle.served_link.specs.declared.service_states.StateSince.{StateSince}
+use Rattle.served_node.specs.Counters.{first_texts}
+use Rattle.served_node.specs.declared.console_session.listing.Listing.{Listing}
+use Rattle.served_node.specs.declared.console_session.listing.Listing.TheVariants as listing
+use Rattle.served_node.specs.declared.console_session.link_facts.LinkFact.{LinkFact}
+use Rattle.served_node.specs.declared.console_session.link_facts.LinkFact.TheVariants as fact
+use Rattle.served_node.specs.declared.console_session.link_facts.TheConstants.{LINK_FACTS, NO_NUMBER}
+
+-- ---- timers
+
+-- how many ticks a timer runs, and how many seconds these are; a tick has so many milliseconds
+abbrev pub length_text : (tick_ms : ℕ) → Option ℕ → List ℕ
+length_text tick_ms (Some ticks) =
+    codes " " ++ decimal ticks ++ codes " ticks " ++ seconds_text (ticks * tick_ms) ++ codes " s\n"
+length_text tick_ms None = codes " -\n"
+
+abbrev pub timer_line : (tick_ms : ℕ) → Option KeyedTimer → List ℕ
+timer_line tick_ms (Some timer) = codes "timer " ++ timer.key ++ length_text tick_ms timer.ticks
+timer_line tick_ms None = []
+
+-- ---- sets
+
+-- how many of the first numbers are such
+abbrev pub count_first : (ℕ → Bool) → ℕ → ℕ
+count_first is_such zero = 0
+count_first is_such (suc k) = count_first is_such k + (if is_such k then 1 else 0)
+
+abbrev pub is_row_of : (set : ℕ) → Option LinkEntry → Bool
+is_row_of set (Some row) = nat_eq row.set set
+is_row_of set None = false
+
+-- whether link k is of a set
+abbrev pub is_of_set : Configuration → (set k : ℕ) → Bool
+is_of_set c set k = is_row_of set (slice_get c.links k)
+
+abbrev pub is_state_available : Option ServiceState → Bool
+is_state_available (Some state) = is_available state
+is_state_available None = false
+
+-- whether link k is of a set, and in service
+abbrev pub serves_set : Kept → (set k : ℕ) → Bool
+serves_set s set k = is_of_set s.settings set k && is_state_available (service_state_in s k)
+
+abbrev pub links_of_set : Configuration → (set : ℕ) → ℕ
+links_of_set c set = count_first (is_of_set c set) (length c.links)
+
+abbrev pub links_in_service : Kept → (set : ℕ) → ℕ
+links_in_service s set = count_first (serves_set s set) (length s.settings.links)
+
+-- a set is available while a link of it is in service
+abbrev pub available_text : (in_service : ℕ) → List ℕ
+available_text in_service = if nat_eq in_service 0 then codes " unavailable" else codes " available"
+
+abbrev pub set_text : PointFormat → SetEntry → (in_service links : ℕ) → List ℕ
+set_text points set in_service links =
+    codes "set " ++ set.name ++ codes " adjacent " ++ point_text points set.adjacent ++ available_text in_service
+    ++ codes " in service " ++ decimal in_service ++ codes " of " ++ decimal links ++ codes "\n"
+
+abbrev pub line_of_set : PointFormat → Kept → (set : ℕ) → Option SetEntry → List ℕ
+line_of_set points s set (Some row) = set_text points row (links_in_service s set) (links_of_set s.settings set)
+line_of_set points s set None = []
+
+abbrev pub set_line : PointFormat → Kept → (set : ℕ) → List ℕ
+set_line points s set = line_of_set points s set (slice_get s.settings.sets set)
+
+-- ---- a link, a fact a line
+
+abbrev pub name_fact : (word name : List ℕ) → List ℕ
+name_fact word name = word ++ name ++ codes "\n"
+
+abbrev pub number_fact : (word : List ℕ) → ℕ → List ℕ
+number_fact word number = word ++ decimal number ++ codes "\n"
+
+-- a number, or - for none
+abbrev pub given_fact : (word : List ℕ) → Option ℕ → List ℕ
+given_fact word given = word ++ given_text given ++ codes "\n"
+
+-- the number of a message; before the first there is none
+abbrev pub some_number : ℕ → Option ℕ
+some_number number = if nat_eq number NO_NUMBER then None else Some number
+
+abbrev pub adjacent_fact : PointFormat → Option SetEntry → List ℕ
+adjacent_fact points (Some set) = codes "adjacent " ++ point_text points set.adjacent ++ codes "\n"
+adjacent_fact points None = []
+
+-- the state of a link, as it was last seen, and since when it is in that, in seconds after the start
+abbrev pub state_fact : Option StateSince → List ℕ
+state_fact (Some seen) = codes "state " ++ state_words seen.state ++ codes " since " ++ seconds_text seen.since_ms ++ codes "\n"
+state_fact None = []
+
+abbrev pub barred_fact : (is_barred : Bool) → List ℕ
+barred_fact true = codes "barred yes\n"
+barred_fact false = codes "barred no\n"
+
+abbrev pub fact_text :
+    PointFormat → List StateSince → Kept → (link : ℕ) → LinkEntry → LinkView → LinkFact → List ℕ
+fact_text points states s link row view fact.Name = name_fact (codes "link ") row.name
+fact_text points states s link row view fact.Set = name_fact (codes "set ") (set_name_in s.settings row.set)
+fact_text points states s link row view fact.Code = number_fact (codes "code ") row.slc
+fact_text points states s link row view fact.Adjacent = adjacent_fact points (slice_get s.settings.sets row.set)
+fact_text points states s link row view fact.State = state_fact (slice_get states link)
+fact_text points states s link row view fact.Waiting = number_fact (codes "waiting ") view.waiting
+fact_text points states s link row view fact.LastSent = given_fact (codes "last sent ") (some_number view.last_sent)
+fact_text points states s link row view fact.LastAccepted =
+    given_fact (codes "last accepted ") (some_number view.last_accepted)
+fact_text points states s link row view fact.Barred = barred_fact (is_barred_at s link)
+fact_text points states s link row view fact.Share = given_fact (codes "share ") row.share
+
+-- a link that is there
+abbrev pub fact_of :
+    PointFormat → List StateSince → Kept → (link : ℕ) → Option LinkEntry → Option LinkView → LinkFact → List ℕ
+fact_of points states s link (Some row) (Some view) fact = fact_text points states s link row view fact
+fact_of points states s link (Some row) None fact = []
+fact_of points states s link None view fact = []
+
+abbrev pub link_fact : PointFormat → List StateSince → Kept → (link : ℕ) → Option LinkFact → List ℕ
+link_fact points states s link (Some fact) =
+    fact_of points states s link (slice_get s.settings.links link) (link_view kept s link) fact
+link_fact points states s link None = []
+
+-- ---- a whole text
+
+-- line k of a listing, or its lines for entry k
+abbrev pub entry_of : PointFormat → (tick_ms : ℕ) → List StateSince → Kept → Listing → ℕ → List ℕ
+entry_of points tick_ms states s listing.Timers k =
+    timer_line tick_ms (slice_get (keyed_timers s.settings.timers) k)
+entry_of points tick_ms states s listing.Sets k = set_line points s k
+entry_of points tick_ms states s (listing.Link link) k = link_fact points states s link (slice_get LINK_FACTS.now k)
+
+abbrev pub length_of : Kept → Listing → ℕ
+length_of s listing.Timers = TIMERS
+length_of s listing.Sets = length s.settings.sets
+length_of s (listing.Link link) = length LINK_FACTS.now
+
+abbrev pub listing_text : PointFormat → (tick_ms : ℕ) → List StateSince → Kept → Listing → List ℕ
+listing_text points tick_ms states s listing =
+    first_texts (entry_of points tick_ms states s listing) (length_of s listing)
+
+-- the settings as they are now, part by part
+abbrev pub rows_text : PointFormat → Kept → SettingsPart → List ℕ
+rows_text points s part = first_texts (rows_of points s part) (entries_of s part)
+
+abbrev pub part_text : PointFormat → Kept → Option SettingsPart → List ℕ
+part_text points s (Some part) = rows_text points s part
+part_text points s None = []
+
+abbrev pub settings_text : PointFormat → Kept → List ℕ
+settings_text points s =
+    first_texts (λ k. part_text points s (slice_get SETTINGS_PARTS.now k)) (length SETTINGS_PARTS.now)
