@@ -45,7 +45,7 @@ pub use notices::show_notices;
 pub use numbers::read_number;
 pub use order::{OrderText, order_by};
 pub use reroutings::{REROUTINGS, show_reroutings};
-pub use route_lines::show_routes;
+pub use route_lines::{push_sets, show_routes};
 pub use settings_lines::{ROWS_OCTETS, SettingsRows, settings_entries, settings_rows};
 pub use settings_part::{SETTINGS_PARTS, SettingsPart};
 pub use subsystems::show_subsystems;
