@@ -184,13 +184,14 @@ class Texts(NodeTest):
         node = self.of(NODE, "node")
         timers = dict(re.findall(r"^([lst]\w+) = (\d+)$", NODE.split("[timers]")[1].split("[[")[0], re.M))
         self.assertEqual(len(timers), 18)
-        lines = [f"timer {key} {n} ticks {int(n) * TICK_MS / 1000:.3f} s" for key, n in timers.items()]
-        self.assertEqual(node.ask("show timers"), lines)
+        rows = [f"  {key:6}  {n:5}  {int(n) * TICK_MS / 1000:.3f}" for key, n in timers.items()]
+        self.assertEqual(node.ask("show timers"), ["  TIMER   TICKS  SECONDS", *rows])
+        self.assertEqual(rows[0], "  l1      2000   140.000")
 
     def test_timers_that_are_not_there(self) -> None:
         node = self.of(re.sub("(l4e|t2_bar|slt1|slt2|sst) = .*\n", "", NODE), "node")
-        missing = [line for line in node.ask("show timers") if not line.endswith(" s")]
-        self.assertEqual(missing, [f"timer {key} -" for key in ("l4e", "t2_bar", "slt1", "slt2", "sst")])
+        missing = [row for row in node.ask("show timers") if row.endswith(" -")]
+        self.assertEqual(missing, [f"  {key:6}  -      -" for key in ("l4e", "t2_bar", "slt1", "slt2", "sst")])
         self.assertFalse({"l4e", "t2_bar", "slt1", "slt2", "sst"} & {it.split()[0] for it in node.ask("show settings") if it})
 
     def test_mistakes(self) -> None:
@@ -208,18 +209,52 @@ class Links(NodeTest):
         self.pair = Pair(self, beside=[lone], version=3, sst=2000)
         self.near, self.far = self.pair.near, self.pair.far
 
-    def sets(self) -> list[str]:
-        return self.near.ask("show sets")
-
     def test_sets(self) -> None:
         near = self.near
-        lone = f"set to-{ALONE} adjacent {ALONE} unavailable in service 0 of 1"
-        self.assertEqual(self.sets(), [f"set to-{FAR} adjacent {FAR} available in service 3 of 3", lone])
+        head = "  SET           ADJACENT  STATE        IN SERVICE  LINKS"
+        lone = f"  to-{ALONE}          {ALONE}         unavailable  0           1"
+        shown = [head, f"  to-{FAR}          {FAR}         available    3           3", lone]
+        self.assertEqual(near.ask("show sets"), shown)
         for name, count in (("e1", 2), ("e0", 1)):
             near.ask(f"deactivate {name}")
-            self.assertEqual(self.sets(), [f"set to-{FAR} adjacent {FAR} available in service {count} of 3", lone])
+            shown[1] = f"  to-{FAR}          {FAR}         available    {count}           3"
+            self.assertEqual(near.ask("show sets"), shown)
         near.ask("deactivate e2")
-        self.assertEqual(self.sets(), [f"set to-{FAR} adjacent {FAR} unavailable in service 0 of 3", lone])
+        shown[1] = f"  to-{FAR}          {FAR}         unavailable  0           3"
+        self.assertEqual(near.ask("show sets"), shown)
+
+    def test_links(self) -> None:
+        """The state is the log's word, since the time of its line; the rest is what `show link` says."""
+        self.await_state("e1", "in service")
+        rows = {row["LINK"]: row for row in self.near.table("links")}
+        self.assertEqual([*rows], ["e0", "e1", "e2", "lone"])
+        for name, row in rows.items():
+            self.assertEqual(f"{row['STATE']} since {row['SINCE']}", self.fact(name, "state"))
+            facts = [self.fact(name, word) for word in ("set", "waiting", "last sent", "last accepted")]
+            self.assertEqual(facts, [row[column] for column in ("SET", "WAITING", "FSN", "BSN")])
+        self.assertEqual(rows["e1"]["ALIGNMENT"], "InService")
+        lone = f"  lone          to-{ALONE}          not in service yet  0.000       Down          0        -         -"
+        self.assertEqual(self.near.ask("show links")[-1], lone)
+
+    def test_routes(self) -> None:
+        near = self.near
+        head = "  DESTINATION  STATUS      SETS TAKEN                ALL SETS"
+        rows = [f"  {FAR}            allowed     to-{FAR}                      to-{FAR}",
+                f"  {ALONE}            prohibited  none                      to-{ALONE}"]
+        self.assertEqual(near.ask("show routes"), [head, *rows])
+        told = run("tell", "node.toml", "show", "routes", folder=near.folder)
+        self.assertEqual((told.returncode, told.stdout.splitlines()), (0, [head, *rows]))
+
+    def test_alarms(self) -> None:
+        """Those that are raised, since the times of their lines in the log."""
+        near = self.near
+        raised = ["link lone", f"set to-{ALONE}", f"destination {ALONE}"]
+        wait_until(lambda: [row["ALARM"] for row in near.table("alarms")] == raised, "the lone point alone is missed")
+        head, *rows = near.ask("show alarms")
+        self.assertEqual(head, "  ALARM                     SINCE")
+        for row, name in zip(rows, raised, strict=True):
+            self.assertEqual(row[:28], f"  {name:24}  ")
+            self.assertIn(f"{row[28:]} alarm {name}", near.log())
 
     def fact(self, name: str, word: str) -> str:
         """What `show link` says behind a word."""
@@ -239,8 +274,8 @@ class Links(NodeTest):
     def test_a_link(self) -> None:
         near = self.near
         self.await_state("e1", "in service")
-        [line] = [it for it in near.ask("show links") if it.startswith("link e1 ")]
-        waiting, sent, accepted = (number.replace("16777215", "-") for number in line.split()[4::2])
+        [row] = [row for row in near.table("links") if row["LINK"] == "e1"]
+        waiting, sent, accepted = (row[column] for column in ("WAITING", "FSN", "BSN"))
         shown = near.ask("show link e1")
         self.assertEqual(shown[:4], ["link e1", f"set to-{FAR}", "code 1", f"adjacent {FAR}"])
         self.assertRegex(shown[4], r"^state in service since \d+\.\d{3}$")
@@ -248,7 +283,7 @@ class Links(NodeTest):
         self.assertEqual(shown[8:], ["barred no", "share -"])
         near.ask("deactivate e1")
         self.await_state("e1", "deactivated")
-        lone = ["link lone", f"set to-{ALONE}", "code 3", f"adjacent {ALONE}", "state failed since 0.000"]
+        lone = ["link lone", f"set to-{ALONE}", "code 3", f"adjacent {ALONE}", "state not in service yet since 0.000"]
         lone += ["waiting 0", "last sent -", "last accepted -", "barred no", "share -"]
         self.assertEqual(near.ask("show link lone"), lone)
 

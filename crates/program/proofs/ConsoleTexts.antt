@@ -1,5 +1,5 @@
 -- What the texts of a console are to its client.
-use Rattle.std.proofs.Common.{◌≡◌, ℕ, zero, suc, List, [], ◌∷◌, ◌++◌, Bool, true, false, Option, None, Some, refl, ap, subst, ◌∙◌, append_assoc, arith, length, inl, inr, slice_get, ◌*◌}
+use Rattle.std.proofs.Common.{◌≡◌, ℕ, zero, suc, List, [], ◌∷◌, ◌++◌, Bool, true, false, Option, None, Some, refl, ap, subst, ◌∙◌, append_assoc, arith, length, inl, inr}
 use Rattle.std.specs.Prelude.{codes, decimal, nat_eq, nat_le, ◌||◌, take}
 use Rattle.std.specs.Fmt.{digits}
 use Rattle.std.proofs.lemmas.Bool.Decides.{nat_tests}
@@ -17,7 +17,7 @@ use Rattle.signalling_types.specs.declared.notice.LateTimer.TheVariants.{T3, T4}
 use Rattle.signalling_types.specs.declared.outcome.Outcome.TheVariants as outcome
 use Rattle.exchange.specs.Calls.{Kept}
 use Rattle.console.specs.Names.{name_in}
-use Rattle.console.specs.Texts.{given_text, refused_text, notice_text, flag_line, loss_line, rerouting_line}
+use Rattle.console.specs.Texts.{refused_text, notice_text, flag_line, loss_line, rerouting_line}
 use Rattle.program.specs.ConsoleAnswers.{blanks, is_answer, is_last, is_refusal}
 use Rattle.served_node.specs.Captured.{Captured, answer_to, captured_line, order_of}
 use Rattle.served_node.specs.Clients.{ClientState}
@@ -26,21 +26,14 @@ use Rattle.served_node.specs.declared.console_session.client.Ending.{Ending}
 use Rattle.served_node.specs.declared.console_session.client.Ending.TheVariants.{Stays, Closes, Leaves, Stops}
 use Rattle.served_node.specs.declared.captured_links.CaptureOrder.{CaptureOrder}
 use Rattle.served_node.specs.declared.console_session.help.TheConstants.{HELP}
-use Rattle.program.specs.ConsoleLaws.{Answers, IsMalformedAnswer, IsSaid, IsHelp, IsOrderAnswer, LinesAnswer, IsNone, AnswersNone, AtMostShown, ShownAnswersNone, TestsAnswer, outcomes_answer}
+use Rattle.program.specs.ConsoleLaws.{Answers, IsMalformedAnswer, IsSaid, IsHelp, IsOrderAnswer, LinesAnswer, IsNone, AllNone, AnswersNone, ShownAnswersNone, TestsAnswer, outcomes_answer}
 use Rattle.settings.specs.Points.{point_text}
-use Rattle.settings.specs.Configuration.{LinkEntry, SetEntry}
-use Rattle.exchange.specs.Views.{is_barred_at}
-use Rattle.exchange.specs.declared.view.LinkView.{LinkView}
-use Rattle.console.specs.Names.{set_name_in}
 use Rattle.console.specs.NearestLinks.{near_link, near_link_text}
 use Rattle.console.specs.TitleAnswers.{backup_words, led_line, refusal_line}
 use Rattle.console.specs.declared.title_answers.Standing.{Standing}
-use Rattle.served_link.specs.AlarmTexts.{seconds_text}
-use Rattle.served_link.specs.ServiceStates.{state_words}
-use Rattle.served_link.specs.declared.service_states.StateSince.{StateSince}
-use Rattle.served_node.specs.Listings.{adjacent_fact, available_text, barred_fact, fact_text, length_text, set_text, some_number, state_fact}
-use Rattle.served_node.specs.declared.console_session.link_facts.LinkFact.{LinkFact}
-use Rattle.served_node.specs.declared.console_session.link_facts.LinkFact.TheVariants as fact
+use Rattle.program.proofs.ShownLines.{line-none, nothing-none}
+use Rattle.program.proofs.ConsoleTables.{alarms, listings}
+use Rattle.program.proofs.ConsoleSettings.{settings}
 
 -- a line without anything unknown is judged by computing
 pub judged : (refuses closes_first closes : Bool) (line : List ℕ) → nat_le (length line) 64 ≡ true → is_answer line ≡ true → is_refusal line ≡ refuses
@@ -204,51 +197,12 @@ reroutings s (suc k) line e = cc e
 version : AnswersNone (codes "stp 0.1.0\n")
 version = record { line = codes "stp 0.1.0"; whole = refl; none = refl }
 
-timers : (tick_ms : ℕ) (key : List ℕ) (ticks : Option ℕ) → AnswersNone (codes "timer " ++ key ++ length_text tick_ms ticks)
-timers tick_ms key None = record { line = codes "timer " ++ key ++ codes " -"; whole = refl; none = refl }
-timers tick_ms key (Some ticks) = record { line = codes "timer " ++ key ++ codes " " ++ decimal ticks ++ codes " ticks " ++ seconds_text (ticks * tick_ms) ++ codes " s"; whole = refl; none = refl }
+near : (name : Option (List ℕ)) → AllNone (near_link_text name)
+near (Some name) = line-none (codes "the nearest link is " ++ name) refl
+near None = nothing-none
 
-sets : (points : PointFormat) (set : SetEntry) (in_service links : ℕ) → AnswersNone (set_text points set in_service links)
-sets points set in_service links = record {
-  line =
-      codes "set " ++ set.name ++ codes " adjacent " ++ point_text points set.adjacent ++ available_text in_service ++ codes " in service " ++ decimal in_service ++ codes " of " ++ decimal links;
-  whole = refl;
-  none = refl;
-}
-
-shown-line : (line : List ℕ) → IsNone line → AtMostShown (line ++ 10 ∷ [])
-shown-line line none = inr (record { line = line; whole = refl; none = none })
-
-adjacent : (points : PointFormat) (set : Option SetEntry) → AtMostShown (adjacent_fact points set)
-adjacent points (Some set) = shown-line (codes "adjacent " ++ point_text points set.adjacent) refl
-adjacent points None = inl refl
-
-state : (seen : Option StateSince) → AtMostShown (state_fact seen)
-state (Some seen) = shown-line (codes "state " ++ state_words seen.state ++ codes " since " ++ seconds_text seen.since_ms) refl
-state None = inl refl
-
-barred : (is_barred : Bool) → AtMostShown (barred_fact is_barred)
-barred true = shown-line (codes "barred yes") refl
-barred false = shown-line (codes "barred no") refl
-
-facts : (points : PointFormat) (states : List StateSince) (s : Kept) (link : ℕ) (row : LinkEntry) (v : LinkView) (fact : LinkFact) → AtMostShown (fact_text points states s link row v fact)
-facts points states s link row v fact.Name = shown-line (codes "link " ++ row.name) refl
-facts points states s link row v fact.Set = shown-line (codes "set " ++ set_name_in s.settings row.set) refl
-facts points states s link row v fact.Code = shown-line (codes "code " ++ decimal row.slc) refl
-facts points states s link row v fact.Adjacent = adjacent points (slice_get s.settings.sets row.set)
-facts points states s link row v fact.State = state (slice_get states link)
-facts points states s link row v fact.Waiting = shown-line (codes "waiting " ++ decimal v.waiting) refl
-facts points states s link row v fact.LastSent = shown-line (codes "last sent " ++ given_text (some_number v.last_sent)) refl
-facts points states s link row v fact.LastAccepted = shown-line (codes "last accepted " ++ given_text (some_number v.last_accepted)) refl
-facts points states s link row v fact.Barred = barred (is_barred_at s link)
-facts points states s link row v fact.Share = shown-line (codes "share " ++ given_text row.share) refl
-
-near : (name : Option (List ℕ)) → AtMostShown (near_link_text name)
-near (Some name) = shown-line (codes "the nearest link is " ++ name) refl
-near None = inl refl
-
-leads : (points : PointFormat) (stands : Standing) (first point : ℕ) → AnswersNone (led_line points stands first point None)
-leads points stands first point = record { line = codes "leads to " ++ point_text points point ++ backup_words points stands first point; whole = refl; none = refl }
+leads : (points : PointFormat) (stands : Standing) (first point : ℕ) → AllNone (led_line points stands first point None)
+leads points stands first point = line-none (codes "leads to " ++ point_text points point ++ backup_words points stands first point) refl
 
 -- the line of a refusal is that of an outcome
 refusal : (why : Cause) → refused_line why ++ 10 ∷ [] ≡ refusal_line why
@@ -259,8 +213,6 @@ refusal why =
 
 pub shown : ShownAnswersNone
 shown = record {
-  links = λ name v is_barred. refl;
-  routes = λ points c v. refl;
   titles = λ points row. refl;
   subsystems = λ points subsystem. refl;
   notices = notices;
@@ -271,10 +223,9 @@ shown = record {
   datagrams = λ name value. refl;
   version = λ is_first counters captured captured_after ending s after old new does. told-said AnswersNone _ Stays ending old new version does.2;
   captured = captured-lines;
-  alarms = λ points c alarm since. refl;
-  timers = timers;
-  sets = sets;
-  facts = facts;
+  alarms = alarms;
+  listings = listings;
+  settings = settings;
   near = near;
   leads = leads;
 }

@@ -12,7 +12,7 @@ use Rattle.script.specs.Asking.{Asked, AskUp, AskDown, AskFrame, AskTick, AskTak
 use Rattle.script.specs.Asking.{AskShow, Reading, Skips, IsMalformed, Asks, asked_line, parsed_line}
 use Rattle.script.specs.declared.line.Malformed.{Malformed}
 use Rattle.served_node.specs.declared.console_session.listing.Listing.{Listing}
-use Rattle.served_node.specs.declared.console_session.listing.Listing.TheVariants.{Timers, Sets}
+use Rattle.served_node.specs.declared.console_session.listing.Listing.TheVariants.{Timers, Sets, Links, Routes}
 use Rattle.served_node.specs.declared.console_session.command.ConsoleLine.{ConsoleLine}
 use Rattle.served_node.specs.declared.console_session.command.ConsoleLine.TheVariants as line
 
@@ -62,7 +62,7 @@ capture_line text =
     else if bytes_eq text (codes "capture stop") then Some (HearsCapture false None)
     else capture_of_link text
 
--- what is shown of the timers, the sets, the settings and a link
+-- the tables of timers, sets, links and destinations, the settings, and what is shown of a link
 abbrev pub shows_link : Option (List ℕ) → Option Heard
 shows_link None = None
 shows_link (Some name) = if list_any (λ octet. nat_eq octet 32) name then None else Some (HearsLink name)
@@ -71,6 +71,8 @@ abbrev pub text_line : List ℕ → Option Heard
 text_line text =
     if bytes_eq text (codes "show timers") then Some (HearsListing Timers)
     else if bytes_eq text (codes "show sets") then Some (HearsListing Sets)
+    else if bytes_eq text (codes "show links") then Some (HearsListing Links)
+    else if bytes_eq text (codes "show routes") then Some (HearsListing Routes)
     else if bytes_eq text (codes "show settings") then Some HearsSettings
     else shows_link (behind (codes "show link ") text)
 

@@ -1,15 +1,18 @@
--- What a client is shown of a node's timers, its sets and one of its links: texts of a line for each.
-use Rattle.std.specs.Prelude.{ℕ, zero, suc, ◌+◌, ◌*◌, Bool, true, false, ◌&&◌, nat_eq, if◌then◌else◌, List, [], ◌++◌, codes, decimal, length}
+-- What a client is shown of a node's timers, sets, links and destinations, in tables, and of one of its links, a fact a
+-- line.
+use Rattle.std.specs.Prelude.{ℕ, zero, suc, ◌+◌, ◌*◌, Bool, true, false, ◌&&◌, nat_eq, if◌then◌else◌, List, [], ◌∷◌, ◌++◌, codes, decimal, length}
 use Rattle.std.specs.Prelude.{slice_get, Option, None, Some}
-use Rattle.settings.specs.Configuration.{Configuration, LinkEntry, SetEntry}
+use Rattle.settings.specs.Configuration.{Configuration, DestinationEntry, LinkEntry, SetEntry}
 use Rattle.settings.specs.Points.{point_text}
 use Rattle.settings.specs.declared.point.PointFormat.{PointFormat}
 use Rattle.exchange.specs.Calls.{Kept}
 use Rattle.exchange.specs.KeptQueues.{kept}
-use Rattle.exchange.specs.Views.{is_barred_at, link_view}
+use Rattle.exchange.specs.Views.{is_barred_at, link_view, route_view, standing_name}
 use Rattle.exchange.specs.declared.view.LinkView.{LinkView}
+use Rattle.exchange.specs.declared.view.RouteView.{RouteView}
+use Rattle.routes.specs.Routes.{status_name}
 use Rattle.console.specs.Names.{set_name_in}
-use Rattle.console.specs.Texts.{given_text}
+use Rattle.console.specs.Texts.{given_text, sets_text}
 use Rattle.console.specs.TimerKeys.{KeyedTimer, keyed_timers}
 use Rattle.console.specs.SettingsTexts.{entries_of, rows_of}
 use Rattle.console.specs.declared.settings_part.SettingsPart.{SettingsPart}
@@ -21,23 +24,26 @@ use Rattle.served_link.specs.ShownStates.{service_state_in}
 use Rattle.served_link.specs.declared.service_states.ServiceState.{ServiceState}
 use Rattle.served_link.specs.declared.service_states.StateSince.{StateSince}
 use Rattle.served_node.specs.Counters.{first_texts}
+use Rattle.served_node.specs.Tables.{cell, last_cell, message_text, some_number}
 use Rattle.served_node.specs.declared.console_session.listing.Listing.{Listing}
 use Rattle.served_node.specs.declared.console_session.listing.Listing.TheVariants as listing
 use Rattle.served_node.specs.declared.console_session.link_facts.LinkFact.{LinkFact}
 use Rattle.served_node.specs.declared.console_session.link_facts.LinkFact.TheVariants as fact
-use Rattle.served_node.specs.declared.console_session.link_facts.TheConstants.{LINK_FACTS, NO_NUMBER}
+use Rattle.served_node.specs.declared.console_session.link_facts.TheConstants.{LINK_FACTS}
 
 -- ---- timers
 
--- how many ticks a timer runs, and how many seconds these are; a tick has so many milliseconds
-abbrev pub length_text : (tick_ms : ℕ) → Option ℕ → List ℕ
-length_text tick_ms (Some ticks) =
-    codes " " ++ decimal ticks ++ codes " ticks " ++ seconds_text (ticks * tick_ms) ++ codes " s\n"
-length_text tick_ms None = codes " -\n"
+abbrev pub timers_head : List ℕ
+timers_head = codes "  TIMER   TICKS  SECONDS\n"
 
-abbrev pub timer_line : (tick_ms : ℕ) → Option KeyedTimer → List ℕ
-timer_line tick_ms (Some timer) = codes "timer " ++ timer.key ++ length_text tick_ms timer.ticks
-timer_line tick_ms None = []
+-- how many ticks a timer runs, and how many seconds these are; a tick has so many milliseconds
+abbrev pub timer_row : (tick_ms : ℕ) → (key : List ℕ) → Option ℕ → List ℕ
+timer_row tick_ms key (Some ticks) = cell 6 key ++ cell 5 (decimal ticks) ++ last_cell (seconds_text (ticks * tick_ms))
+timer_row tick_ms key None = cell 6 key ++ cell 5 (codes "-") ++ last_cell (codes "-")
+
+abbrev pub row_of_timer : (tick_ms : ℕ) → Option KeyedTimer → List ℕ
+row_of_timer tick_ms (Some timer) = timer_row tick_ms timer.key timer.ticks
+row_of_timer tick_ms None = []
 
 -- ---- sets
 
@@ -70,19 +76,68 @@ links_in_service s set = count_first (serves_set s set) (length s.settings.links
 
 -- a set is available while a link of it is in service
 abbrev pub available_text : (in_service : ℕ) → List ℕ
-available_text in_service = if nat_eq in_service 0 then codes " unavailable" else codes " available"
+available_text in_service = if nat_eq in_service 0 then codes "unavailable" else codes "available"
 
-abbrev pub set_text : PointFormat → SetEntry → (in_service links : ℕ) → List ℕ
-set_text points set in_service links =
-    codes "set " ++ set.name ++ codes " adjacent " ++ point_text points set.adjacent ++ available_text in_service
-    ++ codes " in service " ++ decimal in_service ++ codes " of " ++ decimal links ++ codes "\n"
+abbrev pub sets_head : List ℕ
+sets_head = codes "  SET           ADJACENT  STATE        IN SERVICE  LINKS\n"
 
-abbrev pub line_of_set : PointFormat → Kept → (set : ℕ) → Option SetEntry → List ℕ
-line_of_set points s set (Some row) = set_text points row (links_in_service s set) (links_of_set s.settings set)
-line_of_set points s set None = []
+abbrev pub set_row : PointFormat → SetEntry → (in_service links : ℕ) → List ℕ
+set_row points set in_service links =
+    cell 12 set.name ++ cell 8 (point_text points set.adjacent) ++ cell 11 (available_text in_service)
+    ++ cell 10 (decimal in_service) ++ last_cell (decimal links)
 
-abbrev pub set_line : PointFormat → Kept → (set : ℕ) → List ℕ
-set_line points s set = line_of_set points s set (slice_get s.settings.sets set)
+abbrev pub row_of_set : PointFormat → Kept → (set : ℕ) → Option SetEntry → List ℕ
+row_of_set points s set (Some row) = set_row points row (links_in_service s set) (links_of_set s.settings set)
+row_of_set points s set None = []
+
+-- ---- links
+
+-- the state in which a link was last seen, and since when it is in that, in seconds after the start
+abbrev pub seen_state : Option StateSince → List ℕ
+seen_state (Some seen) = state_words seen.state
+seen_state None = codes "-"
+
+abbrev pub seen_since : Option StateSince → List ℕ
+seen_since (Some seen) = seconds_text seen.since_ms
+seen_since None = codes "-"
+
+abbrev pub links_head : List ℕ
+links_head =
+    codes "  LINK          SET           STATE               SINCE       ALIGNMENT     WAITING  FSN       BSN\n"
+
+-- how far a link is on its way into service, how many messages of its queue aren't confirmed, and the numbers of the last
+-- message that was sent, and of the last that was accepted
+abbrev pub link_row : Configuration → Option StateSince → LinkEntry → LinkView → List ℕ
+link_row c seen row view =
+    cell 12 row.name ++ cell 12 (set_name_in c row.set) ++ cell 18 (seen_state seen) ++ cell 10 (seen_since seen)
+    ++ cell 12 (standing_name view.standing) ++ cell 7 (decimal view.waiting) ++ cell 8 (message_text view.last_sent)
+    ++ last_cell (message_text view.last_accepted)
+
+abbrev pub row_of_link : List StateSince → Kept → (link : ℕ) → Option LinkEntry → Option LinkView → List ℕ
+row_of_link states s link (Some row) (Some view) = link_row s.settings (slice_get states link) row view
+row_of_link states s link (Some row) None = []
+row_of_link states s link None view = []
+
+-- ---- destinations
+
+abbrev pub routes_head : List ℕ
+routes_head = codes "  DESTINATION  STATUS      SETS TAKEN                ALL SETS\n"
+
+-- the names of some sets, each behind a blank
+abbrev pub each_set : Configuration → List ℕ → List ℕ
+each_set c [] = []
+each_set c (set ∷ sets) = codes " " ++ set_name_in c set ++ each_set c sets
+
+-- the status of the routes that messages take, and the sets that these lead over; then all sets that routes lead over
+abbrev pub route_row : PointFormat → Configuration → (sets : List ℕ) → RouteView → List ℕ
+route_row points c sets view =
+    cell 11 (point_text points view.point) ++ cell 10 (status_name view.status) ++ cell 24 (sets_text c view.sets.items)
+    ++ codes " " ++ each_set c sets ++ codes "\n"
+
+abbrev pub row_of_route : PointFormat → Configuration → Option DestinationEntry → Option RouteView → List ℕ
+row_of_route points c (Some row) (Some view) = route_row points c row.sets view
+row_of_route points c (Some row) None = []
+row_of_route points c None view = []
 
 -- ---- a link, a fact a line
 
@@ -95,10 +150,6 @@ number_fact word number = word ++ decimal number ++ codes "\n"
 -- a number, or - for none
 abbrev pub given_fact : (word : List ℕ) → Option ℕ → List ℕ
 given_fact word given = word ++ given_text given ++ codes "\n"
-
--- the number of a message; before the first there is none
-abbrev pub some_number : ℕ → Option ℕ
-some_number number = if nat_eq number NO_NUMBER then None else Some number
 
 abbrev pub adjacent_fact : PointFormat → Option SetEntry → List ℕ
 adjacent_fact points (Some set) = codes "adjacent " ++ point_text points set.adjacent ++ codes "\n"
@@ -141,21 +192,36 @@ link_fact points states s link None = []
 
 -- ---- a whole text
 
--- line k of a listing, or its lines for entry k
+abbrev pub head_of : Listing → List ℕ
+head_of listing.Timers = timers_head
+head_of listing.Sets = sets_head
+head_of listing.Links = links_head
+head_of listing.Routes = routes_head
+head_of (listing.Link link) = []
+
+-- the row of entry k of a table, or line k about a link
 abbrev pub entry_of : PointFormat → (tick_ms : ℕ) → List StateSince → Kept → Listing → ℕ → List ℕ
-entry_of points tick_ms states s listing.Timers k =
-    timer_line tick_ms (slice_get (keyed_timers s.settings.timers) k)
-entry_of points tick_ms states s listing.Sets k = set_line points s k
+entry_of points tick_ms states s listing.Timers k = row_of_timer tick_ms (slice_get (keyed_timers s.settings.timers) k)
+entry_of points tick_ms states s listing.Sets k = row_of_set points s k (slice_get s.settings.sets k)
+entry_of points tick_ms states s listing.Links k =
+    row_of_link states s k (slice_get s.settings.links k) (link_view kept s k)
+entry_of points tick_ms states s listing.Routes k =
+    row_of_route points s.settings (slice_get s.settings.destinations k) (route_view s k)
 entry_of points tick_ms states s (listing.Link link) k = link_fact points states s link (slice_get LINK_FACTS.now k)
 
 abbrev pub length_of : Kept → Listing → ℕ
 length_of s listing.Timers = TIMERS
 length_of s listing.Sets = length s.settings.sets
+length_of s listing.Links = length s.settings.links
+length_of s listing.Routes = length s.settings.destinations
 length_of s (listing.Link link) = length LINK_FACTS.now
 
-abbrev pub listing_text : PointFormat → (tick_ms : ℕ) → List StateSince → Kept → Listing → List ℕ
-listing_text points tick_ms states s listing =
+abbrev pub entries_text : PointFormat → (tick_ms : ℕ) → List StateSince → Kept → Listing → List ℕ
+entries_text points tick_ms states s listing =
     first_texts (entry_of points tick_ms states s listing) (length_of s listing)
+
+abbrev pub listing_text : PointFormat → (tick_ms : ℕ) → List StateSince → Kept → Listing → List ℕ
+listing_text points tick_ms states s listing = head_of listing ++ entries_text points tick_ms states s listing
 
 -- the settings as they are now, part by part
 abbrev pub rows_text : PointFormat → Kept → SettingsPart → List ℕ

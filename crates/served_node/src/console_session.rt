@@ -9,11 +9,14 @@ mod command;
 mod counting;
 mod help;
 mod link_facts;
+mod link_rows;
 mod listing;
 mod outbox;
-mod set_lines;
+mod route_rows;
+mod set_rows;
 mod settings_text;
-mod timer_lines;
+mod table;
+mod timer_rows;
 
 pub use answering::do_script_line;
 pub use client::{ConsoleClient, ConsoleContext, Ending, LINE_OCTETS, News};

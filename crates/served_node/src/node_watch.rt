@@ -106,13 +106,6 @@ impl NodeWatch {
         &self.alarms
     }
 
-    /// The links as they were last seen.
-    pub fn links(&self) -> &ServiceStates
-        ensures { result.now ≡ self.now.links }
-    {
-        &self.links
-    }
-
     /// Looks at each link, and at each set the first time, and if a link changed; at the flags, the pool, and whether the
     /// capture failed; and at the next destinations. The log is told of changes, and of alarms that are raised or cleared.
     pub(crate) fn look<W: Sink>(

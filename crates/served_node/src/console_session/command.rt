@@ -40,7 +40,7 @@ pub enum ConsoleLine<'a> {
     Version,
     /// `show alarms`: the alarms that are raised.
     Alarms,
-    /// `show timers`, `show sets`.
+    /// `show timers`, `show sets`, `show links`, `show routes`.
     Listing(Listing),
     /// `show link LINK`: what is known of the link of this name; no link need have it.
     Link(&'a [u8]),
@@ -134,7 +134,7 @@ fn test_line(line: &[u8]) -> Option<ConsoleLine<'_>>
     }
 }
 
-/// What a line asks for that shows the timers, the sets, the settings or a link.
+/// What a line asks for that shows the timers, the sets, the links, the destinations, the settings or a link.
 fn text_line(line: &[u8]) -> Option<ConsoleLine<'_>>
     ensures { own_line_of result ≡ text_line line.now }
 {
@@ -142,6 +142,10 @@ fn text_line(line: &[u8]) -> Option<ConsoleLine<'_>>
         Some(ConsoleLine::Listing(Listing::Timers))
     } else if line == b"show sets".as_slice() {
         Some(ConsoleLine::Listing(Listing::Sets))
+    } else if line == b"show links".as_slice() {
+        Some(ConsoleLine::Listing(Listing::Links))
+    } else if line == b"show routes".as_slice() {
+        Some(ConsoleLine::Listing(Listing::Routes))
     } else if line == b"show settings".as_slice() {
         Some(ConsoleLine::Settings)
     } else {

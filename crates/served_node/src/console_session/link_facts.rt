@@ -1,17 +1,15 @@
 //! What is known of a link, a fact a line.
 
-ghost use Rattle.std.specs.Prelude.{◌≡◌, ◌≤◌, length};
+ghost use Rattle.std.specs.Prelude.{◌≡◌, ◌≤◌, length, slice_get};
 ghost use Rattle.std.specs.Option.{option_copied};
 ghost use Rattle.served_node.specs.Listings as text;
 
+use super::table::some_number;
 use arrayvec::ArrayString;
 use console::{LINE_OCTETS, push_number, push_point, set_name};
 use exchange::{Exchange, LinkView};
 use served_link::{ServiceStates, StateSince, seconds_text};
 use settings::{Limits, LinkId, LinkRow, PointFormat, SetRow};
-
-/// The number of the last message before the first.
-pub const NO_NUMBER: u32 = 16_777_215;
 
 /// Something that is known of a link.
 #[derive(Clone, Copy)]
@@ -55,18 +53,17 @@ pub const LINK_FACTS: &[LinkFact] = &[
 /// A line.
 type FactLine = ArrayString<LINE_OCTETS>;
 
-/// The line of something that is known of a link; nothing if there is no such link. The links are those that were last
-/// seen.
+/// Line `k` about a link; nothing past the last, or if there is no such link. The links are those that were last seen.
 pub(crate) fn link_fact(
     exchange: &Exchange,
     links: &ServiceStates,
     link: LinkId,
-    fact: Option<&LinkFact>,
+    k: usize,
     points: PointFormat,
 ) -> FactLine
-    ensures { result.bytes ≡ text.link_fact points links.now exchange.now link (option_copied fact.entry) }
+    ensures { result.bytes ≡ text.link_fact points links.now exchange.now link (slice_get LINK_FACTS.now k) }
 {
-    let Some(fact) = fact else {
+    let Some(fact) = LINK_FACTS.get(k) else {
         return FactLine::new();
     };
     let Some(row) = exchange.settings().links().get(link.index()) else {
@@ -140,17 +137,6 @@ fn given_fact(word: &str, given: Option<u32>) -> FactLine
         return name_fact(word, "-");
     };
     number_fact(word, u64::from(number))
-}
-
-/// The number of a message; before the first there is none.
-fn some_number(number: u32) -> Option<u32>
-    ensures { result ≡ text.some_number number }
-{
-    if number == NO_NUMBER {
-        None
-    } else {
-        Some(number)
-    }
 }
 
 /// The share of the pool that a link has, if it has one.

@@ -1,63 +1,66 @@
-//! The lines of link sets.
+//! The table of link sets.
 
-ghost use Rattle.std.specs.Prelude.{◌≡◌, ◌<◌, ◌≤◌, length};
+ghost use Rattle.std.specs.Prelude.{◌≡◌, ◌<◌, ◌≤◌, length, slice_get};
 ghost use Rattle.served_link.specs.ShownStates.{service_state_in};
 ghost use Rattle.served_node.specs.Listings.{available_text, is_of_set, is_state_available, links_in_service};
-ghost use Rattle.served_node.specs.Listings.{links_of_set, set_line, set_text};
+ghost use Rattle.served_node.specs.Listings.{links_of_set, row_of_set, set_row};
 
-use arrayvec::ArrayString;
-use console::{LINE_OCTETS, push_number, push_point};
+use super::table::{Row, number_text, push_cell, push_last, push_number_cell, push_point_cell};
 use exchange::Exchange;
 use served_link::service_state;
 use settings::{Limits, LinkId, PointFormat, SetId, SetRow, Settings};
 
-/// The line of set `k`, from 0: `set NAME adjacent POINT available in service N of M`, or `unavailable`: how many of
-/// its links are in service. Nothing past the last.
-pub(crate) fn set_line(
-    exchange: &Exchange,
-    k: usize,
-    points: PointFormat,
-) -> ArrayString<LINE_OCTETS>
-    ensures { result.bytes ≡ set_line points exchange.now k }
+/// The width of the column of names.
+const NAME: usize = 12;
+
+/// The width of the column of adjacent points.
+const ADJACENT: usize = 8;
+
+/// The width of the column of states.
+const STATE: usize = 11;
+
+/// The width of the column that counts links in service.
+const IN_SERVICE: usize = 10;
+
+/// The head line of the link sets.
+pub(crate) const SETS_HEAD: &str = "  SET           ADJACENT  STATE        IN SERVICE  LINKS\n";
+
+/// The row of set `k`, from 0: its name, the adjacent point, whether it is available, how many of its links are in
+/// service, and how many it has. Nothing past the last.
+pub(crate) fn set_row(exchange: &Exchange, k: usize, points: PointFormat) -> Row
+    ensures { result.bytes ≡ row_of_set points exchange.now k (slice_get exchange.now.settings.sets k) }
 {
     let Some(row) = exchange.settings().sets().get(k) else {
-        return ArrayString::new();
+        return Row::new();
     };
     let set = SetId::new(k as u8);
     let in_service = links_in_service(exchange, set);
     let links = links_of_set(exchange.settings(), set);
-    line_of(row, points, in_service, links)
+    row_of(row, points, in_service, links)
 }
 
-/// The line of a set of which so many of its links are in service.
-fn line_of(
-    row: &SetRow,
-    points: PointFormat,
-    in_service: usize,
-    links: usize,
-) -> ArrayString<LINE_OCTETS>
-    ensures { result.bytes ≡ set_text points row.now in_service links }
+/// The row of a set of which so many of its links are in service.
+fn row_of(set: &SetRow, points: PointFormat, in_service: usize, links: usize) -> Row
+    ensures { result.bytes ≡ set_row points set.now in_service links }
 {
-    let mut line = ArrayString::new();
-    line.push_str("set ");
-    line.push_str(row.name());
-    push_point(&mut line, " adjacent ", row.adjacent(), points);
-    line.push_str(available_text(in_service));
-    push_number(&mut line, " in service ", in_service as u64);
-    push_number(&mut line, " of ", links as u64);
-    line.push_str("\n");
-    line
+    let mut row = Row::new();
+    push_cell(&mut row, NAME, set.name());
+    push_point_cell(&mut row, ADJACENT, set.adjacent(), points);
+    push_cell(&mut row, STATE, available_text(in_service));
+    push_number_cell(&mut row, IN_SERVICE, in_service as u64);
+    push_last(&mut row, number_text(links as u64).as_str());
+    row
 }
 
 /// Whether a set of so many links in service is available, in words.
 fn available_text(in_service: usize) -> &'static str
     ensures text { result.now ≡ available_text in_service }
-    ensures short { length result.now ≤ 12 }
+    ensures short { length result.now ≤ STATE }
 {
     if in_service == 0 {
-        " unavailable"
+        "unavailable"
     } else {
-        " available"
+        "available"
     }
 }
 

@@ -1,7 +1,6 @@
 //! The settings of a node as they are now, as a settings file.
 
-ghost use Rattle.std.specs.Prelude.{◌≡◌, OnOk, OnErr};
-ghost use Rattle.std.specs.Option.{option_copied};
+ghost use Rattle.std.specs.Prelude.{◌≡◌, OnOk, OnErr, slice_get};
 ghost use Rattle.std.specs.Io.KnownBytes.{Appends};
 ghost use Rattle.console.specs.SettingsTexts.{rows_of};
 ghost use Rattle.script.specs.Streams.{AppendsFirst, failures_after};
@@ -26,26 +25,26 @@ pub(crate) fn print_settings<W: Sink>(
     ensures counted { (W.output writer.new).failures ≡ failures_after (W.output writer.old).failures result }
 {
     for k in 0..SETTINGS_PARTS.len() {
-        print_part(exchange, SETTINGS_PARTS.get(k), points, writer)?;
+        print_part(exchange, k, points, writer)?;
     }
     Ok(())
 }
 
-/// Prints a part of the settings, if there is one.
+/// Prints part `k` of the settings, if there is one.
 #[tactic(auto, using(crate::proofs::Counted::text_steps))]
 fn print_part<W: Sink>(
     exchange: &Exchange,
-    part: Option<&SettingsPart>,
+    k: usize,
     points: PointFormat,
     writer: &mut W,
 ) -> Result<(), WriteFailed>
     ensures all { OnOk result (Appends (W.output writer.old).written (W.output writer.new).written
-        (part_text points exchange.now (option_copied part.entry))) }
+        (part_text points exchange.now (slice_get SETTINGS_PARTS.now k))) }
     ensures first { OnErr result (AppendsFirst (W.output writer.old).written (W.output writer.new).written
-        (part_text points exchange.now (option_copied part.entry))) }
+        (part_text points exchange.now (slice_get SETTINGS_PARTS.now k))) }
     ensures counted { (W.output writer.new).failures ≡ failures_after (W.output writer.old).failures result }
 {
-    match part {
+    match SETTINGS_PARTS.get(k) {
         Some(part) => print_rows(exchange, *part, points, writer),
         None => Ok(()),
     }

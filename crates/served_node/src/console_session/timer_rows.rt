@@ -1,41 +1,52 @@
-//! The lines of timers.
+//! The table of timers.
 
-ghost use Rattle.std.specs.Prelude.{◌≡◌, ◌*◌, ◌+◌, ◌≤◌, ◌++◌, length, slice_get};
+ghost use Rattle.std.specs.Prelude.{◌≡◌, ◌*◌, ◌≤◌, length, slice_get};
 ghost use Rattle.console.specs.TimerKeys.{keyed_timers};
-ghost use Rattle.served_node.specs.Listings.{length_text, timer_line};
+ghost use Rattle.served_node.specs.Listings.{row_of_timer, timer_row};
 
-use arrayvec::ArrayString;
-use console::{LINE_OCTETS, keyed_timer, push_number};
+use super::table::{Row, push_cell, push_last, push_number_cell};
+use console::keyed_timer;
 use served_link::seconds_text;
 use settings::TimerTicks;
 
-/// The line of timer `k`, from 0: `timer KEY N ticks S s`, or `timer KEY -` if the settings don't have it. A tick takes
-/// so many milliseconds. Nothing past the last.
-pub(crate) fn timer_line(timers: TimerTicks, k: usize, tick_ms: u16) -> ArrayString<LINE_OCTETS>
-    ensures { result.bytes ≡ timer_line tick_ms (slice_get (keyed_timers timers) k) }
+/// The head line of the timers.
+pub(crate) const TIMERS_HEAD: &str = "  TIMER   TICKS  SECONDS\n";
+
+/// The width of the column of keys.
+const KEY: usize = 6;
+
+/// The width of the column of ticks.
+const TICKS: usize = 5;
+
+/// The row of timer `k`, from 0: its key, how many ticks it runs, and how many seconds these are; `-` if the settings
+/// don't have it. A tick takes so many milliseconds. Nothing past the last.
+pub(crate) fn timer_row(timers: TimerTicks, k: usize, tick_ms: u16) -> Row
+    ensures { result.bytes ≡ row_of_timer tick_ms (slice_get (keyed_timers timers) k) }
 {
-    let mut line = ArrayString::new();
-    if let Some(timer) = keyed_timer(timers, k) {
-        line.push_str("timer ");
-        line.push_str(timer.key);
-        push_length(&mut line, timer.ticks, tick_ms);
+    match keyed_timer(timers, k) {
+        Some(timer) => row_of(timer.key, timer.ticks, tick_ms),
+        None => Row::new(),
     }
-    line
 }
 
-/// Appends how many ticks a timer runs, and how many seconds these are.
-fn push_length(line: &mut ArrayString<LINE_OCTETS>, ticks: Option<u16>, tick_ms: u16)
-    requires { length line.old.bytes + 64 ≤ LINE_OCTETS }
-    ensures { line.new.bytes ≡ line.old.bytes ++ length_text tick_ms ticks }
+/// The row of a timer with this key.
+fn row_of(key: &str, ticks: Option<u16>, tick_ms: u16) -> Row
+    requires { length key.now ≤ KEY }
+    ensures { result.bytes ≡ timer_row tick_ms key.now ticks }
 {
+    let mut row = Row::new();
+    push_cell(&mut row, KEY, key);
     let Some(ticks) = ticks else {
-        line.push_str(" -\n");
-        return;
+        push_cell(&mut row, TICKS, "-");
+        push_last(&mut row, "-");
+        return row;
     };
-    push_number(line, " ", u64::from(ticks));
-    line.push_str(" ticks ");
-    line.push_str(seconds_text(milliseconds(ticks, tick_ms)).as_str());
-    line.push_str(" s\n");
+    push_number_cell(&mut row, TICKS, u64::from(ticks));
+    push_last(
+        &mut row,
+        seconds_text(milliseconds(ticks, tick_ms)).as_str(),
+    );
+    row
 }
 
 /// How many milliseconds so many ticks take.

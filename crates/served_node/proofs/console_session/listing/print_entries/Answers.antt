@@ -3,7 +3,7 @@ use Rattle.std.proofs.Common.{◌≡◌, ◌<◌, List, ℕ, length, ◌∙◌, 
 use Rattle.served_node.specs.Listings.{entry_of, length_of}
 use Rattle.script.proofs.Shown.{on-error}
 use Rattle.served_node.proofs.Counted.{texts-next, texts-broken}
-use Rattle.served_node.proofs.console_session.listing.print_listing.Goals as goal
+use Rattle.served_node.proofs.console_session.listing.print_entries.Goals as goal
 
 pub loop-k-preserved : goal.loop-k-preserved
 loop-k-preserved g c =

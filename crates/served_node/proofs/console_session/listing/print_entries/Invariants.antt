@@ -3,7 +3,7 @@ use Rattle.std.proofs.Common.{◌≡◌}
 use Rattle.std.specs.Io.KnownBytes.{Appends}
 use Rattle.served_node.specs.Listings.{entry_of, length_of}
 use Rattle.served_node.specs.Counters.{first_texts}
-use Rattle.served_node.proofs.console_session.listing.print_listing.Given as goal
+use Rattle.served_node.proofs.console_session.listing.print_entries.Given as goal
 
 abbrev pub invariant-loop-k : goal.invariant-loop-k
 invariant-loop-k g l = record {

@@ -1,7 +1,7 @@
 -- So many of the links so far are such.
 use Rattle.std.proofs.Common.{◌≡◌, ◌≤◌}
 use Rattle.served_node.specs.Listings.{count_first, serves_set}
-use Rattle.served_node.proofs.console_session.set_lines.links_in_service.Given as goal
+use Rattle.served_node.proofs.console_session.set_rows.links_in_service.Given as goal
 
 abbrev pub invariant-loop-k : goal.invariant-loop-k
 invariant-loop-k l = record {

@@ -1,7 +1,7 @@
 -- So many of the links so far are such.
 use Rattle.std.proofs.Common.{◌≡◌, ◌≤◌}
 use Rattle.served_node.specs.Listings.{count_first, is_of_set}
-use Rattle.served_node.proofs.console_session.set_lines.links_of_set.Given as goal
+use Rattle.served_node.proofs.console_session.set_rows.links_of_set.Given as goal
 
 abbrev pub invariant-loop-k : goal.invariant-loop-k
 invariant-loop-k l = record {
