@@ -270,10 +270,14 @@ class Node:
         assert self.operator is not None
         return self.operator.ask(line)
 
+    def table(self, name: str) -> list[dict[str, str]]:
+        """The rows of a table that the console shows, by the names of its columns. At least two blanks are between."""
+        head, *rows = [re.split(" {2,}", line.strip()) for line in self.ask(f"show {name}")]
+        return [dict(zip(head, row, strict=True)) for row in rows]
+
     def links(self) -> dict[str, tuple[str, int]]:
-        """The state of each link, and how many messages wait on it."""
-        words = [line.split() for line in self.ask("show links")]
-        return {it[1]: (it[2], int(it[4])) for it in words}
+        """The alignment of each link, and how many messages wait on it."""
+        return {row["LINK"]: (row["ALIGNMENT"], int(row["WAITING"])) for row in self.table("links")}
 
     def is_at_rest(self, names: Iterable[str] | None = None) -> bool:
         """Whether these links are in service, and no message waits on them."""

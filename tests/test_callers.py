@@ -12,8 +12,9 @@ KEPT_NOTICES = 64
 LOST = 100
 LINE_OCTETS = 8300
 QUESTIONS = 6000
-HELP_LINES = 30
-ROUTE = f"route {FAR} to-{FAR} allowed"
+HELP_LINES = 35
+ROUTES = ["  DESTINATION  STATUS      SETS TAKEN                ALL SETS",
+          f"  {FAR}            allowed     to-{FAR}                      to-{FAR}"]
 FLAGS = ["flag lost_any 0", "flag late_any 0"]
 
 # What a web page may have a browser write to any port, without the body.
@@ -61,7 +62,6 @@ MISTAKES = {
     "take e0": OF_SCRIPTS,
     "wants e0": OF_SCRIPTS,
     "show lnks": "show has no lnks; the nearest is links",
-    "show link e0": "show has no link; the nearest is links",
     "show everything": "show has no everything; help lists them",
     f"show {'x' * 33}": "show has no such text; help lists them",
     "show": OF_SHOW,
@@ -120,16 +120,17 @@ class Callers(NodeTest):
         self.near, self.far = self.pair.near, self.pair.far
 
     def test_what_there_is(self) -> None:
-        shown = self.near.ask("show links")
+        head, *shown = self.near.ask("show links")
+        self.assertEqual(head.split(), ["LINK", "SET", "STATE", "SINCE", "ALIGNMENT", "WAITING", "FSN", "BSN"])
         self.assertEqual(len(shown), 3)
         for number, line in enumerate(shown):
-            self.assertRegex(line, rf"^link e{number} InService waiting 0 fsn \d+ bsn \d+$")
-        self.assertEqual(self.near.ask("show routes"), [ROUTE])
+            self.assertRegex(line, rf"^  e{number} {{12}}to-{FAR} {{10}}[a-z ]{{18}}  [\d.]+ +InService {{5}}0 {{8}}\d+ +\d+$")
+        self.assertEqual(self.near.ask("show routes"), ROUTES)
         self.assertEqual(len(self.near.ask("show counters")), 3 * 54 + 3)
         self.assertEqual(len(self.near.ask("help")), HELP_LINES)
         self.assertEqual(self.near.ask("# nothing\n"), [])
         caller = self.near.call()
-        self.assertEqual(caller.ask("show routes"), [ROUTE])
+        self.assertEqual(caller.ask("show routes"), ROUTES)
         caller.write("up e0\n")
         self.assertEqual(caller.read_line(), f"malformed: {OF_SCRIPTS}", "the network isn't a caller's")
         caller.write("title add 0 1 4 4917 0-000-2 ssn 6\n")
@@ -152,7 +153,7 @@ class Callers(NodeTest):
         """They don't matter before and behind a line, nor how many are between words. A line of blanks is empty."""
         caller = self.near.call()
         for line in ("show routes", "  show routes", "show routes  ", "show    routes", "   show   routes  \r"):
-            self.assertEqual(caller.ask(line), [ROUTE], line)
+            self.assertEqual(caller.ask(line), ROUTES, line)
         for line in ("   ", "  # nothing", "  \r"):
             self.assertEqual(caller.ask(line), [], line)
         self.assertEqual(caller.ask(" title  add 0 1 4  4917 9 ssn   6 "), ["handled"])
@@ -164,7 +165,7 @@ class Callers(NodeTest):
         caller.write("users\nwatch\nwatch frames\n" + "show routes\n" * QUESTIONS + "quit\ndeactivate e0\nstop\n")
         self.assertEqual(caller.read_lines(3), ["handled"] * 3)
         rest = [line for line in caller.read_to_end() if not line.startswith(("local ", "e0 ", "e1 ", "e2 "))]
-        self.assertEqual(rest, [ROUTE] * QUESTIONS + ["handled"])
+        self.assertEqual(rest, ROUTES * QUESTIONS + ["handled"])
         self.assertEqual([state for state, _ in self.near.links().values()], ["InService"] * 3)
 
     def test_messages_are_told(self) -> None:
@@ -192,19 +193,19 @@ class Callers(NodeTest):
                   *(self.near.call() for _ in range(MOST_CALLERS - len(self.near.callers)))]
         for caller in others:
             self.assertEqual(caller.ask("show flags"), FLAGS)
-        self.assertEqual(self.near.call().ask("show routes"), [ROUTE])
+        self.assertEqual(self.near.call().ask("show routes"), ROUTES)
         self.assertTrue(idle.sees_end())
         for caller in (watcher, *others):
-            self.assertEqual(caller.ask("show routes"), [ROUTE])
+            self.assertEqual(caller.ask("show routes"), ROUTES)
 
     def test_the_longest_line(self) -> None:
         first, second = self.near.call(), self.near.call()
-        self.assertEqual(first.ask("show routes"), [ROUTE])
+        self.assertEqual(first.ask("show routes"), ROUTES)
         first.write("x" * LINE_OCTETS + "\n")
         self.assertEqual(first.read_line(), f"malformed: {NO_COMMAND}")
         second.write("x" * (LINE_OCTETS + 1))
         self.assertTrue(second.sees_end())
-        self.assertEqual(first.ask("show routes"), [ROUTE])
+        self.assertEqual(first.ask("show routes"), ROUTES)
 
     def test_a_web_page_that_posts(self) -> None:
         """The first line of a request is none of a caller's, so the connection is closed, and the lines behind it do
@@ -215,10 +216,10 @@ class Callers(NodeTest):
             page.write(front + POST + "deactivate e1\nstop\n")
             page.sees_end()
         self.near.await_log("caller .* gone$", 3)
-        self.assertEqual(caller.ask("show routes"), [ROUTE])
+        self.assertEqual(caller.ask("show routes"), ROUTES)
         caller.write(POST.splitlines(keepends=True)[0])
         self.assertEqual(caller.read_line(), "malformed: no command POST; help lists them")
-        self.assertEqual(caller.ask("show routes"), [ROUTE])
+        self.assertEqual(caller.ask("show routes"), ROUTES)
         self.assertEqual([state for state, _ in self.near.links().values()], ["InService"] * 3)
         self.assertEqual(self.near.logged("notice"), 0)
 
@@ -226,7 +227,7 @@ class Callers(NodeTest):
         # What its sockets hold is less than the answers, which are some 7 MB.
         deaf = self.near.call(receive_octets=4096)
         deaf.write("help\n" * QUESTIONS)
-        self.assertEqual(self.near.ask("show routes"), [ROUTE])
+        self.assertEqual(self.near.ask("show routes"), ROUTES)
         self.pair.exchange(MESSAGES)
         answers = deaf.read_lines(HELP_LINES * QUESTIONS)
         self.assertEqual(answers, answers[:HELP_LINES] * QUESTIONS)
@@ -235,7 +236,7 @@ class Callers(NodeTest):
         caller = self.near.call()
         caller.write("users\r\nshow routes\r\nshow ro")
         caller.socket.shutdown(socket.SHUT_WR)
-        self.assertEqual(caller.read_lines(2), ["handled", ROUTE])
+        self.assertEqual(caller.read_lines(3), ["handled", *ROUTES])
         self.assertTrue(caller.sees_end(), "the beginning of a line does nothing")
 
     def test_stop(self) -> None:
@@ -254,7 +255,8 @@ class Points(NodeTest):
         self.near.start()
 
     def test_points_are_shown(self) -> None:
-        self.assertEqual(self.near.ask("show routes"), [f"route {it} none prohibited" for it in IN_PARTS.values()])
+        rows = [(row["DESTINATION"], row["STATUS"], row["SETS TAKEN"]) for row in self.near.table("routes")]
+        self.assertEqual(rows, [(it, "prohibited", "none") for it in IN_PARTS.values()])
 
     def test_points_are_read(self) -> None:
         """A point is read in either form, and a row leads there by title or by subsystem."""

@@ -48,10 +48,10 @@ class Peer:
 class NodeLog(NodeTest):
     def alarms(self, node) -> list[str]:
         """The alarms that are raised, without the time."""
-        lines = node.ask("show alarms")
-        for line in lines:
-            self.assertRegex(line, rf"^alarm .* since {SECONDS}$")
-        return [line.split(" since ")[0].removeprefix("alarm ") for line in lines]
+        rows = node.table("alarms")
+        for row in rows:
+            self.assertRegex(row["SINCE"], rf"^{SECONDS}$")
+        return [row["ALARM"] for row in rows]
 
     def await_alarms(self, node, *names: str) -> None:
         wait_until(lambda: self.alarms(node) == [*names], f"the alarms {names}")

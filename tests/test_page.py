@@ -199,11 +199,12 @@ class Page(PageTest):
         self.near.await_log(f"page {HOST}:{self.port}$")
         wait_until(lambda: self.near.is_at_rest(), "nothing is under way")
         state = self.state()
-        links = [f"link {it['name']} {it['state']} waiting {it['waiting']} fsn {it['fsn']} bsn {it['bsn']}"
-                 + " barred" * it["barred"] for it in state["links"]]
-        self.assertEqual(links, self.near.ask("show links"))
-        routes = [f"route {it['point']} {' '.join(it['sets'])} {it['status']}" for it in state["routes"]]
-        self.assertEqual(routes, self.near.ask("show routes"))
+        links = [[it["name"], it["state"], str(it["waiting"]), str(it["fsn"]), str(it["bsn"])] for it in state["links"]]
+        columns = ("LINK", "ALIGNMENT", "WAITING", "FSN", "BSN")
+        self.assertEqual(links, [[row[column] for column in columns] for row in self.near.table("links")])
+        routes = [{"DESTINATION": str(it["point"]), "STATUS": it["status"], "SETS TAKEN": "+".join(it["sets"]),
+                   "ALL SETS": " ".join(it["ways"])} for it in state["routes"]]
+        self.assertEqual(routes, self.near.table("routes"))
         self.assertEqual([it["ways"] for it in state["routes"]], [[SET["set"]]])
         flags = [f"flag lost_any {state['times_lost']}", f"flag late_any {state['times_late']}"]
         self.assertEqual(flags, self.near.ask("show flags"))
@@ -244,7 +245,7 @@ class Page(PageTest):
 
     def test_the_alarms(self) -> None:
         """While all is well none is raised. Those of the node, of links and of sets are 0, those of destinations absent."""
-        wait_until(lambda: self.near.ask("show alarms") == [], "no alarm is raised")
+        wait_until(lambda: self.near.table("alarms") == [], "no alarm is raised")
         self.assertEqual(self.state()["alarms"], [])
         names = ["flag lost_any", "flag late_any", "pool", "capture", "behind", f"set {SET['set']}",
                  *(f"link {name}" for name in self.pair.names)]
@@ -252,7 +253,7 @@ class Page(PageTest):
 
     def test_the_states_of_links(self) -> None:
         """The state of a link is that of the log, since the time of its line. Before that it was unavailable."""
-        wait_until(lambda: self.near.ask("show alarms") == [], "each link was seen in service")
+        wait_until(lambda: self.near.table("alarms") == [], "each link was seen in service")
         values, _ = self.metrics()
         for link in self.state()["links"]:
             name = link["name"]
@@ -454,17 +455,17 @@ class PageOfFailures(PageTest):
     def test_alarms(self) -> None:
         """Those that are raised are those that the console shows, since the same time, and each has a sample of 1. A
         link's state is its word of the log, and it was unavailable twice: at the start, and now."""
-        wait_until(lambda: self.near.ask("show alarms") == [], "each link was seen in service")
+        wait_until(lambda: self.near.table("alarms") == [], "each link was seen in service")
         for name in self.pair.names:
             self.near.ask(f"deactivate {name}")
         down = {f"link {name}" for name in self.pair.names} | {f"set {SET['set']}", f"destination {FAR}"}
-        wait_until(lambda: down <= {line.rsplit(" since", 1)[0][6:] for line in self.near.ask("show alarms")},
+        wait_until(lambda: down <= {row["ALARM"] for row in self.near.table("alarms")},
                    "all alarms are raised")
         out = {"changing over", "deactivated"}
         wait_until(lambda: {it["service"] for it in self.state()["links"]} <= out, "all links are out")
         state = self.state()
-        self.assertEqual([f"alarm {it['name']} since {it['since_ms'] / 1000:.3f}" for it in state["alarms"]],
-                         self.near.ask("show alarms"))
+        self.assertEqual([{"ALARM": it["name"], "SINCE": f"{it['since_ms'] / 1000:.3f}"} for it in state["alarms"]],
+                         self.near.table("alarms"))
         before, _ = self.metrics()
         raised = {name for name, value in alarms_in(before).items() if value == 1}
         self.assertEqual(raised, {it["name"] for it in state["alarms"]})

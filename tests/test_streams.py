@@ -78,7 +78,7 @@ class SlowReaders(NodeTest):
         for port in pair.ports:
             socket.create_connection((HOST, port)).close()
         pair.near.call().close()
-        assert len(pair.near.ask("show links")) == len(pair.names)
+        assert len(pair.near.links()) == len(pair.names)
 
 
 class FailingStreams(NodeTest):

@@ -122,7 +122,7 @@ class Services:
 
     def are_in_service(self) -> bool:
         shown = [self.tell(name, "show", "links") for name in NODES]
-        return all(len(lines) == LINKS and all(" InService " in line for line in lines) for lines in shown)
+        return all(len(rows) == LINKS and all(" in service " in row for row in rows) for _, *rows in shown)
 
     def delivered(self) -> int:
         rows = map(str.split, self.tell("far", "show", "counters"))

@@ -16,6 +16,7 @@ client_word word.Activate = codes "activate"
 client_word word.Deactivate = codes "deactivate"
 client_word word.Release = codes "release"
 client_word word.Title = codes "title"
+client_word word.Test = codes "test"
 client_word word.Users = codes "users"
 client_word word.Watch = codes "watch"
 client_word word.Capture = codes "capture"
@@ -32,8 +33,12 @@ client_word word.Reroutings = codes "reroutings"
 client_word word.Counters = codes "counters"
 client_word word.Version = codes "version"
 client_word word.Alarms = codes "alarms"
+client_word word.Timers = codes "timers"
+client_word word.Sets = codes "sets"
+client_word word.Link = codes "link"
+client_word word.Settings = codes "settings"
 
--- what a line of this command must be
+-- what a line of this command, or with this word behind `show`, must be
 abbrev pub form : ClientWord → List ℕ
 form word.Help = codes "help"
 form word.Submit = codes "submit HEX, of two hexadecimal digits for each octet"
@@ -46,6 +51,8 @@ form word.Watch = codes "watch, or watch frames"
 form word.Capture = codes "capture start or capture stop, for all links; or with LINK behind it, for that one"
 form word.Quit = codes "quit"
 form word.Stop = codes "stop"
+form word.Test = codes "test title T P N DIGITS"
+form word.Link = codes "show link LINK"
 form _ = codes "show and what help lists behind it"
 
 -- the first of some that is this word

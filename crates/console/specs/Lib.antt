@@ -8,5 +8,10 @@ pub mod Orders
 pub mod Trimming
 pub mod ClientWords
 pub mod TitleMistakes
+pub mod TitleTests
+pub mod TitleAnswers
+pub mod TimerKeys
+pub mod SettingsTexts
+pub mod NearestLinks
 pub mod Mistakes
 pub mod Malformed

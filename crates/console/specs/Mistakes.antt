@@ -9,12 +9,14 @@ use Rattle.console.specs.Words.{words, first_word, rest_of}
 use Rattle.console.specs.Commands.{command_named}
 use Rattle.console.specs.ClientWords.{first_client_word}
 use Rattle.console.specs.Orders.{Instruction, title_order}
+use Rattle.console.specs.TitleTests.{title_tested}
 use Rattle.console.specs.declared.client_words.ClientWord.{ClientWord}
 use Rattle.console.specs.declared.client_words.ClientWord.TheVariants as word
 use Rattle.console.specs.declared.client_words.TheConstants.{COMMANDS, TEXTS}
 use Rattle.console.specs.declared.mistakes.Mistake.{Mistake}
 use Rattle.console.specs.declared.mistakes.Mistake.TheVariants as mistake
 use Rattle.console.specs.declared.title_mistakes.TitleMistake.{TitleMistake}
+use Rattle.console.specs.declared.title_words.RowName.{RowName}
 
 -- behind `submit` is the text of octets
 abbrev pub octets_mistake : (digits : List ℕ) → Mistake
@@ -29,9 +31,13 @@ submit_mistake [] = mistake.Form word.Submit
 submit_mistake (digits ∷ []) = octets_mistake digits
 submit_mistake (digits ∷ second ∷ more) = mistake.Form word.Submit
 
--- behind `show` is a name of what is shown
+-- behind `show` is a name of what is shown; behind `show link` is one more word
+abbrev pub form_shown : ClientWord → ClientWord
+form_shown word.Link = word.Link
+form_shown _ = word.Show
+
 abbrev pub no_text_unless : Option ClientWord → Mistake
-no_text_unless (Some name) = mistake.Form word.Show
+no_text_unless (Some name) = mistake.Form (form_shown name)
 no_text_unless None = mistake.NoText
 
 abbrev pub show_mistake : (behind : List (List ℕ)) → Mistake
@@ -46,11 +52,17 @@ abbrev pub title_mistake : (verb : List ℕ) → Result Instruction TitleMistake
 title_mistake verb (Ok order) = mistake.Form word.Title
 title_mistake verb (Err title) = row_mistake verb title
 
+-- behind `test` is a title
+abbrev pub test_mistake : Result RowName TitleMistake → Mistake
+test_mistake (Ok name) = mistake.Form word.Test
+test_mistake (Err title) = mistake.Title title
+
 -- what is wrong behind a command
 abbrev pub mistake_behind : PointFormat → ClientWord → (behind : List (List ℕ)) → Mistake
 mistake_behind points word.Submit behind = submit_mistake behind
 mistake_behind points word.Show behind = show_mistake behind
 mistake_behind points word.Title behind = title_mistake (first_word behind) (title_order points behind)
+mistake_behind points word.Test behind = test_mistake (title_tested behind)
 mistake_behind points command behind = mistake.Form command
 
 -- a word that is no command of a client may be one of a script: there the network and the clock are its

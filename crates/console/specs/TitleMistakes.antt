@@ -1,4 +1,4 @@
--- What is said of a mistake in the words behind `title`.
+-- What is said of a mistake in the words behind `title`, and behind `test`.
 use Rattle.std.specs.Prelude.{ℕ, List, ◌++◌, codes}
 use Rattle.console.specs.declared.title_mistakes.TitleMistake.{TitleMistake}
 use Rattle.console.specs.declared.title_mistakes.TitleMistake.TheVariants as title
@@ -21,6 +21,8 @@ title_front order title.NewPlan = order
 title_front order title.NewNature = order
 title_front order title.Remove = order
 title_front order title.Add = order
+title_front order title.Tested = codes "test"
+title_front order title.BehindTested = codes "test title"
 
 -- what must be
 abbrev pub title_reason : TitleMistake → List ℕ
@@ -39,6 +41,8 @@ title_reason title.NewPlan = codes "PLAN must be 0 to 15, or -"
 title_reason title.NewNature = codes "NATURE must be 0 to 127, or -"
 title_reason title.Remove = codes "REMOVE must be 0 to 32"
 title_reason title.Add = codes "ADD must be 1 to 32 of 0 to 9 and a to f, or -"
+title_reason title.Tested = codes "title must be behind it"
+title_reason title.BehindTested = codes "nothing may be behind DIGITS"
 
 abbrev pub title_sentence : (order : List ℕ) → TitleMistake → List ℕ
 title_sentence order mistake = title_front order mistake ++ (codes ": " ++ title_reason mistake)

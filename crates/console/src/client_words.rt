@@ -20,6 +20,8 @@ pub enum ClientWord {
     Release,
     /// `title`
     Title,
+    /// `test`
+    Test,
     /// `users`
     Users,
     /// `watch`
@@ -52,6 +54,14 @@ pub enum ClientWord {
     Version,
     /// `alarms`
     Alarms,
+    /// `timers`
+    Timers,
+    /// `sets`
+    Sets,
+    /// `link`
+    Link,
+    /// `settings`
+    Settings,
 }
 
 /// The words that a line begins with.
@@ -63,6 +73,7 @@ pub(crate) const COMMANDS: &[ClientWord] = &[
     ClientWord::Deactivate,
     ClientWord::Release,
     ClientWord::Title,
+    ClientWord::Test,
     ClientWord::Users,
     ClientWord::Watch,
     ClientWord::Capture,
@@ -84,6 +95,10 @@ pub(crate) const TEXTS: &[ClientWord] = &[
     ClientWord::Capture,
     ClientWord::Version,
     ClientWord::Alarms,
+    ClientWord::Timers,
+    ClientWord::Sets,
+    ClientWord::Link,
+    ClientWord::Settings,
 ];
 
 impl ClientWord {
@@ -100,6 +115,7 @@ impl ClientWord {
             ClientWord::Deactivate => "deactivate",
             ClientWord::Release => "release",
             ClientWord::Title => "title",
+            ClientWord::Test => "test",
             ClientWord::Users => "users",
             ClientWord::Watch => "watch",
             ClientWord::Capture => "capture",
@@ -116,10 +132,14 @@ impl ClientWord {
             ClientWord::Counters => "counters",
             ClientWord::Version => "version",
             ClientWord::Alarms => "alarms",
+            ClientWord::Timers => "timers",
+            ClientWord::Sets => "sets",
+            ClientWord::Link => "link",
+            ClientWord::Settings => "settings",
         }
     }
 
-    /// What a line of this command must be.
+    /// What a line of this command, or with this word behind `show`, must be.
     pub(crate) fn form(self) -> &'static str
         ensures form { result.now ≡ form self }
         ensures short { length result.now ≤ 96 }
@@ -139,6 +159,8 @@ impl ClientWord {
             }
             ClientWord::Quit => "quit",
             ClientWord::Stop => "stop",
+            ClientWord::Test => "test title T P N DIGITS",
+            ClientWord::Link => "show link LINK",
             _ => "show and what help lists behind it",
         }
     }

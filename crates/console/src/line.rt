@@ -21,7 +21,7 @@ pub(crate) fn write_count(words: &str, count: u64, line: &mut ArrayString<LINE_O
 }
 
 /// Puts a word and a number in decimal digits at the end of the line.
-pub(crate) fn push_number(line: &mut ArrayString<LINE_OCTETS>, word: &str, number: u64)
+pub fn push_number(line: &mut ArrayString<LINE_OCTETS>, word: &str, number: u64)
     requires { length line.old.bytes + length word.now + 20 ≤ LINE_OCTETS }
     ensures text { line.new.bytes ≡ line.old.bytes ++ word.now ++ decimal number }
     ensures short { length line.new.bytes ≤ length line.old.bytes + length word.now + 20 }
@@ -43,7 +43,7 @@ pub(crate) fn push_octet(line: &mut ArrayString<LINE_OCTETS>, word: &str, number
 }
 
 /// Appends a word and a point in this format.
-pub(crate) fn push_point(
+pub fn push_point(
     line: &mut ArrayString<LINE_OCTETS>,
     word: &str,
     point: PointCode,

@@ -6,12 +6,14 @@ ghost use Rattle.std.specs.Char.{is_ascii_hexdigit};
 ghost use Rattle.console.specs.Words.{first_word, words_left};
 ghost use Rattle.console.specs.Orders.{title_order};
 ghost use Rattle.console.specs.Mistakes.{mistake_behind, mistake_of, octets_mistake, show_mistake, submit_mistake};
-ghost use Rattle.console.specs.Mistakes.{row_mistake, title_mistake};
+ghost use Rattle.console.specs.Mistakes.{row_mistake, test_mistake, title_mistake};
+ghost use Rattle.console.specs.TitleTests.{title_tested};
 
 use crate::client_words::{COMMANDS, ClientWord, TEXTS, first_client_word};
 use crate::commands::Command;
 use crate::order::title_order;
 use crate::title_mistakes::TitleMistake;
+use crate::title_tests::title_tested;
 use crate::words::{cut, next_word};
 use settings::{Limits, PointFormat};
 
@@ -30,7 +32,7 @@ pub enum Mistake {
     OddDigits,
     /// They are more than a message has.
     TooManyOctets,
-    /// A word behind `title` is wrong or missing.
+    /// A word of a translation row, or of a title that is tested, is wrong or missing.
     Title(TitleMistake),
     /// A word behind `title set` is wrong or missing.
     SetTitle(TitleMistake),
@@ -58,6 +60,7 @@ fn mistake_behind(command: ClientWord, behind: Option<&[u8]>, points: PointForma
         ClientWord::Submit => submit_mistake(behind),
         ClientWord::Show => show_mistake(behind),
         ClientWord::Title => title_mistake(behind, points),
+        ClientWord::Test => test_mistake(behind),
         _ => Mistake::Form(command),
     }
 }
@@ -84,6 +87,16 @@ fn row_mistake(verb: &[u8], mistake: TitleMistake) -> Mistake
     }
 }
 
+/// What is wrong behind `test`.
+fn test_mistake(behind: Option<&[u8]>) -> Mistake
+    ensures { result ≡ test_mistake (title_tested (words_left behind.entry)) }
+{
+    match title_tested(behind) {
+        Ok(_) => Mistake::Form(ClientWord::Test),
+        Err(mistake) => Mistake::Title(mistake),
+    }
+}
+
 /// What is wrong behind `show`.
 fn show_mistake(behind: Option<&[u8]>) -> Mistake
     ensures { result ≡ show_mistake (words_left behind.entry) }
@@ -93,6 +106,7 @@ fn show_mistake(behind: Option<&[u8]>) -> Mistake
     };
     let (name, _) = cut(behind);
     match first_client_word(name, TEXTS) {
+        Some(ClientWord::Link) => Mistake::Form(ClientWord::Link),
         Some(_) => Mistake::Form(ClientWord::Show),
         None => Mistake::NoText,
     }

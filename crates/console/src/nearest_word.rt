@@ -14,7 +14,7 @@ use strsim::osa_distance;
 pub(crate) const SHOWN_OCTETS: usize = 32;
 
 /// A word is near another one if it takes at most one edit for every this many octets of that; one edit is always near.
-const OCTETS_PER_EDIT: usize = 3;
+pub(crate) const OCTETS_PER_EDIT: usize = 3;
 
 /// Whether a line shows this word: it is short, and a terminal prints it.
 pub(crate) fn is_shown(word: &[u8]) -> bool
@@ -74,7 +74,7 @@ fn nearest_to(
 
 /// How many edits lead from one text to another.
 #[tactic(auto, unfolding(crate::specs::ClientWords::edits))]
-fn edits(alloc: Global, from: &str, to: &str) -> Result<usize, AllocError>
+pub(crate) fn edits(alloc: Global, from: &str, to: &str) -> Result<usize, AllocError>
     ensures { IfOk result (λ count. count ≡ edits from.now to.now) }
 {
     osa_distance(alloc, from, to)

@@ -54,8 +54,8 @@ fn write_route(
     out.push_str(view.status.name());
 }
 
-/// Appends the names of the sets that messages take.
-fn push_sets(line: &mut ArrayString<LINE_OCTETS>, settings: &Settings, sets: &[SetId])
+/// Appends the names of the sets that messages take: `east`, `east+west` or `none`.
+pub fn push_sets(line: &mut ArrayString<LINE_OCTETS>, settings: &Settings, sets: &[SetId])
     requires { length line.old.bytes + 65 ≤ LINE_OCTETS }
     ensures text { line.new.bytes ≡ line.old.bytes ++ sets_text settings.now sets.now }
     ensures short { length line.new.bytes ≤ length line.old.bytes + 65 }

@@ -1,9 +1,9 @@
-//! What can be wrong with the words behind `title`.
+//! What can be wrong with the words behind `title`, and behind `test`.
 
 ghost use Rattle.std.specs.Prelude.{◌≡◌, ◌≤◌, length};
 ghost use Rattle.console.specs.TitleMistakes.{title_front, title_reason};
 
-/// Which word behind `title` is wrong or missing, the first of them.
+/// Which word behind `title`, or behind `test`, is wrong or missing, the first of them.
 #[derive(Clone, Copy)]
 pub enum TitleMistake {
     /// It is none of `add`, `set` and `remove`.
@@ -36,6 +36,10 @@ pub enum TitleMistake {
     Remove,
     /// The digits that a title gets.
     Add,
+    /// It isn't `title`, behind `test`.
+    Tested,
+    /// More words are behind those of the title that is tested.
+    BehindTested,
 }
 
 impl TitleMistake {
@@ -53,6 +57,8 @@ impl TitleMistake {
             | TitleMistake::Nature
             | TitleMistake::Digits => "title",
             TitleMistake::BehindName => "title remove",
+            TitleMistake::Tested => "test",
+            TitleMistake::BehindTested => "test title",
             _ => order,
         }
     }
@@ -80,6 +86,8 @@ impl TitleMistake {
             TitleMistake::NewNature => "NATURE must be 0 to 127, or -",
             TitleMistake::Remove => "REMOVE must be 0 to 32",
             TitleMistake::Add => "ADD must be 1 to 32 of 0 to 9 and a to f, or -",
+            TitleMistake::Tested => "title must be behind it",
+            TitleMistake::BehindTested => "nothing may be behind DIGITS",
         }
     }
 }

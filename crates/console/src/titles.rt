@@ -38,7 +38,7 @@ pub fn show_titles(
     true
 }
 
-fn write_title(row: &TitleRow, points: PointFormat, out: &mut ArrayString<LINE_OCTETS>)
+pub(crate) fn write_title(row: &TitleRow, points: PointFormat, out: &mut ArrayString<LINE_OCTETS>)
     ensures { out.new.bytes ≡ title_text points row.now }
 {
     out.clear();
@@ -54,7 +54,7 @@ fn write_title(row: &TitleRow, points: PointFormat, out: &mut ArrayString<LINE_O
 }
 
 /// Appends digits, `0` to `9` and `a` to `f`.
-fn push_digits(line: &mut ArrayString<LINE_OCTETS>, digits: &[u8])
+pub(crate) fn push_digits(line: &mut ArrayString<LINE_OCTETS>, digits: &[u8])
     requires digits { All (λ digit. digit < 2 ^ 4) digits.now }
     requires few { length digits.now ≤ Limits.TITLE_DIGITS }
     requires room { length line.old.bytes + Limits.TITLE_DIGITS ≤ LINE_OCTETS }

@@ -1,5 +1,5 @@
 -- What the texts of a console are to its client.
-use Rattle.std.proofs.Common.{◌≡◌, ℕ, zero, suc, List, [], ◌∷◌, ◌++◌, Bool, true, false, Option, None, Some, refl, ap, arith, length, inl, inr}
+use Rattle.std.proofs.Common.{◌≡◌, ℕ, zero, suc, List, [], ◌∷◌, ◌++◌, Bool, true, false, Option, None, Some, refl, ap, subst, ◌∙◌, append_assoc, arith, length, inl, inr}
 use Rattle.std.specs.Prelude.{codes, decimal, nat_eq, nat_le, ◌||◌, take}
 use Rattle.std.specs.Fmt.{digits}
 use Rattle.std.proofs.lemmas.Bool.Decides.{nat_tests}
@@ -26,7 +26,14 @@ use Rattle.served_node.specs.declared.console_session.client.Ending.{Ending}
 use Rattle.served_node.specs.declared.console_session.client.Ending.TheVariants.{Stays, Closes, Leaves, Stops}
 use Rattle.served_node.specs.declared.captured_links.CaptureOrder.{CaptureOrder}
 use Rattle.served_node.specs.declared.console_session.help.TheConstants.{HELP}
-use Rattle.program.specs.ConsoleLaws.{Answers, IsMalformedAnswer, IsSaid, IsHelp, IsOrderAnswer, LinesAnswer, IsNone, AnswersNone, ShownAnswersNone, outcomes_answer}
+use Rattle.program.specs.ConsoleLaws.{Answers, IsMalformedAnswer, IsSaid, IsHelp, IsOrderAnswer, LinesAnswer, IsNone, AllNone, AnswersNone, ShownAnswersNone, TestsAnswer, outcomes_answer}
+use Rattle.settings.specs.Points.{point_text}
+use Rattle.console.specs.NearestLinks.{near_link, near_link_text}
+use Rattle.console.specs.TitleAnswers.{backup_words, led_line, refusal_line}
+use Rattle.console.specs.declared.title_answers.Standing.{Standing}
+use Rattle.program.proofs.ShownLines.{line-none, nothing-none}
+use Rattle.program.proofs.ConsoleTables.{alarms, listings}
+use Rattle.program.proofs.ConsoleSettings.{settings}
 
 -- a line without anything unknown is judged by computing
 pub judged : (refuses closes_first closes : Bool) (line : List ℕ) → nat_le (length line) 64 ≡ true → is_answer line ≡ true → is_refusal line ≡ refuses
@@ -190,10 +197,22 @@ reroutings s (suc k) line e = cc e
 version : AnswersNone (codes "stp 0.1.0\n")
 version = record { line = codes "stp 0.1.0"; whole = refl; none = refl }
 
+near : (name : Option (List ℕ)) → AllNone (near_link_text name)
+near (Some name) = line-none (codes "the nearest link is " ++ name) refl
+near None = nothing-none
+
+leads : (points : PointFormat) (stands : Standing) (first point : ℕ) → AllNone (led_line points stands first point None)
+leads points stands first point = line-none (codes "leads to " ++ point_text points point ++ backup_words points stands first point) refl
+
+-- the line of a refusal is that of an outcome
+refusal : (why : Cause) → refused_line why ++ 10 ∷ [] ≡ refusal_line why
+refusal why =
+    let number = decimal (cause_number why) in
+    ap (λ (line : List ℕ). line ++ 10 ∷ [])
+    (ap (λ (line : List ℕ). line ++ cause_name why) (append_assoc (codes "refused ") number (codes " ")) ∙ append_assoc (codes "refused ") (number ++ codes " ") (cause_name why))
+
 pub shown : ShownAnswersNone
 shown = record {
-  links = λ name v is_barred. refl;
-  routes = λ points c v. refl;
   titles = λ points row. refl;
   subsystems = λ points subsystem. refl;
   notices = notices;
@@ -204,5 +223,15 @@ shown = record {
   datagrams = λ name value. refl;
   version = λ is_first counters captured captured_after ending s after old new does. told-said AnswersNone _ Stays ending old new version does.2;
   captured = captured-lines;
-  alarms = λ points c alarm since. refl;
+  alarms = alarms;
+  listings = listings;
+  settings = settings;
+  near = near;
+  leads = leads;
+}
+
+pub tests : TestsAnswer
+tests = record {
+  no_link = λ lacks_memory c name. (near_link_text (near_link lacks_memory c.links name), refl, near (near_link lacks_memory c.links name));
+  refused = λ why. subst (Answers true false false) (refusal why) (reads why).outcome;
 }

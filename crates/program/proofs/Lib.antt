@@ -10,4 +10,7 @@ pub mod Consoles
 mod Called
 mod Coming
 mod Owing
+mod ShownLines
+mod ConsoleTables
+mod ConsoleSettings
 mod ConsoleTexts

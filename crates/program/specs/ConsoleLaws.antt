@@ -1,6 +1,6 @@
 -- What a console answers and shows, as its client reads it.
 use Rattle.std.specs.Prelude.{◌≡◌, ◌⊎◌, ℕ, ◌≤◌, Bool, true, false, List, [], ◌∷◌, ◌++◌, length, take}
-use Rattle.std.specs.Prelude.{Option, Some}
+use Rattle.std.specs.Prelude.{Option, None, Some, codes}
 use Rattle.settings.specs.Configuration.{Configuration, TitleEntry}
 use Rattle.signalling_types.specs.declared.limits.TheConstants.Limits.{NAME_OCTETS}
 use Rattle.signalling_types.specs.declared.notice.Notice.{Notice}
@@ -8,15 +8,19 @@ use Rattle.signalling_types.specs.declared.outcome.Outcome.{Outcome}
 use Rattle.signalling_types.specs.declared.outcome.Outcome.TheVariants.{Queued, Held, Local, Handled, Ignored, Refused}
 use Rattle.settings.specs.declared.point.PointFormat.{PointFormat}
 use Rattle.sccp_relay.specs.declared.subsystem.Subsystem.{Subsystem}
-use Rattle.exchange.specs.declared.view.LinkView.{LinkView}
-use Rattle.exchange.specs.declared.view.RouteView.{RouteView}
 use Rattle.exchange.specs.Calls.{Kept}
 use Rattle.served_link.specs.declared.counter.Counter.{Counter}
 use Rattle.served_link.specs.Lines.{counter_line, datagram_line}
-use Rattle.console.specs.Texts.{link_text, route_text, title_text, subsystem_text, notice_text, flag_line, loss_line, rerouting_line}
+use Rattle.console.specs.Texts.{title_text, subsystem_text, notice_text, flag_line, loss_line, rerouting_line}
 use Rattle.script.specs.Texts.{outcome_line}
-use Rattle.served_link.specs.AlarmTexts.{alarm_line}
-use Rattle.served_link.specs.declared.alarm.Alarm.{Alarm}
+use Rattle.served_link.specs.declared.service_states.StateSince.{StateSince}
+use Rattle.console.specs.NearestLinks.{near_link_text, no_link_text}
+use Rattle.console.specs.TitleAnswers.{led_line, refusal_line}
+use Rattle.console.specs.declared.title_answers.Standing.{Standing}
+use Rattle.signalling_types.specs.declared.cause.Cause.{Cause}
+use Rattle.served_node.specs.Alarmed.{alarms_text}
+use Rattle.served_node.specs.Listings.{listing_text, settings_text}
+use Rattle.served_node.specs.declared.console_session.listing.Listing.{Listing}
 use Rattle.served_node.specs.Captured.{Captured, captured_line}
 use Rattle.served_node.specs.Clients.{ClientState, told_of, untold}
 use Rattle.served_node.specs.Lines.{Heard as Line, HearsUsers, HearsNotices, HearsFrames, HearsHelp, HearsQuit, HearsStop, HearsVersion}
@@ -105,10 +109,23 @@ pub record AnswersNone (text : List ℕ) : Type 0 where
   pub whole : text ≡ line ++ 10 ∷ []
   pub none : IsNone line
 
+-- lines, each with its line feed
+abbrev pub ended_lines : List (List ℕ) → List ℕ
+ended_lines [] = []
+ended_lines (line ∷ lines) = line ++ (10 ∷ ended_lines lines)
+
+abbrev pub AreNone : List (List ℕ) → Type 0
+AreNone [] = Unit {0}
+AreNone (line ∷ lines) = IsNone line × AreNone lines
+
+-- a text has whole lines, perhaps none, and none of them answers another one
+pub record AllNone (text : List ℕ) : Type 0 where
+  pub lines : List (List ℕ)
+  pub whole : text ≡ ended_lines lines
+  pub none : AreNone lines
+
 -- what is shown, and notices, answer none
 pub record ShownAnswersNone : Type 0 where
-  pub links : (name : List ℕ) (v : LinkView) (is_barred : Bool) → IsNone (link_text name v is_barred)
-  pub routes : (points : PointFormat) (c : Configuration) (v : RouteView) → IsNone (route_text points c v)
   pub titles : (points : PointFormat) (row : TitleEntry) → IsNone (title_text points row)
   pub subsystems : (points : PointFormat) (subsystem : Subsystem) → IsNone (subsystem_text points subsystem)
   pub notices : (points : PointFormat) (c : Configuration) (notice : Notice) → IsNone (notice_text points c notice)
@@ -119,5 +136,17 @@ pub record ShownAnswersNone : Type 0 where
   pub datagrams : (name : List ℕ) (value : ℕ) → IsNone (datagram_line name value)
   pub version : Says HearsVersion (λ old. old) AnswersNone
   pub captured : (name : List ℕ) (is_on : Bool) → IsNone (captured_line name is_on)
-  pub alarms : (points : PointFormat) (c : Configuration) (alarm : Alarm) (since : ℕ)
-      → IsNone (alarm_line points c alarm since)
+  pub alarms : (points : PointFormat) (c : Configuration) (table : List (Option ℕ)) → AllNone (alarms_text points c table)
+  pub listings : (points : PointFormat) (tick_ms : ℕ) (states : List StateSince) (s : Kept) (listing : Listing)
+      → AllNone (listing_text points tick_ms states s listing)
+  pub settings : (points : PointFormat) (s : Kept) → AllNone (settings_text points s)
+  pub near : (name : Option (List ℕ)) → AllNone (near_link_text name)
+  pub leads : (points : PointFormat) (stands : Standing) (first point : ℕ)
+      → AllNone (led_line points stands first point None)
+
+-- a name that no link has, and a title that is refused, are answered by a refusal, behind what shows nothing
+pub record TestsAnswer : Type 0 where
+  pub no_link : (lacks_memory : Bool) (c : Configuration) (name : List ℕ)
+      → (near : List ℕ) × (no_link_text lacks_memory c name ≡ codes "refused 22 NoSuchName\n" ++ near)
+      × AllNone near
+  pub refused : (cause : Cause) → Answers true false false (refusal_line cause)

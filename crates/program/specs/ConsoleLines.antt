@@ -6,14 +6,15 @@ use Rattle.std.specs.List.{starts_with}
 use Rattle.std.specs.Option.{option_map}
 use Rattle.program.specs.ConsoleAnswers.{counted_if}
 
--- A line always has an answer, but for an empty one, also with a carriage return (13), a remark, and one that shows
--- something, of which there may be none. The front of the line is enough to tell.
+-- A line always has an answer, but for an empty one, also with a carriage return (13), a remark, one that shows
+-- something, of which there may be none, and one that tests something. The front of the line is enough to tell.
 abbrev pub has_answer : List ℕ → Bool
 has_answer [] = false
 has_answer (octet ∷ octets) =
     not (bytes_eq (octet ∷ octets) (13 ∷ []))
     && (not (starts_with nat_eq (octet ∷ octets) (codes "#"))
-    && not (starts_with nat_eq (octet ∷ octets) (codes "show ")))
+    && (not (starts_with nat_eq (octet ∷ octets) (codes "show "))
+    && not (starts_with nat_eq (octet ∷ octets) (codes "test "))))
 
 -- the front of the line that isn't ended, and how many answers are due to the others
 pub record Written : Type 0 where

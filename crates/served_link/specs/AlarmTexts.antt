@@ -1,11 +1,10 @@
--- The names of alarms, and the lines of those that are raised.
-use Rattle.std.specs.Prelude.{ℕ, ◌/◌, ◌%◌, List, [], ◌++◌, codes, decimal, slice_get, slice_index_or, Option, None, Some, unwrap_or}
+-- The names of alarms, and seconds as texts.
+use Rattle.std.specs.Prelude.{ℕ, ◌/◌, ◌%◌, List, [], ◌++◌, codes, decimal, slice_get, unwrap_or}
 use Rattle.std.specs.Option.{option_map}
 use Rattle.settings.specs.Configuration.{Configuration}
 use Rattle.settings.specs.Points.{point_text}
 use Rattle.settings.specs.declared.point.PointFormat.{PointFormat}
 use Rattle.console.specs.Names.{name_in, set_name_in}
-use Rattle.served_link.specs.Alarms.{alarm_at}
 use Rattle.served_link.specs.declared.alarm.Alarm.{Alarm}
 use Rattle.served_link.specs.declared.alarm.Alarm.TheVariants as alarm
 
@@ -30,18 +29,3 @@ alarm_name points c (alarm.Destination destination) =
 abbrev pub seconds_text : (ms : ℕ) → List ℕ
 seconds_text ms =
     decimal (ms / 1000) ++ codes "." ++ decimal (ms / 100 % 10) ++ decimal (ms / 10 % 10) ++ decimal (ms % 10)
-
--- the line of an alarm that is raised since then
-abbrev pub alarm_line : PointFormat → Configuration → Alarm → (since : ℕ) → List ℕ
-alarm_line points c alarm since =
-    codes "alarm " ++ alarm_name points c alarm ++ codes " since " ++ seconds_text since ++ codes "\n"
-
--- the line of an alarm; nothing if there is none, or if it isn't raised
-abbrev pub line_since : PointFormat → Configuration → Option Alarm → (since : Option ℕ) → List ℕ
-line_since points c None since = []
-line_since points c (Some alarm) None = []
-line_since points c (Some alarm) (Some since) = alarm_line points c alarm since
-
--- the line of the alarm at a place of the table
-abbrev pub line_at : PointFormat → Configuration → List (Option ℕ) → (place : ℕ) → List ℕ
-line_at points c table place = line_since points c (alarm_at place) (slice_index_or table place None)

@@ -1,60 +1,19 @@
-//! The names of alarms, and the lines of those that are raised.
+//! The names of alarms, and seconds as texts.
 
 ghost use Rattle.std.specs.Prelude.{◌≡◌, ◌+◌, ◌<◌, ◌≤◌, ◌++◌, decimal, length};
-ghost use Rattle.served_link.specs.AlarmTexts.{alarm_line, alarm_name, destination_name_in, line_at, seconds_text};
+ghost use Rattle.served_link.specs.AlarmTexts.{alarm_name, destination_name_in, seconds_text};
 
 use crate::alarm::Alarm;
-use crate::alarms::Alarms;
 use arrayvec::ArrayString;
 use console::{link_name, set_name};
 use itoa::Buffer;
 use settings::{POINT_OCTETS, PointFormat, Settings, point_text};
-
-/// Octets of the line of an alarm, at most.
-pub const ALARM_OCTETS: usize = 112;
 
 /// Octets of seconds with three digits behind the point, at most.
 pub const SECONDS_OCTETS: usize = 32;
 
 /// Octets of the name of an alarm, at most.
 pub const NAME_OCTETS: usize = 44;
-
-/// The line of the alarm at a place of the table: `alarm NAME since SECONDS`, with its line feed; nothing if it isn't
-/// raised, or if there is none.
-pub fn alarm_line_at(
-    alarms: &Alarms,
-    place: usize,
-    settings: &Settings,
-    points: PointFormat,
-) -> ArrayString<ALARM_OCTETS>
-    ensures { result.bytes ≡ line_at points settings.now alarms.now place }
-{
-    let Some(since_ms) = alarms.since_at(place) else {
-        return ArrayString::new();
-    };
-    match Alarm::at(place) {
-        Some(alarm) => raised_line(settings, points, alarm, since_ms),
-        None => ArrayString::new(),
-    }
-}
-
-/// The line of an alarm that is raised since then.
-fn raised_line(
-    settings: &Settings,
-    points: PointFormat,
-    alarm: Alarm,
-    since_ms: u64,
-) -> ArrayString<ALARM_OCTETS>
-    ensures { result.bytes ≡ alarm_line points settings.now alarm since_ms }
-{
-    let mut line = ArrayString::new();
-    line.push_str("alarm ");
-    line.push_str(alarm_name(settings, points, &alarm).as_str());
-    line.push_str(" since ");
-    line.push_str(seconds_text(since_ms).as_str());
-    line.push_str("\n");
-    line
-}
 
 /// The name of an alarm: `link NAME`, `set NAME`, `destination POINT`, `flag lost_any`, `flag late_any`, `pool`,
 /// `capture` or `behind`.

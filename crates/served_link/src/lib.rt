@@ -36,7 +36,7 @@ pub mod unavailable;
 pub mod watch;
 
 pub use alarm::Alarm;
-pub use alarm_text::{ALARM_OCTETS, alarm_line_at, alarm_name, seconds_text};
+pub use alarm_text::{alarm_name, seconds_text};
 pub use alarms::{AlarmChange, Alarms};
 pub use association::{Association, Broken};
 pub use association_status::AssociationStatus;

@@ -6,6 +6,8 @@ pub mod Captured
 pub mod Lines
 pub mod LineLimits
 pub mod Listening
+pub mod Listings
+pub mod Tables
 pub mod Logging
 pub mod MissedNotices
 pub mod NodeChanges

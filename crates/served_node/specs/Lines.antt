@@ -1,11 +1,18 @@
 -- What a client of the console asks for by a line.
 use Rattle.std.specs.Prelude.{ℕ, Bool, true, false, if◌then◌else◌, List, codes, Option, None, Some, Result, Ok, Err}
-use Rattle.std.specs.Prelude.{◌||◌, bytes_eq, length, take, drop}
+use Rattle.std.specs.Prelude.{◌||◌, bytes_eq, nat_eq, length, take, drop}
+use Rattle.std.specs.List.{list_any}
 use Rattle.std.specs.Option.{option_map}
 use Rattle.settings.specs.declared.point.PointFormat.{PointFormat}
+use Rattle.console.specs.TitleTests.{title_tested}
+use Rattle.console.specs.Words.{words, first_word, rest_of}
+use Rattle.console.specs.declared.title_mistakes.TitleMistake.{TitleMistake}
+use Rattle.console.specs.declared.title_words.RowName.{RowName}
 use Rattle.script.specs.Asking.{Asked, AskUp, AskDown, AskFrame, AskTick, AskTake, AskWants, AskSubmit, AskOrder}
 use Rattle.script.specs.Asking.{AskShow, Reading, Skips, IsMalformed, Asks, asked_line, parsed_line}
 use Rattle.script.specs.declared.line.Malformed.{Malformed}
+use Rattle.served_node.specs.declared.console_session.listing.Listing.{Listing}
+use Rattle.served_node.specs.declared.console_session.listing.Listing.TheVariants.{Timers, Sets, Links, Routes}
 use Rattle.served_node.specs.declared.console_session.command.ConsoleLine.{ConsoleLine}
 use Rattle.served_node.specs.declared.console_session.command.ConsoleLine.TheVariants as line
 
@@ -19,6 +26,10 @@ pub data Heard : Type 0 where
   HearsCaptured : Heard
   HearsVersion : Heard
   HearsAlarms : Heard
+  HearsListing : Listing → Heard
+  HearsLink : (name : List ℕ) → Heard
+  HearsSettings : Heard
+  HearsTitle : RowName → Heard
   HearsHelp : Heard
   HearsUsers : Heard
   HearsNotices : Heard
@@ -51,6 +62,29 @@ capture_line text =
     else if bytes_eq text (codes "capture stop") then Some (HearsCapture false None)
     else capture_of_link text
 
+-- the tables of timers, sets, links and destinations, the settings, and what is shown of a link
+abbrev pub shows_link : Option (List ℕ) → Option Heard
+shows_link None = None
+shows_link (Some name) = if list_any (λ octet. nat_eq octet 32) name then None else Some (HearsLink name)
+
+abbrev pub text_line : List ℕ → Option Heard
+text_line text =
+    if bytes_eq text (codes "show timers") then Some (HearsListing Timers)
+    else if bytes_eq text (codes "show sets") then Some (HearsListing Sets)
+    else if bytes_eq text (codes "show links") then Some (HearsListing Links)
+    else if bytes_eq text (codes "show routes") then Some (HearsListing Routes)
+    else if bytes_eq text (codes "show settings") then Some HearsSettings
+    else shows_link (behind (codes "show link ") text)
+
+-- the title that is tested
+abbrev pub tests : Result RowName TitleMistake → Option Heard
+tests (Ok name) = Some (HearsTitle name)
+tests (Err mistake) = None
+
+abbrev pub test_line : List ℕ → Option Heard
+test_line text =
+    if bytes_eq (first_word (words text)) (codes "test") then tests (title_tested (rest_of (words text))) else None
+
 -- the lines that only a client writes
 abbrev pub own_line : List ℕ → Option Heard
 own_line text =
@@ -64,7 +98,7 @@ own_line text =
     else if bytes_eq text (codes "show version") then Some HearsVersion
     else if bytes_eq text (codes "show capture") then Some HearsCaptured
     else if bytes_eq text (codes "show alarms") then Some HearsAlarms
-    else capture_line text
+    else either_heard (text_line text) (either_heard (test_line text) (capture_line text))
 
 -- a client submits messages, gives orders and is shown texts; frames, associations and ticks come from the network and
 -- the clock
@@ -102,6 +136,10 @@ heard_line (line.Capture is_on name) = HearsCapture is_on (option_map (λ name. 
 heard_line line.Captured = HearsCaptured
 heard_line line.Version = HearsVersion
 heard_line line.Alarms = HearsAlarms
+heard_line (line.Listing listing) = HearsListing listing
+heard_line (line.Link name) = HearsLink name.now
+heard_line line.Settings = HearsSettings
+heard_line (line.Title name) = HearsTitle name
 heard_line line.Help = HearsHelp
 heard_line line.Users = HearsUsers
 heard_line line.Notices = HearsNotices

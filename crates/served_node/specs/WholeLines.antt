@@ -6,11 +6,20 @@ use Rattle.exchange.specs.Calls.{Kept}
 use Rattle.script.specs.Asking.{Asked}
 use Rattle.script.specs.Streams.{Output, counted}
 use Rattle.script.specs.declared.sink.WriteFailed.{WriteFailed}
-use Rattle.served_node.specs.Lines.{Heard, heard, HearsNothing, HearsScript, HearsCounters, HearsCapture, HearsCaptured, HearsVersion, HearsAlarms, HearsHelp, HearsUsers, HearsNotices, HearsFrames, HearsQuit, HearsStop, HearsNoLine}
+use Rattle.served_node.specs.Lines.{Heard, heard, HearsNothing, HearsScript, HearsCounters, HearsCapture, HearsCaptured, HearsVersion, HearsAlarms, HearsListing, HearsLink, HearsSettings, HearsTitle, HearsHelp, HearsUsers, HearsNotices, HearsFrames, HearsQuit, HearsStop, HearsNoLine}
 use Rattle.served_node.specs.Alarmed.{alarms_text}
 use Rattle.served_node.specs.Answers.{Waiting, IsAnswered}
 use Rattle.served_node.specs.Clients.{ClientState, begun, OnlyOutboxChanges, told_of, untold}
 use Rattle.served_node.specs.Counters.{counters_text}
+use Rattle.served_node.specs.Listings.{listing_text, settings_text}
+use Rattle.served_node.specs.declared.console_session.listing.Listing.{Listing}
+use Rattle.served_node.specs.declared.console_session.listing.Listing.TheVariants.{Link}
+use Rattle.served_link.specs.declared.service_states.StateSince.{StateSince}
+use Rattle.settings.specs.Readings.{link_place}
+use Rattle.console.specs.NearestLinks.{no_link_text}
+use Rattle.console.specs.TitleAnswers.{title_answer}
+use Rattle.console.specs.declared.title_words.RowName.{RowName}
+use Rattle.exchange_rules.specs.Messages.{own_of}
 use Rattle.served_node.specs.Captured.{Captured, after_order, answer_to, captured_text, order_of}
 use Rattle.served_node.specs.declared.console_session.help.TheConstants.{HELP}
 use Rattle.served_node.specs.declared.console_session.client.TheConstants.{VERSION, WATCHING, STOPPING}
@@ -64,6 +73,11 @@ IsShown text Closes old new = (count : ℕ) × (new ≡ unanswered (answered old
 IsShown text Leaves old new = ⊥
 IsShown text Stops old new = ⊥
 
+-- a client stays if there was room
+abbrev pub ending_by : Result Unit WriteFailed → Ending
+ending_by (Ok x) = Stays
+ending_by (Err failed) = Closes
+
 -- A line that a client may not write is answered by why it is none, whether memory was refused for that or not.
 abbrev pub IsExplained : PointFormat → (line : List ℕ) → (old new : ClientState) → Type 0
 IsExplained points line old new = (lacks_memory : Bool) × (new ≡ answered old (malformed_answer lacks_memory points line))
@@ -81,15 +95,37 @@ IsRefused points line is_first Closes old new =
 IsRefused points line is_first Leaves old new = ⊥
 IsRefused points line is_first Stops old new = ⊥
 
--- how points are read and shown, and what a client may be shown beside the node: the counters, and since when each
--- alarm is raised
+-- how points are read and shown, and what a client may be shown beside the node: the counters, since when each alarm
+-- is raised, the links as they were last seen, and how many milliseconds a tick takes
 pub record Shown : Type 0 where
   pub points : PointFormat
   pub counters : NodeCounters
   pub alarms : List (Option ℕ)
+  pub links : List StateSince
+  pub tick_ms : ℕ
 
-abbrev pub shown : PointFormat → NodeCounters → List (Option ℕ) → Shown
-shown points counters alarms = record { points = points; counters = counters; alarms = alarms }
+abbrev pub shown : PointFormat → NodeCounters → List (Option ℕ) → List StateSince → (tick_ms : ℕ) → Shown
+shown points counters alarms links tick_ms = record {
+  points = points;
+  counters = counters;
+  alarms = alarms;
+  links = links;
+  tick_ms = tick_ms;
+}
+
+-- what is known of a link of this name is shown; if there is none, that is said, and which name is nearest, whether
+-- memory was refused for that or not
+abbrev pub IsLinkShown : Option ℕ → (name : List ℕ) → PointFormat → (tick_ms : ℕ) → List StateSince → Ending → Kept
+    → (old new : ClientState) → Type 0
+IsLinkShown (Some link) name points tick_ms links ending s old new =
+    IsShown (listing_text points tick_ms links s (Link link)) ending old new
+IsLinkShown None name points tick_ms links ending s old new =
+    (lacks_memory : Bool) × IsTold (no_link_text lacks_memory s.settings name) Stays ending old new
+
+-- what becomes of a title at a node
+abbrev pub title_answer_in : PointFormat → Kept → RowName → List ℕ
+title_answer_in points s name =
+    title_answer points (own_of s.settings s.node.parts) s.node.parts.titles s.settings name
 
 -- What a line does to the node, to what is captured and to its client, and what becomes of the client. Only a line of
 -- a script changes the node, only an order about the capture what is captured, and only `stop` asks the node to stop.
@@ -113,6 +149,15 @@ DoesHeard HearsVersion is_first shown captured captured_after ending s after old
 DoesHeard HearsAlarms is_first shown captured captured_after ending s after old new =
     (after ≡ s) × (captured_after ≡ captured)
     × IsShown (alarms_text shown.points s.settings shown.alarms) ending old new
+DoesHeard (HearsListing listing) is_first shown captured captured_after ending s after old new =
+    (after ≡ s) × (captured_after ≡ captured) × IsShown (listing_text shown.points shown.tick_ms shown.links s listing) ending old new
+DoesHeard (HearsLink name) is_first shown captured captured_after ending s after old new =
+    (after ≡ s) × (captured_after ≡ captured)
+    × IsLinkShown (link_place s.settings name) name shown.points shown.tick_ms shown.links ending s old new
+DoesHeard HearsSettings is_first shown captured captured_after ending s after old new =
+    (after ≡ s) × (captured_after ≡ captured) × IsShown (settings_text shown.points s) ending old new
+DoesHeard (HearsTitle name) is_first shown captured captured_after ending s after old new =
+    (after ≡ s) × (captured_after ≡ captured) × IsTold (title_answer_in shown.points s name) Stays ending old new
 DoesHeard HearsHelp is_first shown captured captured_after ending s after old new =
     (after ≡ s) × (captured_after ≡ captured) × IsTold HELP.now Stays ending old new
 DoesHeard HearsUsers is_first shown captured captured_after ending s after old new =

@@ -38,14 +38,20 @@ impl Drop for Node {
 }
 
 impl Node {
-    /// The node with these settings, in its first state. Nothing is counted yet. The error is NoMemory.
-    pub fn boot(alloc: Global, settings: Settings, points: PointFormat) -> Result<Node, OpenFault>
+    /// The node with these settings, in its first state. Nothing is counted yet. A tick takes so many milliseconds. The
+    /// error is NoMemory.
+    pub fn boot(
+        alloc: Global,
+        settings: Settings,
+        points: PointFormat,
+        tick_ms: u16,
+    ) -> Result<Node, OpenFault>
         ensures first { IfOk result (λ node. node.exchange ≡ kept_of (first_state settings)) }
         ensures counters { IfOk result (λ node.
             node.observers.counters ≡ first_counters (length settings.links)) }
     {
         let exchange = Exchange::boot(alloc, settings)?;
-        match Observers::new(alloc, exchange.settings(), points) {
+        match Observers::new(alloc, exchange.settings(), points, tick_ms) {
             Ok(observers) => Ok(Node {
                 exchange,
                 observers,
@@ -97,16 +103,20 @@ impl Node {
                 counters,
                 clients,
                 points,
+                tick_ms,
                 captured,
                 watch,
                 ..
             },
         } = self;
+        let watch = &*watch;
         let mut context = ConsoleContext {
             exchange,
             counters,
             alarms: watch.alarms(),
+            links: watch.links(),
             points: *points,
+            tick_ms: *tick_ms,
             captured,
         };
         clients.read(&mut context, log)

@@ -46,6 +46,8 @@ pub struct Observers {
     /// How long after the start it is.
     pub now: Duration,
     pub(crate) points: PointFormat,
+    /// How many milliseconds a tick takes.
+    pub(crate) tick_ms: u16,
     pub(crate) seen: Seen,
     pub(crate) missed_notices: MissedNotices,
     names: Vec<String>,
@@ -65,6 +67,7 @@ impl Observers {
         alloc: Global,
         settings: &Settings,
         points: PointFormat,
+        tick_ms: u16,
     ) -> Result<Observers, AllocError>
         ensures { IfOk result (λ observers. observers.counters ≡ first_counters (length settings.now.links)) }
     {
@@ -77,6 +80,7 @@ impl Observers {
             watch,
             now: Duration::ZERO,
             points,
+            tick_ms,
             seen: Seen::new(),
             missed_notices: MissedNotices::none(),
             names,

@@ -40,6 +40,8 @@ pub struct Places<'a> {
     pub is_page_open: bool,
     /// How point codes are read and shown.
     pub points: PointFormat,
+    /// How many milliseconds a tick takes.
+    pub tick_ms: u16,
 }
 
 /// A node on sockets. An association of a link is a TCP connection, or one of SCTP in UDP.

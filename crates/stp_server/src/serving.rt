@@ -58,6 +58,7 @@ fn serve_logged<W: Sink>(
         page: serve.page(),
         is_page_open: serve.is_page_open(),
         points: serve.points(),
+        tick_ms,
     };
     match Server::open(rt, rt.alloc(), settings, places, log) {
         Ok(mut server) => {

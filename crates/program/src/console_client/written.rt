@@ -7,7 +7,7 @@ use crate::console_client::answers::counted_if;
 use arrayvec::ArrayVec;
 use std::marker::Model;
 
-/// Octets of the front of a line, by which it is known whether it has an answer: those of `show `.
+/// Octets of the front of a line, by which it is known whether it has an answer: those of `show ` and `test `.
 const FRONT_OCTETS: usize = 5;
 
 /// The lines that were written so far, and how many answers are due.
@@ -73,7 +73,8 @@ impl WrittenLines {
     }
 }
 
-/// Whether a line always has an answer: it isn't empty, no remark, and shows nothing, of which there may be none.
+/// Whether a line always has an answer: it isn't empty, no remark, shows nothing, of which there may be none, and tests
+/// nothing.
 fn has_answer(line: &[u8]) -> bool
     ensures { result ≡ has_answer line.now }
 {
@@ -81,4 +82,5 @@ fn has_answer(line: &[u8]) -> bool
         && line != b"\r".as_slice()
         && !line.starts_with(b"#")
         && !line.starts_with(b"show ")
+        && !line.starts_with(b"test ")
 }

@@ -9,7 +9,9 @@ ghost use Rattle.served_node.specs.Captured.{after_order, answer_to, order_of};
 ghost use Rattle.served_node.specs.Clients.{just_came, sees_of, told_of, untold, OnlyOutboxChanges};
 ghost use Rattle.served_node.specs.Clients.{line_feed, without_return, EndsNoLine, IsOneLine};
 ghost use Rattle.served_node.specs.WholeLines.{DoesLine, DoesLineAt, IsAnsweredBy, IsRefusedBy};
-ghost use Rattle.served_node.specs.WholeLines.{ending_of, output_of, shown};
+ghost use Rattle.served_node.specs.WholeLines.{IsLinkShown, IsShown, ending_by, ending_of, output_of, shown};
+ghost use Rattle.served_node.specs.Listings.{listing_text};
+ghost use Rattle.settings.specs.Readings.{link_place};
 ghost use Rattle.served_node.specs.declared.console_session.outbox.TheConstants.{OUTBOX_OCTETS};
 
 use super::alarming::print_alarms;
@@ -18,12 +20,14 @@ use super::capturing::{order_capture, print_captured};
 use super::command::{ConsoleLine, parse_console_line, without_return};
 use super::counting::print_counters;
 use super::help::HELP;
+use super::listing::{Listing, print_listing};
 use super::outbox::Outbox;
+use super::settings_text::print_settings;
 use crate::captured_links::CapturedLinks;
-use console::{MalformedAnswer, SpacedLine};
+use console::{MalformedAnswer, SpacedLine, no_link_answer, title_answer};
 use exchange::Exchange;
 use script::{Grown, Line, Malformed, OpenLine, Sink, WriteFailed};
-use served_link::{Alarms, Counters};
+use served_link::{Alarms, Counters, ServiceStates};
 use settings::PointFormat;
 use std::alloc::Global;
 use std::marker::Model;
@@ -75,8 +79,12 @@ pub struct ConsoleContext<'a> {
     pub counters: &'a Counters,
     /// Which alarms are raised.
     pub alarms: &'a Alarms,
+    /// Its links as they were last seen.
+    pub links: &'a ServiceStates,
     /// How point codes are read and shown.
     pub points: PointFormat,
+    /// How many milliseconds a tick takes.
+    pub tick_ms: u16,
     /// Which of its links are captured.
     pub captured: &'a mut CapturedLinks,
 }
@@ -149,12 +157,15 @@ impl ConsoleClient {
         ensures points { context.new.points ≡ context.old.points }
         ensures counters { context.new.counters.now ≡ context.old.counters.now }
         ensures alarms { context.new.alarms.now ≡ context.old.alarms.now }
+        ensures links { context.new.links.now ≡ context.old.links.now }
+        ensures tick { context.new.tick_ms ≡ context.old.tick_ms }
         // A line that comes to its end, and isn't too long, is done.
         ensures done { (front behind : List ℕ) → octets.now ≡ front ++ line_feed ∷ behind → EndsNoLine front
             → length self.old.line + length front ≤ LINE_OCTETS
             → (result.0 ≡ length front + 1)
             × DoesLine (without_return (self.old.line ++ front))
-            (shown context.old.points context.old.counters.now context.old.alarms.now)
+            (shown context.old.points context.old.counters.now context.old.alarms.now
+            context.old.links.now context.old.tick_ms)
             context.old.captured.now context.new.captured.now result.1 context.old.exchange.now context.new.exchange.now
             (record self.old { line = [] }) self.new }
     {
@@ -173,8 +184,11 @@ impl ConsoleClient {
         ensures points { context.new.points ≡ context.old.points }
         ensures counters { context.new.counters.now ≡ context.old.counters.now }
         ensures alarms { context.new.alarms.now ≡ context.old.alarms.now }
+        ensures links { context.new.links.now ≡ context.old.links.now }
+        ensures tick { context.new.tick_ms ≡ context.old.tick_ms }
         ensures done { DoesLine (without_return self.old.line)
-            (shown context.old.points context.old.counters.now context.old.alarms.now)
+            (shown context.old.points context.old.counters.now context.old.alarms.now
+            context.old.links.now context.old.tick_ms)
             context.old.captured.now context.new.captured.now result
             context.old.exchange.now context.new.exchange.now
             (record self.old { line = [] }) self.new }
@@ -199,8 +213,11 @@ impl ConsoleClient {
         ensures points { context.new.points ≡ context.old.points }
         ensures counters { context.new.counters.now ≡ context.old.counters.now }
         ensures alarms { context.new.alarms.now ≡ context.old.alarms.now }
+        ensures links { context.new.links.now ≡ context.old.links.now }
+        ensures tick { context.new.tick_ms ≡ context.old.tick_ms }
         ensures done { DoesLineAt is_first line.now
-            (shown context.old.points context.old.counters.now context.old.alarms.now)
+            (shown context.old.points context.old.counters.now context.old.alarms.now
+            context.old.links.now context.old.tick_ms)
             context.old.captured.now context.new.captured.now
             (ending_of result) context.old.exchange.now context.new.exchange.now self.old self.new }
     {
@@ -222,6 +239,15 @@ impl ConsoleClient {
                     context.points,
                     &mut self.outbox,
                 )?;
+            }
+            Ok(ConsoleLine::Listing(listing)) => self.list(listing, context)?,
+            Ok(ConsoleLine::Link(name)) => self.show_link(name, context)?,
+            Ok(ConsoleLine::Settings) => {
+                print_settings(context.exchange, context.points, &mut self.outbox)?;
+            }
+            Ok(ConsoleLine::Title(name)) => {
+                let answer = title_answer(context.exchange, &name, context.points);
+                self.answer(answer.as_bytes())?;
             }
             Ok(ConsoleLine::Help) => self.answer(HELP)?,
             Ok(ConsoleLine::Users) => self.begin(News::Message)?,
@@ -254,6 +280,8 @@ impl ConsoleClient {
         ensures points { context.new.points ≡ context.old.points }
         ensures counters { context.new.counters.now ≡ context.old.counters.now }
         ensures alarms { context.new.alarms.now ≡ context.old.alarms.now }
+        ensures links { context.new.links.now ≡ context.old.links.now }
+        ensures tick { context.new.tick_ms ≡ context.old.tick_ms }
         ensures captured { context.new.captured.now ≡ context.old.captured.now }
         ensures same { OnlyOutboxChanges self.old self.new }
         ensures answer { IsAnswered (asked_line line.entry) context.old.exchange.now result context.new.exchange.now
@@ -272,6 +300,8 @@ impl ConsoleClient {
         ensures points { context.new.points ≡ context.old.points }
         ensures counters { context.new.counters.now ≡ context.old.counters.now }
         ensures alarms { context.new.alarms.now ≡ context.old.alarms.now }
+        ensures links { context.new.links.now ≡ context.old.links.now }
+        ensures tick { context.new.tick_ms ≡ context.old.tick_ms }
         ensures exchange { context.new.exchange.now ≡ context.old.exchange.now }
         ensures captured { context.new.captured.now
             ≡ after_order (order_of context.old.exchange.now.settings is_on (option_map (λ name. name.now) name.entry))
@@ -282,6 +312,37 @@ impl ConsoleClient {
     {
         let answer = order_capture(context.exchange.settings(), context.captured, is_on, name);
         self.answer(answer)
+    }
+
+    /// Shows a listing.
+    fn list(&mut self, listing: Listing, context: &ConsoleContext<'_>) -> Result<(), WriteFailed>
+        ensures { IsShown (listing_text context.now.points context.now.tick_ms context.now.links.now
+            context.now.exchange.now listing) (ending_by result) self.old self.new }
+    {
+        print_listing(
+            context.exchange,
+            &listing,
+            context.links,
+            context.points,
+            context.tick_ms,
+            &mut self.outbox,
+        )
+    }
+
+    /// Shows what is known of the link of this name. If there is none, says so, and which name is nearest.
+    fn show_link(&mut self, name: &[u8], context: &ConsoleContext<'_>) -> Result<(), WriteFailed>
+        ensures { IsLinkShown (link_place context.now.exchange.now.settings name.now) name.now
+            context.now.points context.now.tick_ms context.now.links.now (ending_by result)
+            context.now.exchange.now self.old self.new }
+    {
+        let settings = context.exchange.settings();
+        match settings.link_named(name) {
+            Some(link) => self.list(Listing::Link(link), context),
+            None => {
+                let answer = no_link_answer(self.alloc, settings, name);
+                self.answer(answer.as_bytes())
+            }
+        }
     }
 
     /// Answers a line that a client may not write by what is wrong with it.

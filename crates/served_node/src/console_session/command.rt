@@ -3,10 +3,14 @@
 ghost use Rattle.std.specs.Prelude.{◌≡◌, ◌≤◌, length};
 ghost use Rattle.std.specs.Option.{option_map};
 ghost use Rattle.served_node.specs.Lines.{heard, heard_line, heard_of, own_line, own_line_of, is_for_clients};
-ghost use Rattle.served_node.specs.Lines.{HearsCapture, behind, capture_line, capture_of_link};
+ghost use Rattle.served_node.specs.Lines.{HearsCapture, behind, capture_line, capture_of_link, either_heard};
+ghost use Rattle.served_node.specs.Lines.{shows_link, test_line, text_line};
 ghost use Rattle.served_node.specs.Clients.{without_return};
 ghost use Rattle.script.specs.Asking.{asked_line};
 
+use super::listing::Listing;
+use console::words::cut;
+use console::{RowName, title_tested};
 use script::{Line, Malformed, parse_line};
 use settings::PointFormat;
 
@@ -36,6 +40,14 @@ pub enum ConsoleLine<'a> {
     Version,
     /// `show alarms`: the alarms that are raised.
     Alarms,
+    /// `show timers`, `show sets`, `show links`, `show routes`.
+    Listing(Listing),
+    /// `show link LINK`: what is known of the link of this name; no link need have it.
+    Link(&'a [u8]),
+    /// `show settings`: the settings as they are now.
+    Settings,
+    /// `test title T P N DIGITS`: what becomes of this title.
+    Title(RowName),
     /// `help`, or `?`: what a client may write.
     Help,
     /// `users`: from now on the messages for this point.
@@ -90,7 +102,66 @@ fn own_line(line: &[u8]) -> Option<ConsoleLine<'_>>
     } else if line == b"show alarms".as_slice() {
         Some(ConsoleLine::Alarms)
     } else {
-        capture_line(line)
+        longer_line(line)
+    }
+}
+
+/// What a line about a text, a test or the capture asks for.
+fn longer_line(line: &[u8]) -> Option<ConsoleLine<'_>>
+    ensures { own_line_of result
+        ≡ either_heard (text_line line.now) (either_heard (test_line line.now) (capture_line line.now)) }
+{
+    if let Some(own) = text_line(line) {
+        return Some(own);
+    }
+    match test_line(line) {
+        Some(own) => Some(own),
+        None => capture_line(line),
+    }
+}
+
+/// What a line asks for that tests a title.
+fn test_line(line: &[u8]) -> Option<ConsoleLine<'_>>
+    ensures { own_line_of result ≡ test_line line.now }
+{
+    let (word, behind) = cut(line);
+    if word != b"test".as_slice() {
+        return None;
+    }
+    match title_tested(behind) {
+        Ok(name) => Some(ConsoleLine::Title(name)),
+        Err(_) => None,
+    }
+}
+
+/// What a line asks for that shows the timers, the sets, the links, the destinations, the settings or a link.
+fn text_line(line: &[u8]) -> Option<ConsoleLine<'_>>
+    ensures { own_line_of result ≡ text_line line.now }
+{
+    if line == b"show timers".as_slice() {
+        Some(ConsoleLine::Listing(Listing::Timers))
+    } else if line == b"show sets".as_slice() {
+        Some(ConsoleLine::Listing(Listing::Sets))
+    } else if line == b"show links".as_slice() {
+        Some(ConsoleLine::Listing(Listing::Links))
+    } else if line == b"show routes".as_slice() {
+        Some(ConsoleLine::Listing(Listing::Routes))
+    } else if line == b"show settings".as_slice() {
+        Some(ConsoleLine::Settings)
+    } else {
+        shows_link(behind(b"show link ", line))
+    }
+}
+
+/// What a line asks for that shows the link of this name, which is one word.
+fn shows_link(name: Option<&[u8]>) -> Option<ConsoleLine<'_>>
+    ensures { own_line_of result ≡ shows_link (option_map (λ name. name.now) name.entry) }
+{
+    let name = name?;
+    if name.contains(&b' ') {
+        None
+    } else {
+        Some(ConsoleLine::Link(name))
     }
 }
 

@@ -37,7 +37,7 @@ impl Server {
             sink: log,
             now: Duration::ZERO,
         };
-        let mut server = Server::boot(net, alloc, settings, places.points)?;
+        let mut server = Server::boot(net, alloc, settings, places.points, places.tick_ms)?;
         let added = add_sockets(
             net,
             alloc,
@@ -63,10 +63,11 @@ impl Server {
         alloc: Global,
         settings: Settings,
         points: PointFormat,
+        tick_ms: u16,
     ) -> Result<Server, OpenFault> {
         match polled(net, alloc) {
             Ok((poll, events, links)) => {
-                let node = Node::boot(alloc, settings, points)?;
+                let node = Node::boot(alloc, settings, points, tick_ms)?;
                 Ok(Server {
                     alloc,
                     node,

@@ -1,32 +1,32 @@
--- The line of one more place.
-use Rattle.std.proofs.Common.{◌≡◌, ◌<◌, List, ℕ, length, ◌∙◌, ap, subst, arith}
+-- The head line, and then the rows.
+use Rattle.std.proofs.Common.{◌++◌}
+use Rattle.std.specs.Prelude.{OnOk, OnErr}
 use Rattle.std.specs.Io.KnownBytes.{Appends}
-use Rattle.served_link.specs.AlarmTexts.{line_at}
 use Rattle.script.specs.Streams.{AppendsFirst}
-use Rattle.served_node.proofs.Counted.{texts-next, texts-broken}
 use Rattle.script.proofs.Shown.{on-error}
+use Rattle.served_node.specs.Alarmed.{alarms_head, raised_text}
+use Rattle.served_node.proofs.Counted.{first-of-more, line-cut, line-ended}
 use Rattle.served_node.proofs.console_session.alarming.print_alarms.Goals as goal
 
-pub loop-place-preserved : goal.loop-place-preserved
-loop-place-preserved g c =
-    let text = line_at c.args.points c.args.exchange.now.settings c.args.alarms.now in
+pub returns-in_err-write-clause-first : goal.returns-in_err-write-clause-first
+returns-in_err-write-clause-first g c =
+    let rows = raised_text c.args.points c.args.exchange.now.settings c.args.alarms.now in
     let w0 = (g.W.Sink.output c.args.writer.now).written in
-    let w1 = (g.W.Sink.output c.loop-place.writer).written in
-    let w2 = (g.W.Sink.output c.print_alarm.new.writer).written in
-    let shown = ap (λ settings. line_at c.args.points settings c.args.alarms.now c.loop-place.place) c.settings-settings.ensures.kept_settings in
-    record {
-      written = texts-next text c.loop-place.place w0 w1 w2 c.loop-place.invariant.written (subst (λ (xs : List ℕ). Appends w1 w2 xs) shown c.in_ok-print_alarm.ensures.all);
-      failures = c.in_ok-print_alarm.ensures.counted ∙ c.loop-place.invariant.failures;
-    }
+    let w1 = (g.W.Sink.output c.write.new.self).written in
+    on-error _ c.from_residual.result (first-of-more w0 w1 alarms_head rows c.in_err-write.ensures.first)
 
-pub returns-in_err-print_alarm-clause-first : goal.returns-in_err-print_alarm-clause-first
-returns-in_err-print_alarm-clause-first g c =
-    let text = line_at c.args.points c.args.exchange.now.settings c.args.alarms.now in
+pub returns-clause-all : goal.returns-clause-all
+returns-clause-all g c =
+    let rows = raised_text c.args.points c.args.exchange.now.settings c.args.alarms.now in
     let w0 = (g.W.Sink.output c.args.writer.now).written in
-    let w1 = (g.W.Sink.output c.loop-place.writer).written in
-    let w2 = (g.W.Sink.output c.print_alarm.new.writer).written in
-    let shown = ap (λ settings. line_at c.args.points settings c.args.alarms.now c.loop-place.place) c.settings-settings.ensures.kept_settings in
-    let within : c.loop-place.place < length c.args.alarms.now = omega (arith, c.loop-place-test.true, c.places-place-end.ensures) in
-    on-error _ c.from_residual.result
-    (texts-broken text c.loop-place.place (length c.args.alarms.now) w0 w1 w2 within c.loop-place.invariant.written
-    (subst (λ (xs : List ℕ). AppendsFirst w1 w2 xs) shown c.in_err-print_alarm.ensures.first))
+    let w1 = (g.W.Sink.output c.write.new.self).written in
+    let w2 = (g.W.Sink.output c.print_raised.new.writer).written in
+    line-ended alarms_head rows w0 w1 w2 c.print_raised.result c.in_ok-write.ensures.all c.print_raised.ensures.all
+
+pub returns-clause-first : goal.returns-clause-first
+returns-clause-first g c =
+    let rows = raised_text c.args.points c.args.exchange.now.settings c.args.alarms.now in
+    let w0 = (g.W.Sink.output c.args.writer.now).written in
+    let w1 = (g.W.Sink.output c.write.new.self).written in
+    let w2 = (g.W.Sink.output c.print_raised.new.writer).written in
+    line-cut alarms_head rows w0 w1 w2 c.print_raised.result c.in_ok-write.ensures.all c.print_raised.ensures.first

@@ -23,6 +23,8 @@ loop-k-preserved c = record {
   points = c.loop-k.invariant.points;
   counters = c.loop-k.invariant.counters;
   alarms = c.loop-k.invariant.alarms;
+  links = c.loop-k.invariant.links;
+  tick = c.loop-k.invariant.tick;
   captured = c.loop-k.invariant.captured;
   room = λ more. c.in-Open.ensures.short;
 }
@@ -36,7 +38,7 @@ returns-in-TooLong-clause-done c = λ front behind parts ends room.
 pub returns-in-Whole-clause-done : goal.returns-in-Whole-clause-done
 returns-in-Whole-clause-done c = λ front behind parts ends room.
     let now = c.self.view_is ∙ c.loop-k.invariant.line in
-    done-at c.args.octets.now front behind c.loop-k.k parts (shown c.loop-k.context.points c.loop-k.context.counters.now c.loop-k.context.alarms.now) (shown c.args.context.now.points c.args.context.now.counters.now c.args.context.now.alarms.now) (λ i. shown (c.loop-k.invariant.points i) (c.loop-k.invariant.counters i) (c.loop-k.invariant.alarms i)) c.loop-k.context.captured.now c.args.context.now.captured.now c.end_line.new.context.captured.now c.loop-k.invariant.captured c.end_line.result c.args.context.now.exchange.now c.loop-k.context.exchange.now c.end_line.new.context.exchange.now c.args.self.now _
+    done-at c.args.octets.now front behind c.loop-k.k parts (shown c.loop-k.context.points c.loop-k.context.counters.now c.loop-k.context.alarms.now c.loop-k.context.links.now c.loop-k.context.tick_ms) (shown c.args.context.now.points c.args.context.now.counters.now c.args.context.now.alarms.now c.args.context.now.links.now c.args.context.now.tick_ms) (λ i. shown (c.loop-k.invariant.points i) (c.loop-k.invariant.counters i) (c.loop-k.invariant.alarms i) (c.loop-k.invariant.links i) (c.loop-k.invariant.tick i)) c.loop-k.context.captured.now c.args.context.now.captured.now c.end_line.new.context.captured.now c.loop-k.invariant.captured c.end_line.result c.args.context.now.exchange.now c.loop-k.context.exchange.now c.end_line.new.context.exchange.now c.args.self.now _
     c.end_line.new.self ends c.loop-k.invariant.none c.loop-k-test.true c.in-Whole.ensures.line.0
     ((λ i. record (the_view c.self.inside) { line = (c.in-Whole.ensures.line.1 i).octets }) ∙ now) c.loop-k.invariant.exchange c.end_line.ensures.done
 

@@ -12,6 +12,8 @@ invariant-loop-k l = record {
   points : l.context.points ≡ l.fn.context.points;
   counters : l.context.counters.now ≡ l.fn.context.counters.now;
   alarms : l.context.alarms.now ≡ l.fn.context.alarms.now;
+  links : l.context.links.now ≡ l.fn.context.links.now;
+  tick : l.context.tick_ms ≡ l.fn.context.tick_ms;
   captured : l.context.captured.now ≡ l.fn.context.captured.now;
   room : 0 < l.k → length l.self.line ≤ LINE_OCTETS;
 }
