@@ -21,6 +21,10 @@ pub five_noted : {F : Type 0} (faults : List F) (a b c d e : List (Option F))
     → all_noted (all_noted (all_noted (all_noted (all_noted faults a) b) c) d) e ≡ all_noted faults (a ++ (b ++ (c ++ (d ++ e))))
 five_noted faults a b c d e = three_noted (all_noted (all_noted faults a) b) c d e ∙ three_noted faults a b (c ++ (d ++ e))
 
+pub six_noted : {F : Type 0} (faults : List F) (a b c d e f : List (Option F))
+    → all_noted (all_noted (all_noted (all_noted (all_noted (all_noted faults a) b) c) d) e) f ≡ all_noted faults (a ++ (b ++ (c ++ (d ++ (e ++ f)))))
+six_noted faults a b c d e f = five_noted (all_noted faults a) b c d e f ∙ then_note faults a (b ++ (c ++ (d ++ (e ++ f))))
+
 pub four_noted : (faults : List SettingsFault) (a b c d : List (Option SettingsFault))
     → all_noted (all_noted (all_noted (all_noted faults a) b) c) d ≡ all_noted faults (a ++ (b ++ (c ++ d)))
 four_noted faults a b c d =

@@ -18,6 +18,7 @@ use Rattle.settings_file.specs.Endpoints.{without, sctp_port_at, tries_at, port_
 use Rattle.settings_file.specs.Hosts.{from_at}
 use Rattle.settings_file.specs.Keyed.{address_in, tick_ms_at, console_open_at, capture_at, points_at, udp_at, page_open_at}
 use Rattle.settings_file.specs.Keyed.{page_at}
+use Rattle.settings_file.specs.LogKeys.{log_form_at, log_least_at, log_times_at}
 use Rattle.settings_file.specs.Paths.{entries_of, first_or, others_in, addresses_at}
 use Rattle.settings_file.specs.ServeKeys.{found_at}
 use Rattle.settings_file.specs.Shapes.{and_then, table_in}
@@ -133,10 +134,14 @@ sctp_checks t = sctp_checks_in (sctp_at t)
 unfoldable pub page_checks : Spelling → Members → List (Option ServeFault)
 page_checks s t = result_err (page_open_at t) ∷ result_err (page_read s t) ∷ []
 
+-- how the log is written
+unfoldable pub log_checks : Members → List (Option ServeFault)
+log_checks t = result_err (log_times_at t) ∷ result_err (log_least_at t) ∷ result_err (log_form_at t) ∷ []
+
 -- the table `serve`
 unfoldable pub table_checks : Spelling → Members → List (Option ServeFault)
 table_checks s t =
-    leading_checks s t ++ (ring_checks t ++ (shown_checks s t ++ (sctp_checks t ++ page_checks s t)))
+    leading_checks s t ++ (ring_checks t ++ (shown_checks s t ++ (sctp_checks t ++ (page_checks s t ++ log_checks t))))
 
 -- ---- links
 

@@ -37,6 +37,11 @@ abbrev pub truth_or : ServeKey → (usual : Bool) → Option Data → Result Boo
 truth_or key usual None = Ok usual
 truth_or key usual (Some d) = truth_in (Kind key) d
 
+-- a text, or this one if the key is left out
+abbrev pub text_or : ServeKey → (usual : List ℕ) → Option Data → Result (List ℕ) ServeFault
+text_or key usual None = Ok usual
+text_or key usual (Some d) = text_in (Kind key) d
+
 -- the table `serve` of a file
 unfoldable pub serve_at : Members → Result Members ServeFault
 serve_at t = and_then (value_at (key_name key.Serve) (Missing key.Serve) t) (table_in (Kind key.Serve))

@@ -76,7 +76,8 @@ serve_keys =
     known (codes "tick_ms") First ∷ known (codes "console") First ∷ known (codes "capture") First
     ∷ known (codes "console_open") First ∷ known (codes "points") First ∷ known (codes "udp") First
     ∷ known (codes "sctp") First ∷ known (codes "page_open") First ∷ known (codes "page") First
-    ∷ known (codes "capture_size") Fourth ∷ known (codes "capture_files") Fourth ∷ []
+    ∷ known (codes "capture_size") Fourth ∷ known (codes "capture_files") Fourth
+    ∷ known (codes "log_times") Fourth ∷ known (codes "log_least") Fourth ∷ known (codes "log_form") Fourth ∷ []
 
 -- the keys of its table of times and tries
 abbrev pub sctp_keys : List KnownKey

@@ -25,6 +25,7 @@ pub mod ServeFaults
 pub mod ServeSentences
 pub mod Addresses
 pub mod Keyed
+pub mod LogKeys
 pub mod Consoles
 pub mod Times
 pub mod Paths

@@ -19,6 +19,7 @@ use Rattle.settings_file.specs.Keyed.{serve_at, tick_ms_at, console_open_at, is_
 use Rattle.settings_file.specs.Keyed.{udp_at, page_open_at, page_at}
 use Rattle.settings_file.specs.Consoles.{Place, address_of, console_at}
 use Rattle.settings_file.specs.CaptureKeys.{limits_at}
+use Rattle.settings_file.specs.LogKeys.{log_at}
 use Rattle.settings_file.specs.Times.{times_at}
 use Rattle.settings_file.specs.Endpoints.{endpoints_at}
 use Rattle.settings_file.specs.Served.{Served}
@@ -37,6 +38,7 @@ document s t =
     and_then (times_at (has_fourth t) serve) (λ sctp.
     and_then (page_open_at serve) (λ is_page_open.
     and_then (page_at s is_page_open (address_of console) serve) (λ page.
+    and_then (log_at (has_fourth t) serve) (λ log.
     and_then (endpoints_at s (record { console = address_of console; page = page; udp = udp }) (has_fourth t) t) (λ links.
     Ok (record {
       tick_ms = tick_ms;
@@ -48,8 +50,9 @@ document s t =
       sctp = sctp;
       is_page_open = is_page_open;
       page = page;
+      log = log;
       links = links;
-    })))))))))))))
+    }))))))))))))))
 
 -- a file has a table for a server, or some other value there
 abbrev pub is_of_server : Members → Bool

@@ -18,6 +18,7 @@ served_of s = record {
   sctp = s.sctp;
   is_page_open = s.is_page_open;
   page = s.page;
+  log = s.log;
   links = s.links.items;
 }
 

@@ -67,6 +67,9 @@ const SERVE: &[(&str, Since)] = &[
     ("page", Since::First),
     ("capture_size", Since::Fourth),
     ("capture_files", Since::Fourth),
+    ("log_times", Since::Fourth),
+    ("log_least", Since::Fourth),
+    ("log_form", Since::Fourth),
 ];
 
 /// The keys of the table `serve.sctp`.

@@ -22,6 +22,7 @@ use crate::serve::key_rows::key_name;
 use crate::serve::keys::{
     capture, console, console_open, found_at, page, page_open, points, tick_ms, udp,
 };
+use crate::serve::log_keys::log_settings;
 use crate::serve::server::{OwnAddresses, ServeSettings};
 use crate::serve::times::times;
 use crate::shapes::{table_in, value};
@@ -62,6 +63,7 @@ fn contents(alloc: Global, table: &Table) -> Result<ServeSettings, ServeFault>
     let is_page_open = page_open(serve)?;
     let address = address_of(console);
     let page = page(serve, is_page_open, address)?;
+    let log = log_settings(serve, is_fourth)?;
     let own = OwnAddresses {
         console: address,
         page,
@@ -80,6 +82,7 @@ fn contents(alloc: Global, table: &Table) -> Result<ServeSettings, ServeFault>
         sctp,
         is_page_open,
         page,
+        log,
         links,
     })
 }
@@ -99,7 +102,7 @@ fn owned(alloc: Global, text: Option<&str>) -> Result<Option<String>, AllocError
 ///
 /// Returns the settings, or the first fault, in this order: the keys `tick_ms`, `console`, `capture`, `capture_size`,
 /// `capture_files`, `console_open`, `points` and `udp` of `[serve]`, those of `[serve.sctp]`, `page_open` and `page`,
-/// then the keys of each link, from the first. If memory runs out, that may be returned instead. Keys of other names are
+/// `log_times`, `log_least` and `log_form`, then the keys of each link, from the first. If memory runs out, that may be returned instead. Keys of other names are
 /// ignored.
 pub fn read_server(alloc: Global, document: &Table) -> Result<ServeSettings, ServeFault>
     ensures { (s : Spelling) (text : List ℕ) → parse_document text ≡ Some (table_view document.now)

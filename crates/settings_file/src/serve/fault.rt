@@ -28,9 +28,9 @@ pub enum ServeFault {
     Missing(ServeKey),
     /// 3: a value of another type than its key asks for.
     Kind(ServeKey),
-    /// 4: a number out of its range, a text that isn't an address with a port from 1 on, a path that no socket can
-    /// have, a console or a page that others reach, or a peer that `udp` doesn't reach since only one of the two is an
-    /// IPv4 address.
+    /// 4: a number out of its range, a text that is none of its key's words, or isn't an address with a port from 1 on, a
+    /// path that no socket can have, a console or a page that others reach, or a peer that `udp` doesn't reach since only
+    /// one of the two is an IPv4 address.
     Range(ServeKey),
     /// 5: an address that two listen on; `connect` of a link that has `listen` too; `remote`, or another key of SCTP,
     /// of a link that has `listen` or `connect`; or `remote` of a link whose datagrams an earlier link would take,

@@ -47,6 +47,12 @@ pub enum ServeKey {
     PageOpen,
     /// `serve.page`.
     Page,
+    /// `serve.log_times`.
+    LogTimes,
+    /// `serve.log_least`.
+    LogLeast,
+    /// `serve.log_form`.
+    LogForm,
     /// `link[i].listen`.
     LinkListen(usize),
     /// `link[i].from`.

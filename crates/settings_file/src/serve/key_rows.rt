@@ -22,6 +22,12 @@ const ADDRESS: &str = "an address and a port from 1 on, as \"127.0.0.1:2904\"";
 
 const PAGE: &str = "an address and a port from 1 on, as \"127.0.0.1:8080\"";
 
+const LOG_TIMES: &str = "\"seconds\" or \"utc\"";
+
+const LOG_LEAST: &str = "\"debug\", \"info\", \"notice\" or \"warning\"";
+
+const LOG_FORM: &str = "\"text\" or \"json\"";
+
 const UDP: &str = "an address and a port from 1 on, as \"127.0.0.1:9899\"";
 
 const ADDRESSES: &str = "at most eight addresses without a port, as \"192.0.2.1\", \
@@ -67,6 +73,9 @@ pub(crate) fn key_row(key: ServeKey) -> KeyRow
         ServeKey::HeartbeatMs => lone_key("serve.sctp.heartbeat_ms", INTEGER, "100 to 600000"),
         ServeKey::PageOpen => lone_key("serve.page_open", TRUTH, ""),
         ServeKey::Page => lone_key("serve.page", TEXT, PAGE),
+        ServeKey::LogTimes => lone_key("serve.log_times", TEXT, LOG_TIMES),
+        ServeKey::LogLeast => lone_key("serve.log_least", TEXT, LOG_LEAST),
+        ServeKey::LogForm => lone_key("serve.log_form", TEXT, LOG_FORM),
         ServeKey::LinkListen(i) => entry_key("link", i, "listen", TEXT, ADDRESS),
         ServeKey::LinkFrom(i) => entry_key("link", i, "from", TEXT, HOST),
         ServeKey::LinkConnect(i) => entry_key("link", i, "connect", TEXT, ADDRESS),

@@ -7,7 +7,7 @@ ghost use Rattle.settings_file.specs.Addresses.{Spelling};
 ghost use Rattle.settings_file.specs.Faults.{Answers};
 ghost use Rattle.settings_file.specs.ServeKeys.{found_at};
 ghost use Rattle.settings_file.specs.Consoles.{place_of, console_at};
-ghost use Rattle.settings_file.specs.Keyed.{truth_or, tick_ms_at, console_open_at, capture_at, points_at, udp_at, page_open_at, page_at};
+ghost use Rattle.settings_file.specs.Keyed.{truth_or, text_or, tick_ms_at, console_open_at, capture_at, points_at, udp_at, page_open_at, page_at};
 
 use crate::serve::address::{address_in, guarded, is_address_of};
 use crate::serve::console_place::{ConsolePlace, place_in};
@@ -57,6 +57,20 @@ pub(crate) fn truth_or(table: &Table, key: ServeKey, usual: bool) -> Result<bool
 {
     match found_at(table, key) {
         Some(value) => truth_in(value, ServeFault::Kind(key)),
+        None => Ok(usual),
+    }
+}
+
+/// The text of a key, with this one if the key is left out.
+pub(crate) fn text_or<'a>(
+    table: &'a Table,
+    key: ServeKey,
+    usual: &'static str,
+) -> Result<&'a str, ServeFault>
+    ensures { Answers (λ text. text.now) (text_or key usual.now (found_at key (table_view table.now))) result }
+{
+    match found_at(table, key) {
+        Some(value) => text_in(value, ServeFault::Kind(key)),
         None => Ok(usual),
     }
 }

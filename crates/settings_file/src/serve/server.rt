@@ -7,6 +7,7 @@ ghost use Rattle.settings_file.specs.Endpoints.{listens_on, has_same_peer, have_
 
 use crate::serve::capture::CaptureLimits;
 use crate::serve::console_place::{ConsolePlace, KeptPlace};
+use crate::serve::log_keys::LogSettings;
 use crate::serve::sctp::{Remote, SctpTimes};
 use settings::PointFormat;
 use std::marker::Model;
@@ -61,9 +62,9 @@ pub(crate) struct OwnAddresses {
     pub(crate) udp: Option<SocketAddr>,
 }
 
-/// The settings of a server: the length of a tick, where its console is, the capture and the limits of its
-/// files, how it shows point codes, where its datagrams go out and with which times, where its status page is, and how the association of each
-/// link comes about.
+/// The settings of a server: the length of a tick, where its console is, the capture and the limits of its files, how it
+/// shows point codes, where its datagrams go out and with which times, where its status page is, how its log is written,
+/// and how the association of each link comes about.
 #[derive(Drop)]
 pub struct ServeSettings {
     pub(crate) tick_ms: u16,
@@ -75,6 +76,7 @@ pub struct ServeSettings {
     pub(crate) sctp: SctpTimes,
     pub(crate) is_page_open: bool,
     pub(crate) page: Option<SocketAddr>,
+    pub(crate) log: LogSettings,
     pub(crate) links: Vec<Endpoint>,
 }
 
@@ -169,6 +171,13 @@ impl ServeSettings {
         ensures { result ≡ self.now.is_page_open }
     {
         self.is_page_open
+    }
+
+    /// How the log is written.
+    pub fn log(&self) -> LogSettings
+        ensures { result ≡ self.now.log }
+    {
+        self.log
     }
 
     /// How the association of each link comes about, in the order of the settings.

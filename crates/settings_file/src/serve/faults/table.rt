@@ -6,7 +6,7 @@ ghost use Rattle.std.specs.Result.{result_err};
 ghost use Rattle.toml.specs.View.{view, table_view};
 ghost use Rattle.settings_file.specs.Addresses.{Spelling};
 ghost use Rattle.settings_file.specs.AllServeFaults.{open_or_unread, if_read, console_read, console_address, page_read, own_read};
-ghost use Rattle.settings_file.specs.AllServeFaults.{size_check, files_check, ring_check, leading_checks, ring_checks, shown_checks, page_checks, table_checks};
+ghost use Rattle.settings_file.specs.AllServeFaults.{size_check, files_check, ring_check, leading_checks, ring_checks, shown_checks, page_checks, log_checks, table_checks};
 ghost use Rattle.settings_file.specs.Consoles.{place_of};
 ghost use Rattle.settings_file.specs.Faults.{Answers};
 ghost use Rattle.settings_file.specs.Keyed.{capture_at};
@@ -21,6 +21,7 @@ use crate::serve::key::ServeKey;
 use crate::serve::keys::{
     capture, console, console_open, found_at, page, page_open, points, tick_ms, udp,
 };
+use crate::serve::log_keys::{log_form, log_least, log_times};
 use crate::serve::server::OwnAddresses;
 use std::alloc::AllocError;
 use std::net::SocketAddr;
@@ -197,6 +198,18 @@ fn note_page(faults: &mut Vec<ServeFault>, serve: &Table) -> Result<(), AllocErr
     Ok(())
 }
 
+/// Notes the faults of how the log is written.
+#[tactic(auto, unfolding(crate::specs::AllServeFaults::log_checks))]
+fn note_log(faults: &mut Vec<ServeFault>, serve: &Table) -> Result<(), AllocError>
+    ensures { OnOk result
+        (faults.new.items ≡ all_noted faults.old.items (log_checks (table_view serve.now))) }
+{
+    note(faults, log_times(serve).err())?;
+    note(faults, log_least(serve).err())?;
+    note(faults, log_form(serve).err())?;
+    Ok(())
+}
+
 /// Notes the faults of the keys of the table.
 #[tactic(auto, unfolding(crate::specs::AllServeFaults::table_checks))]
 pub(crate) fn note_table(faults: &mut Vec<ServeFault>, serve: &Table) -> Result<(), AllocError>
@@ -208,5 +221,6 @@ pub(crate) fn note_table(faults: &mut Vec<ServeFault>, serve: &Table) -> Result<
     note_shown(faults, serve)?;
     note_sctp(faults, serve)?;
     note_page(faults, serve)?;
+    note_log(faults, serve)?;
     Ok(())
 }
