@@ -144,6 +144,14 @@ class Monitoring(NodeTest):
         self.assertLessEqual(found[names[1], "e0"], most)
         self.assertGreaterEqual(found[names[2], "e0"], LEAST_WINDOW)
 
+    def test_changeovers(self) -> None:
+        """The link that left service has changed over once. The other was deactivated before it was in service, and
+        that is no changeover."""
+        values, _ = parse_metrics(self.text())
+        found = {dict(pairs)["link"]: value for (family, pairs), value in values.items()
+                 if family == "stp_link_changeovers_total"}
+        self.assertEqual(found, {"e0": 0, "e1": 1})
+
     def test_all_that_is_named_is_there(self) -> None:
         values, kinds = parse_metrics(self.text())
         queries = [*of_rules().values(), *of_board()]

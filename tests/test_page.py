@@ -132,10 +132,14 @@ class PageTest(NodeTest):
     # Whether any Host will do.
     is_open = False
 
+    # Milliseconds of a tick, unless it is that of other tests.
+    tick_ms: int | None = None
+
     def setUp(self) -> None:
         super().setUp()
         self.port = free_port()
-        self.pair = Pair(self, near_page=self.port, near_page_open=self.is_open)
+        ticks = {} if self.tick_ms is None else {"tick_ms": self.tick_ms}
+        self.pair = Pair(self, near_page=self.port, near_page_open=self.is_open, **ticks)
         self.near = self.pair.near
 
     def client(self, **how: int) -> Client:
@@ -177,6 +181,16 @@ class PageTest(NodeTest):
         response, body = self.get("/metrics")
         self.assertEqual(response.status, 200)
         return parse_metrics(body.decode())
+
+    def await_changeovers(self, *counts: int) -> None:
+        """Waits until so many changeovers of each link are counted in the state. The metrics have the same counts, and
+        as many lines of the log tell that one ended."""
+        wait_until(lambda: tuple(it["changeovers"] for it in self.state()["links"]) == counts, f"changeovers {counts}")
+        values, _ = self.metrics()
+        for name, count in zip(self.pair.names, counts):
+            self.assertEqual(values[of_link("stp_link_changeovers_total", name)], count, name)
+            told = self.near.logged(rf"link {name} .* s (changing over|[a-z ]+, changed over)$")
+            self.assertEqual(told, count, name)
 
 
 class Page(PageTest):
@@ -264,6 +278,7 @@ class Page(PageTest):
             unavailable = values[of_link("stp_link_unavailable_seconds_total", name)]
             self.assertAlmostEqual(unavailable, link["since_ms"] / 1000)
             self.assertEqual(values[of_link("stp_link_unavailabilities_total", name)], 0)
+            self.assertEqual(values[of_link("stp_link_changeovers_total", name)], 0)
         self.assertEqual(values[series("stp_set_unavailabilities_total", **SET)], 0)
         first = min(link["since_ms"] for link in self.state()["links"])
         self.assertAlmostEqual(values[series("stp_set_unavailable_seconds_total", **SET)], first / 1000)
@@ -518,7 +533,7 @@ class PageOfFailures(PageTest):
 
     def test_a_changeover(self) -> None:
         """While the peer doesn't acknowledge a changeover, it isn't over, and user messages are held; management
-        is in the queues of links, and isn't in the pool."""
+        is in the queues of links, and isn't in the pool. It is counted as it ends, and once; and so is the next."""
         self.pair.exchange(MESSAGES)
         wait_until(lambda: self.near.is_at_rest(), "nothing is under way")
         name = self.pair.names[0]
@@ -531,6 +546,7 @@ class PageOfFailures(PageTest):
         finally:
             self.pair.far.signal(signal.SIGCONT)
         self.assertEqual([it["changing_over"] for it in state["links"]], [True, False, False])
+        self.assertEqual([it["changeovers"] for it in state["links"]], [0, 0, 0])
         for it in state["links"]:
             self.assertEqual(values[of_link("stp_link_changing_over", it["name"])], it["changing_over"], it["name"])
         self.assertGreater(state["held"], 0)
@@ -540,6 +556,27 @@ class PageOfFailures(PageTest):
         self.pair.forth.settle()
         wait_until(lambda: not any(it["changing_over"] for it in self.state()["links"]), "the changeover is over")
         self.assertEqual((self.state()["held"], self.state()["kept"]), (0, 0))
+        self.near.await_log(f"link {name} deactivated after ")
+        self.await_changeovers(1, 0, 0)
+        self.near.ask(f"activate {name}")
+        self.near.await_log(f"link {name} in service after ", 2)
+        self.near.ask(f"deactivate {name}")
+        self.near.await_log(f"link {name} deactivated after ", 2)
+        self.await_changeovers(2, 0, 0)
+
+
+class PageOfSlowTicks(PageTest):
+    """A page of a node whose ticks are longer than a changeover takes."""
+
+    tick_ms = 1000
+
+    def test_a_short_changeover(self) -> None:
+        """A changeover that begins and ends between two looks is counted, too, and once."""
+        name = self.pair.names[1]
+        self.near.await_log(f"link {name} in service after ")
+        self.near.ask(f"deactivate {name}")
+        self.near.await_log(f"link {name} deactivated after .* s in service, changed over$")
+        self.await_changeovers(0, 1, 0)
 
 
 class OpenPage(PageTest):

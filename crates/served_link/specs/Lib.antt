@@ -4,6 +4,7 @@ pub mod Reading
 pub mod ManyReads
 pub mod Sending
 pub mod Room
+pub mod Rows
 pub mod Ticking
 pub mod Counting
 pub mod Laws

@@ -1,5 +1,6 @@
 -- The states of links as an operator sees them, and what a look changes.
-use Rattle.std.specs.Prelude.{ℕ, Bool, true, false, ◌||◌, List, codes, replicate, slice_index_or, slice_set, if◌then◌else◌, Option, None, Some, nat_eq}
+use Rattle.std.specs.Prelude.{ℕ, ◌+◌, Bool, true, false, ◌&&◌, ◌||◌, not, List, codes, replicate, slice_index_or, slice_set, if◌then◌else◌, Option, None, Some, nat_eq}
+use Rattle.served_link.specs.Saturating.{saturated}
 use Rattle.served_link.specs.declared.service_states.ServiceState.{ServiceState}
 use Rattle.served_link.specs.declared.service_states.ServiceState.TheVariants as state
 use Rattle.served_link.specs.declared.service_states.StateChange.{StateChange}
@@ -57,9 +58,22 @@ is_available state.NotYetInService = false
 is_available state.Failed = false
 is_available state.Deactivated = false
 
--- as a node starts its links are out of service, wait for an association, and were never available
+-- the messages of a link change over, and that isn't over (Q.704 §5)
+abbrev pub is_changing_over : ServiceState → Bool
+is_changing_over state.InService = false
+is_changing_over state.UnderTest = false
+is_changing_over state.ProcessorOutage = false
+is_changing_over state.Aligning = false
+is_changing_over state.ChangingOver = true
+is_changing_over state.Barred = false
+is_changing_over state.Closing = false
+is_changing_over state.NotYetInService = false
+is_changing_over state.Failed = false
+is_changing_over state.Deactivated = false
+
+-- as a node starts its links are out of service, wait for an association, were never available, and changed over never
 abbrev pub at_start : StateSince
-at_start = record { state = state.NotYetInService; since_ms = 0; was_available = false }
+at_start = record { state = state.NotYetInService; since_ms = 0; was_available = false; changeovers = 0 }
 
 abbrev pub first_links : ℕ → List StateSince
 first_links links = replicate links at_start
@@ -95,6 +109,19 @@ abbrev pub change_at : (found : ServiceState) → Option StateSince → Option S
 change_at found None = None
 change_at found (Some link) = change_of found link
 
+-- a changeover of a link ended between two looks: the link was changing over by the first, or left service since, and
+-- isn't changing over by the second
+abbrev pub has_changed_over : (former state : ServiceState) → Bool
+has_changed_over former state =
+    (is_changing_over former || (is_in_service former && not (is_in_service state))) && not (is_changing_over state)
+
+-- how many changeovers of a link ended by now, all in all
+abbrev pub changeovers_by : StateChange → ℕ
+changeovers_by change =
+    if has_changed_over change.former.state change.state
+    then saturated (change.former.changeovers + 1)
+    else change.former.changeovers
+
 -- how it is seen after the look: since then, if it wasn't seen so before
 abbrev pub after_change : Option StateChange → (found : ServiceState) → (now : ℕ) → StateSince → StateSince
 after_change None found now link = link
@@ -102,6 +129,7 @@ after_change (Some change) found now link = record {
   state = change.state;
   since_ms = now;
   was_available = link.was_available || is_available found;
+  changeovers = changeovers_by change;
 }
 
 abbrev pub seen_after : (found : ServiceState) → (now : ℕ) → StateSince → StateSince

@@ -2,8 +2,9 @@
 
 ghost use Rattle.std.specs.Prelude.{◌≡◌, ◌≤◌, IfOk, length, slice_get};
 ghost use Rattle.std.specs.Option.{option_copied};
-ghost use Rattle.served_link.specs.ServiceStates.{at_start, change_at, change_of, first_links, is_available, is_in_service};
-ghost use Rattle.served_link.specs.ServiceStates.{links_after, seen_after, seen_as, state_words};
+ghost use Rattle.served_link.specs.ServiceStates.{at_start, change_at, change_of, changeovers_by, first_links};
+ghost use Rattle.served_link.specs.ServiceStates.{is_available, is_changing_over, is_in_service, links_after};
+ghost use Rattle.served_link.specs.ServiceStates.{seen_after, seen_as, state_words};
 
 use signalling_types::LinkId;
 use std::alloc::{AllocError, Global};
@@ -74,6 +75,13 @@ impl ServiceState {
         )
     }
 
+    /// Whether the messages of a link in this state change over, and that isn't over.
+    fn is_changing_over(self) -> bool
+        ensures { result ≡ is_changing_over self }
+    {
+        matches!(self, ServiceState::ChangingOver)
+    }
+
     /// This state of a link that was available before, or wasn't: of the two states in which it may open, the one that
     /// fits.
     fn seen_as(self, was_available: bool) -> ServiceState
@@ -101,6 +109,8 @@ pub struct StateSince {
     pub since_ms: u64,
     /// Whether it was available then, or before.
     pub was_available: bool,
+    /// How many changeovers of it ended since the start; it stays at 2^64 - 1 (Q.704 §5).
+    pub changeovers: u64,
 }
 
 /// A change of a link's state.
@@ -112,15 +122,32 @@ pub struct StateChange {
     pub state: ServiceState,
 }
 
+impl StateChange {
+    /// How many changeovers of the link ended by now. One did since the former look if the link was changing over, or
+    /// was in service and is out of it, and isn't changing over now.
+    fn changeovers(self) -> u64
+        ensures { result ≡ changeovers_by self }
+    {
+        let former = self.former.state;
+        let left_service = former.is_in_service() && !self.state.is_in_service();
+        if (former.is_changing_over() || left_service) && !self.state.is_changing_over() {
+            self.former.changeovers.saturating_add(1)
+        } else {
+            self.former.changeovers
+        }
+    }
+}
+
 impl StateSince {
     /// A link as a node starts.
-    fn at_start() -> StateSince
+    pub fn at_start() -> StateSince
         ensures { result ≡ at_start }
     {
         StateSince {
             state: ServiceState::NotYetInService,
             since_ms: 0,
             was_available: false,
+            changeovers: 0,
         }
     }
 
@@ -148,6 +175,7 @@ impl StateSince {
                 state: change.state,
                 since_ms: now_ms,
                 was_available: self.was_available || found.is_available(),
+                changeovers: change.changeovers(),
             },
             None => self,
         }

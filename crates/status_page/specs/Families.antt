@@ -12,7 +12,7 @@ use Rattle.status_page.specs.declared.family.Family.TheVariants.{Held, Notices, 
 use Rattle.status_page.specs.declared.family.Family.TheVariants.{Broken, Rerouted, Alarms, DatagramsReceived, DatagramsSent}
 use Rattle.status_page.specs.declared.family.Family.TheVariants.{Strangers, Accessible, Restricted, InUse, SetAvailable}
 use Rattle.status_page.specs.declared.family.Family.TheVariants.{SetLinks, SetUnavailable, SetUnavailabilities, InService, ChangingOver}
-use Rattle.status_page.specs.declared.family.Family.TheVariants.{Barred, LinkUnavailable, LinkUnavailabilities, Queue, FramesReceived}
+use Rattle.status_page.specs.declared.family.Family.TheVariants.{Barred, LinkUnavailable, LinkUnavailabilities, LinkChangeovers, Queue, FramesReceived}
 use Rattle.status_page.specs.declared.family.Family.TheVariants.{OctetsReceived, FramesSent, OctetsSent, Forwarded, Delivered}
 use Rattle.status_page.specs.declared.family.Family.TheVariants.{MessagesReceived, MessagesSent, ManagementReceived, ManagementSent, Refused}
 use Rattle.status_page.specs.declared.family.Family.TheVariants.{Failures, Retries, InitsRefused, TriesFailed, RoundTrip}
@@ -30,7 +30,7 @@ families =
     Build ∷ Uptime ∷ LongestTurn ∷ PoolLimit ∷ Pool ∷ Held ∷ Notices ∷ Flags ∷ Raised ∷ Lost ∷ Broken ∷
     Rerouted ∷ Alarms ∷ DatagramsReceived ∷ DatagramsSent ∷ Strangers ∷ Accessible ∷ Restricted ∷ InUse ∷
     SetAvailable ∷ SetLinks ∷ SetUnavailable ∷ SetUnavailabilities ∷ InService ∷ ChangingOver ∷ Barred ∷
-    LinkUnavailable ∷ LinkUnavailabilities ∷ Queue ∷ FramesReceived ∷ OctetsReceived ∷ FramesSent ∷
+    LinkUnavailable ∷ LinkUnavailabilities ∷ LinkChangeovers ∷ Queue ∷ FramesReceived ∷ OctetsReceived ∷ FramesSent ∷
     OctetsSent ∷ Forwarded ∷ Delivered ∷ MessagesReceived ∷ MessagesSent ∷ ManagementReceived ∷
     ManagementSent ∷ Refused ∷ Failures ∷ Retries ∷ InitsRefused ∷ TriesFailed ∷ RoundTrip ∷
     RetransmissionTimeout ∷ CongestionWindow ∷ []
@@ -65,6 +65,7 @@ family_name ChangingOver = codes "stp_link_changing_over"
 family_name Barred = codes "stp_link_barred"
 family_name LinkUnavailable = codes "stp_link_unavailable_seconds_total"
 family_name LinkUnavailabilities = codes "stp_link_unavailabilities_total"
+family_name LinkChangeovers = codes "stp_link_changeovers_total"
 family_name Queue = codes "stp_queue_messages"
 family_name FramesReceived = codes "stp_frames_received_total"
 family_name OctetsReceived = codes "stp_octets_received_total"
@@ -115,6 +116,7 @@ family_help ChangingOver = codes "1 if the link is down and its changeover isn't
 family_help Barred = codes "1 if the link can't open until its changeover order is answered, else 0."
 family_help LinkUnavailable = codes "How long the link wasn't in service, also before it first was."
 family_help LinkUnavailabilities = codes "How often the link was in service, and then wasn't, whatever the reason."
+family_help LinkChangeovers = codes "Changeovers of the link that are over."
 family_help Queue = codes "Messages of the link that the peer hasn't confirmed, sent or not."
 family_help FramesReceived = codes "Frames that came in on the link."
 family_help OctetsReceived = codes "Octets of the frames that came in on the link."
@@ -165,6 +167,7 @@ kind_of ChangingOver = Gauge
 kind_of Barred = Gauge
 kind_of LinkUnavailable = Growing
 kind_of LinkUnavailabilities = Growing
+kind_of LinkChangeovers = Growing
 kind_of Queue = Gauge
 kind_of FramesReceived = Growing
 kind_of OctetsReceived = Growing
@@ -215,6 +218,7 @@ exponent_of ChangingOver = []
 exponent_of Barred = []
 exponent_of LinkUnavailable = codes "e-3"
 exponent_of LinkUnavailabilities = []
+exponent_of LinkChangeovers = []
 exponent_of Queue = []
 exponent_of FramesReceived = []
 exponent_of OctetsReceived = []
@@ -273,6 +277,7 @@ metrics_of ChangingOver = Link of_link.ChangingOver ∷ []
 metrics_of Barred = Link of_link.Barred ∷ []
 metrics_of LinkUnavailable = Link of_link.UnavailableTime ∷ []
 metrics_of LinkUnavailabilities = Link of_link.Unavailabilities ∷ []
+metrics_of LinkChangeovers = Link of_link.Changeovers ∷ []
 metrics_of Queue = Link of_link.Waiting ∷ []
 metrics_of FramesReceived = counted counting.FramesIn ∷ []
 metrics_of OctetsReceived = counted counting.OctetsIn ∷ []

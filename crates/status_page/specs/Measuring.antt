@@ -18,6 +18,8 @@ use Rattle.served_link.specs.declared.messages.MessageCounts.{MessageCounts}
 use Rattle.served_link.specs.declared.unavailable.Unavailable.{Unavailable}
 use Rattle.served_link.specs.Kinds.{kind_number}
 use Rattle.served_link.specs.Messages.{no_messages}
+use Rattle.served_link.specs.ServiceStates.{at_start}
+use Rattle.served_link.specs.declared.service_states.StateSince.{StateSince}
 use Rattle.served_link.specs.Unavailable.{unavailable_by}
 use Rattle.served_link.specs.declared.row.LinkCounters.{LinkCounters}
 use Rattle.served_link.specs.Counting.{no_counts, saturated, value_of}
@@ -100,6 +102,10 @@ counters_at rows link = unwrap_or (slice_get rows link) no_counts
 abbrev pub messages_of : List LinkMessages → ℕ → LinkMessages
 messages_of rows link = unwrap_or (slice_get rows link) no_messages
 
+-- a link as it was last seen
+abbrev pub seen_of : List StateSince → ℕ → StateSince
+seen_of states link = unwrap_or (slice_get states link) at_start
+
 -- how many messages were of a kind, or had a service indicator
 abbrev pub kind_count : ManagementKind → MessageCounts → ℕ
 kind_count kind counts = slice_index counts.kinds (kind_number kind)
@@ -153,6 +159,7 @@ link_value q of_link.Barred s f k = Some (bit (is_barred_at s k))
 link_value q of_link.Waiting s f k = Some (waiting_on q s k)
 link_value q of_link.UnavailableTime s f k = Some (unavailable_ms f.times.uptime_ms (slice_get f.link_times k))
 link_value q of_link.Unavailabilities s f k = Some (unavailabilities (slice_get f.link_times k))
+link_value q of_link.Changeovers s f k = Some (seen_of f.states k).changeovers
 link_value q (of_link.Counted counter) s f k =
     count_if (is_shown_at_zero counter) (value_of counter (counters_at f.counters.links k))
 link_value q (of_link.ServiceHeard service) s f k =

@@ -95,6 +95,7 @@ metric_labels of_link.Barred = []
 metric_labels of_link.Waiting = []
 metric_labels of_link.UnavailableTime = []
 metric_labels of_link.Unavailabilities = []
+metric_labels of_link.Changeovers = []
 metric_labels (of_link.Counted counter) = counter_labels counter
 metric_labels (of_link.ServiceHeard service) = service_label service
 metric_labels (of_link.ServiceSent service) = service_label service

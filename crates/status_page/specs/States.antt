@@ -1,5 +1,5 @@
 -- The state of a node, as JSON.
-use Rattle.std.specs.Prelude.{ℕ, suc, ◌+◌, ◌-◌, ◌^◌, ◌%◌, List, [], ◌∷◌, ◌++◌, length, map, flat_map, codes, slice_get, slice_index_or, unwrap_or, Option, Some, None}
+use Rattle.std.specs.Prelude.{ℕ, suc, ◌+◌, ◌-◌, ◌^◌, ◌%◌, List, [], ◌∷◌, ◌++◌, length, map, flat_map, codes, slice_index_or, Option, Some, None}
 use Rattle.json.specs.Token.{Token, string}
 use Rattle.signalling_types.specs.Causes.{cause_name}
 use Rattle.signalling_types.specs.Notices.{failure_name}
@@ -22,7 +22,7 @@ use Rattle.served_link.specs.declared.row.LinkCounters.{LinkCounters}
 use Rattle.served_link.specs.Counting.{value_of}
 use Rattle.served_link.specs.AlarmTexts.{alarm_name}
 use Rattle.served_link.specs.Alarms.{alarm_at}
-use Rattle.served_link.specs.ServiceStates.{at_start, state_words}
+use Rattle.served_link.specs.ServiceStates.{state_words}
 use Rattle.served_link.specs.declared.alarm.Alarm.{Alarm}
 use Rattle.served_link.specs.declared.service_states.StateSince.{StateSince}
 use Rattle.status_page.specs.Each.{each}
@@ -32,7 +32,7 @@ use Rattle.status_page.specs.declared.noticed.NoticeKind.{NoticeKind}
 use Rattle.status_page.specs.declared.noticed.NoticeKind.TheVariants as noticed
 use Rattle.status_page.specs.declared.noticed.NoticeLog.{NoticeLog}
 use Rattle.status_page.specs.Reasons.{causes, init_reasons, notice_kinds, reasons, try_reasons}
-use Rattle.status_page.specs.Measuring.{counters_at, held_users, is_changing_over, kept_messages}
+use Rattle.status_page.specs.Measuring.{counters_at, held_users, is_changing_over, kept_messages, seen_of}
 use Rattle.status_page.specs.Noticed.{kind_seen, time_of}
 use Rattle.status_page.specs.Places.{set_name_of, sets_to}
 use Rattle.status_page.specs.Members.{object, text_member, number_member, bool_member, object_member, array_member}
@@ -84,10 +84,11 @@ view_members v =
 abbrev pub name_members : Configuration → (link : ℕ) → List Token
 name_members c link = text_member (codes "name") (name_in c link) ++ text_member (codes "set") (set_name_of c link)
 
--- the state of a link in words, and since when it is in that, as it was last seen
-abbrev pub state_since_members : StateSince → List Token
-state_since_members seen =
+-- a link as it was last seen: its state in words, since when it is in that, and how many changeovers of it are over
+abbrev pub seen_members : StateSince → List Token
+seen_members seen =
     text_member (codes "service") (state_words seen.state) ++ number_member (codes "since_ms") seen.since_ms
+    ++ number_member (codes "changeovers") seen.changeovers
 
 -- a link, as it is shown, by its number
 abbrev pub link_object : {Q : Type 0} → QueueKind Q → State Q → NodeFacts → ℕ → LinkView → List Token
@@ -95,7 +96,7 @@ link_object q s f k v =
     object (name_members s.settings k ++ view_members v
     ++ bool_member (codes "changing_over") (is_changing_over q s k)
     ++ bool_member (codes "barred") (is_barred_at s k)
-    ++ state_since_members (unwrap_or (slice_get f.states k) at_start)
+    ++ seen_members (seen_of f.states k)
     ++ all_counters (counters_at f.counters.links k))
 
 -- the same, if there is such a link

@@ -70,6 +70,8 @@ pub enum Family {
     LinkUnavailable,
     /// How often each link became unavailable.
     LinkUnavailabilities,
+    /// How many changeovers of each link ended.
+    LinkChangeovers,
     /// Messages of each link that aren't confirmed.
     Queue,
     /// Frames that came in.
@@ -112,7 +114,7 @@ pub enum Family {
 
 impl Family {
     /// All families, in the order in which they are shown.
-    pub const ALL: [Family; 47] = [
+    pub const ALL: [Family; 48] = [
         Family::Build,
         Family::Uptime,
         Family::LongestTurn,
@@ -141,6 +143,7 @@ impl Family {
         Family::Barred,
         Family::LinkUnavailable,
         Family::LinkUnavailabilities,
+        Family::LinkChangeovers,
         Family::Queue,
         Family::FramesReceived,
         Family::OctetsReceived,

@@ -167,6 +167,7 @@ fn push_further(metric: LinkMetric, labels: &mut ArrayString<LABELS_OCTETS>)
         | LinkMetric::Waiting
         | LinkMetric::UnavailableTime
         | LinkMetric::Unavailabilities
+        | LinkMetric::Changeovers
         | LinkMetric::RoundTrip
         | LinkMetric::RetransmissionTimeout
         | LinkMetric::CongestionWindow => {}

@@ -1,22 +1,21 @@
 //! A link in the state of a node.
 
-ghost use Rattle.std.specs.Prelude.{◌≡◌, slice_get, unwrap_or};
+ghost use Rattle.std.specs.Prelude.{◌≡◌};
 ghost use Rattle.exchange.specs.KeptQueues.{kept};
-ghost use Rattle.served_link.specs.ServiceStates.{at_start};
 ghost use Rattle.status_page.specs.Facts.{facts_of};
 ghost use Rattle.status_page.specs.Members.{Adds, object_member};
 ghost use Rattle.status_page.specs.States.{all_counters, counter_key, counter_members, link_object, link_tokens};
-ghost use Rattle.status_page.specs.States.{name_members, state_since_members, view_members};
+ghost use Rattle.status_page.specs.States.{name_members, seen_members, view_members};
 
 use crate::counted::counters_of;
 use crate::facts::Facts;
-use crate::link_values::is_changing_over;
+use crate::link_values::{is_changing_over, seen_of};
 use crate::members::{put_bool, put_number, put_text};
 use crate::places::set_name_of;
 use console::link_name;
 use exchange::{Exchange, LinkView};
 use json::Writer;
-use served_link::{Counter, LinkCounters, ServiceState, ServiceStates, Setback, StateSince};
+use served_link::{Counter, LinkCounters, Setback, StateSince};
 use settings::Settings;
 use signalling_types::{Cause, FailureReason, LinkId};
 use std::alloc::AllocError;
@@ -126,7 +125,7 @@ fn put_shown(
     put_view(view, out)?;
     put_bool(out, "changing_over", is_changing_over(exchange, link))?;
     put_bool(out, "barred", exchange.is_barred(link))?;
-    put_state_since(seen_of(facts.states, link), out)?;
+    put_seen(seen_of(facts.states, link), out)?;
     put_counters(&counters_of(facts.counters, link), out)?;
     out.end_object()
 }
@@ -149,23 +148,13 @@ fn put_view(view: LinkView, out: &mut Writer) -> Result<(), AllocError>
     put_number(out, "bsn", u64::from(view.last_accepted.value()))
 }
 
-/// A link as it was last seen; as a node starts, if it isn't there.
-fn seen_of(states: &ServiceStates, link: LinkId) -> StateSince
-    ensures { result ≡ unwrap_or (slice_get states.now link) at_start }
-{
-    states.link(link).copied().unwrap_or(StateSince {
-        state: ServiceState::NotYetInService,
-        since_ms: 0,
-        was_available: false,
-    })
-}
-
-/// Appends a state in words, and since when a link is in it.
-fn put_state_since(seen: StateSince, out: &mut Writer) -> Result<(), AllocError>
-    ensures { Adds result out.old out.new (state_since_members seen) }
+/// Appends a link as it was last seen: its state in words, since when, and how many of its changeovers ended.
+fn put_seen(seen: StateSince, out: &mut Writer) -> Result<(), AllocError>
+    ensures { Adds result out.old out.new (seen_members seen) }
 {
     put_text(out, "service", seen.state.words())?;
-    put_number(out, "since_ms", seen.since_ms)
+    put_number(out, "since_ms", seen.since_ms)?;
+    put_number(out, "changeovers", seen.changeovers)
 }
 
 /// Appends all counters of a link.

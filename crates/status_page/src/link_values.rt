@@ -5,14 +5,16 @@ ghost use Rattle.exchange.specs.KeptQueues.{kept};
 ghost use Rattle.status_page.specs.Facts.{facts_of};
 ghost use Rattle.status_page.specs.Measuring.{association_of, count_if, is_changing_over, is_in_service};
 ghost use Rattle.status_page.specs.Measuring.{is_shown_at_zero, is_watched, link_value, messages_of, round_trip_of};
-ghost use Rattle.status_page.specs.Measuring.{unavailabilities, unavailable_ms, waiting_on};
+ghost use Rattle.status_page.specs.Measuring.{seen_of, unavailabilities, unavailable_ms, waiting_on};
 
 use crate::counted::counters_of;
 use crate::facts::Facts;
 use crate::measuring::bit;
 use crate::metric::LinkMetric;
 use exchange::{Exchange, LinkStanding};
-use served_link::{AssociationStatus, Counter, Counters, LinkMessages, UnavailableTimes};
+use served_link::{
+    AssociationStatus, Counter, Counters, LinkMessages, ServiceStates, StateSince, UnavailableTimes,
+};
 use signalling_types::{Cause, LinkId};
 
 /// The value of a metric of a link, if it has one that is shown. Counters that have a cause, a reason or a kind each are
@@ -35,6 +37,7 @@ pub(crate) fn link_value(
             Some(unavailable_ms(facts.link_times, link.index(), now_ms))
         }
         LinkMetric::Unavailabilities => Some(unavailabilities(facts.link_times, link.index())),
+        LinkMetric::Changeovers => Some(seen_of(facts.states, link).changeovers),
         LinkMetric::Counted(counter) => count_if(
             is_shown_at_zero(counter),
             counters_of(facts.counters, link).get(counter),
@@ -67,6 +70,13 @@ pub(crate) fn link_value(
             None => None,
         },
     }
+}
+
+/// A link as it was last seen; as a node starts, if it isn't there.
+pub(crate) fn seen_of(states: &ServiceStates, link: LinkId) -> StateSince
+    ensures { result ≡ seen_of states.now link }
+{
+    states.link(link).copied().unwrap_or(StateSince::at_start())
 }
 
 /// The messages of a link by kind; none for a link that isn't there.

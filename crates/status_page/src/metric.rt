@@ -74,6 +74,8 @@ pub enum LinkMetric {
     UnavailableTime,
     /// How often it was in service, and then wasn't.
     Unavailabilities,
+    /// How many changeovers of it ended since the start.
+    Changeovers,
     /// What was counted for it.
     Counted(Counter),
     /// Messages that came in with this service indicator.

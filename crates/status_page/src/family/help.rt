@@ -54,6 +54,7 @@ impl Family {
                 "How long the link wasn't in service, also before it first was.",
             Family::LinkUnavailabilities =>
                 "How often the link was in service, and then wasn't, whatever the reason.",
+            Family::LinkChangeovers => "Changeovers of the link that are over.",
             Family::Queue => "Messages of the link that the peer hasn't confirmed, sent or not.",
             Family::FramesReceived => "Frames that came in on the link.",
             Family::OctetsReceived => "Octets of the frames that came in on the link.",

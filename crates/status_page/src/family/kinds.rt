@@ -44,6 +44,7 @@ impl Family {
             | Family::SetUnavailabilities
             | Family::LinkUnavailable
             | Family::LinkUnavailabilities
+            | Family::LinkChangeovers
             | Family::FramesReceived
             | Family::OctetsReceived
             | Family::FramesSent
@@ -99,6 +100,7 @@ impl Family {
             | Family::ChangingOver
             | Family::Barred
             | Family::LinkUnavailabilities
+            | Family::LinkChangeovers
             | Family::Queue
             | Family::FramesReceived
             | Family::OctetsReceived

@@ -49,6 +49,7 @@ impl Family {
             Family::Barred => &[Metric::Link(LinkMetric::Barred)],
             Family::LinkUnavailable => &[Metric::Link(LinkMetric::UnavailableTime)],
             Family::LinkUnavailabilities => &[Metric::Link(LinkMetric::Unavailabilities)],
+            Family::LinkChangeovers => &[Metric::Link(LinkMetric::Changeovers)],
             Family::Queue => &[Metric::Link(LinkMetric::Waiting)],
             Family::FramesReceived => &[Metric::Link(LinkMetric::Counted(Counter::FramesIn))],
             Family::OctetsReceived => &[Metric::Link(LinkMetric::Counted(Counter::OctetsIn))],

@@ -40,6 +40,7 @@ impl Family {
             Family::Barred => "stp_link_barred",
             Family::LinkUnavailable => "stp_link_unavailable_seconds_total",
             Family::LinkUnavailabilities => "stp_link_unavailabilities_total",
+            Family::LinkChangeovers => "stp_link_changeovers_total",
             Family::Queue => "stp_queue_messages",
             Family::FramesReceived => "stp_frames_received_total",
             Family::OctetsReceived => "stp_octets_received_total",

@@ -85,13 +85,15 @@ function glance(state) {
   const raised = n => n ? '⚠ ' + count(n) + (n === 1 ? ' time' : ' times') : 'none';
   const up = state.links.filter(link => link.state === 'InService').length;
   const open = state.routes.filter(route => route.status !== 'prohibited').length;
-  const over = state.links.filter(link => link.changing_over).length;
+  const over = state.links.filter(link => link.service === 'changing over').length;
+  const done = state.links.reduce((sum, link) => sum + link.changeovers, 0);
   return [
     ['Alarms', 'raised now; they are below', count(state.alarms.length), state.alarms.length ? 'bad' : 'good'],
     ['Links in service', 'their state is In service', up + ' of ' + state.links.length, up === state.links.length ? 'good' : 'bad'],
     ['Destinations accessible', 'messages may go there', count(open) + ' of ' + count(state.routes.length),
       open === state.routes.length ? 'good' : 'bad'],
-    ['Changeovers', 'links that are down, and whose changeover isn’t over', count(over), over ? 'turning' : ''],
+    ['Changeovers', 'links that are changing over, and changeovers that ended since the start',
+      count(over) + ' not over, ' + count(done) + ' done', over ? 'turning' : ''],
     ['User messages kept', 'not confirmed yet, or held; of the pool', count(state.kept) + ' of ' + count(state.pool),
       state.kept < state.pool ? '' : 'bad'],
     ['User messages held', 'kept until their flow may go on', count(state.held), ''],

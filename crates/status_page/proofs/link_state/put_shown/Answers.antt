@@ -10,6 +10,6 @@ returns c =
     (behind c.end_object.result c.put_names.new.out c.put_view.new.out c.end_object.new.self _ _ c.in_ok-put_view.ensures
     (behind c.end_object.result c.put_view.new.out c.put_bool.new.out c.end_object.new.self _ _ c.in_ok-put_bool.ensures
     (behind c.end_object.result c.put_bool.new.out c.put_bool-2.new.out c.end_object.new.self _ _ c.in_ok-put_bool-2.ensures
-    (behind c.end_object.result c.put_bool-2.new.out c.put_state_since.new.out c.end_object.new.self _ _ c.in_ok-put_state_since.ensures
-    (behind c.end_object.result c.put_state_since.new.out c.put_counters.new.out c.end_object.new.self _ _ c.in_ok-put_counters.ensures
+    (behind c.end_object.result c.put_bool-2.new.out c.put_seen.new.out c.end_object.new.self _ _ c.in_ok-put_seen.ensures
+    (behind c.end_object.result c.put_seen.new.out c.put_counters.new.out c.end_object.new.self _ _ c.in_ok-put_counters.ensures
     (one c.end_object.result c.put_counters.new.out c.end_object.new.self _ c.end_object.ensures))))))))
