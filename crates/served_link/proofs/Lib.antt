@@ -1,6 +1,8 @@
 pub mod Basics
+pub mod Dates
 pub mod Handing
 pub mod InOrder
+pub mod LineTexts
 pub mod OneRead
 pub mod Rows
 pub mod Standing

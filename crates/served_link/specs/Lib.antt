@@ -13,6 +13,8 @@ pub mod Alarms
 pub mod Alternating
 pub mod AlarmTexts
 pub mod DestinationStates
+pub mod LineForms
+pub mod LogLaws
 pub mod LogLines
 pub mod PoolLevel
 pub mod ServiceStates
@@ -23,3 +25,4 @@ pub mod Kinds
 pub mod Messages
 pub mod Saturating
 pub mod Unavailable
+pub mod Utc

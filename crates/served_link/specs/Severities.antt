@@ -11,6 +11,13 @@ severity_number Notice = 5
 severity_number Info = 6
 severity_number Debug = 7
 
+-- their names, as settings and lines of JSON have them
+abbrev pub severity_name : Severity → List ℕ
+severity_name Warning = codes "warning"
+severity_name Notice = codes "notice"
+severity_name Info = codes "info"
+severity_name Debug = codes "debug"
+
 -- a priority as journald reads it in front of a line: the digit (48 is 0) between `<` (60) and `>` (62)
 abbrev pub priority_of : Severity → List ℕ
 priority_of severity = 60 ∷ (48 + severity_number severity) ∷ 62 ∷ []

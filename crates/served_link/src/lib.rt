@@ -1,7 +1,7 @@
 //! A served link without its socket. Octets that come are cut into frames, which are handed in; frames are taken while
 //! there is room, and written in as many pieces as it takes. Also when ticks are due, when a connection is tried again,
 //! and the counters of the link. And what the log of a served node tells of links, sets and destinations: their states,
-//! as an operator sees them, which alarms are raised, and the lines of what changed.
+//! as an operator sees them, which alarms are raised, the lines of what changed, and how a line is written.
 #![tactic(auto)]
 
 pub mod alarm;
@@ -18,6 +18,8 @@ mod filling;
 mod frame;
 pub mod laws;
 pub mod line;
+pub mod line_form;
+pub mod log_laws;
 pub mod log_lines;
 pub mod management_kind;
 pub mod messages;
@@ -33,6 +35,7 @@ pub mod shown_states;
 pub mod ticking;
 pub mod times;
 pub mod unavailable;
+pub mod utc;
 pub mod watch;
 
 pub use alarm::Alarm;
@@ -45,6 +48,7 @@ pub use counters::Counters;
 pub use datagrams::{DATAGRAMS_OCTETS, DatagramCounters};
 pub use destination_states::{Access, DestinationState, DestinationStates};
 pub use line::{LINE_OCTETS, write_counter};
+pub use line_form::{FORMED_OCTETS, FormedLine, LineForm};
 pub use log_lines::{
     CHANGE_OCTETS, ChangeLine, alarm_change_line, destination_change_line, link_change_line,
     set_change_line,

@@ -1,7 +1,7 @@
 //! How severe a line of the log is.
 
 ghost use Rattle.std.specs.Prelude.{◌≡◌};
-ghost use Rattle.served_link.specs.Severities.{begins, priority_of, severity_number, severity_of};
+ghost use Rattle.served_link.specs.Severities.{begins, priority_of, severity_name, severity_number, severity_of};
 ghost use Rattle.served_link.specs.Severities.{tells_a_change, tells_news, warns};
 
 /// How severe a line of the log is (RFC 5424 §6.2.1).
@@ -27,6 +27,18 @@ impl Severity {
             Severity::Notice => 5,
             Severity::Info => 6,
             Severity::Debug => 7,
+        }
+    }
+
+    /// The severity's name, as settings have it.
+    pub fn name(self) -> &'static str
+        ensures { result.now ≡ severity_name self }
+    {
+        match self {
+            Severity::Warning => "warning",
+            Severity::Notice => "notice",
+            Severity::Info => "info",
+            Severity::Debug => "debug",
         }
     }
 
