@@ -124,13 +124,14 @@ def settings(own: int, links: Sequence[Link | SctpLink], *, version: int = 2, wi
              tick_ms: int = 50, console: int | str | None = None, page: int | None = None, page_open: bool = False,
              capture: str | None = None, capture_size: int | str | None = None, capture_files: int | None = None,
              points: str | None = None, udp: int | None = None, sctp: dict[str, int] | None = None,
+             log: dict[str, str] | None = None,
              processor_outage: bool = False, **timers: int) -> str:
     """The settings of a node with these links. A console is at a port, or at the path of a Unix socket. Timers that
     aren't named are LONG, but for the proving period."""
     adjacents = list(dict.fromkeys(link.adjacent for link in links))
     ticks = {**dict.fromkeys(TIMERS, LONG), "l4": 1, **timers}
     listing = any(link.addresses if isinstance(link, SctpLink) else link.source for link in links)
-    version = 4 if listing or capture_size is not None else version
+    version = 4 if listing or capture_size is not None or log is not None else version
     lines = [f"version = {version}", f"own = {own}", "network = 2", f"window = {window}", f"pool = {pool}"]
     lines += ["processor_outage = true"] * processor_outage
     lines += ["users = [5]", "subsystems = [8]", "[serve]", f"tick_ms = {tick_ms}"]
@@ -143,6 +144,7 @@ def settings(own: int, links: Sequence[Link | SctpLink], *, version: int = 2, wi
     lines += [f"capture_files = {capture_files}"] * (capture_files is not None)
     lines += [f'points = "{points}"'] * (points is not None)
     lines += [f'udp = "{HOST}:{udp}"'] * (udp is not None)
+    lines += [f'log_{name} = "{word}"' for name, word in (log or {}).items()]
     if sctp is not None:
         lines += ["[serve.sctp]", *(f"{name} = {value}" for name, value in sctp.items())]
     lines += ["[timers]", *(f"{name} = {count}" for name, count in ticks.items())]

@@ -1,10 +1,12 @@
 """What the log says of links, sets, destinations, alarms and orders, and how its lines are written."""
 
+import json
 import os
 import re
 import signal
 import socket
 import time
+from datetime import datetime, timedelta, timezone
 
 from frames import Status, status_frame
 from harness import HOST, Link, Node, NodeTest, free_port, links_between, wait_until
@@ -29,6 +31,11 @@ SLOW_TICK_MS = 1000
 TESTS = {"slt1": 20, "slt2": 200}
 
 SECONDS = r"\d+\.\d{3}"
+
+# A time in UTC (RFC 3339), and how it is read.
+UTC, UTC_FORM = r"\d{4}-\d\d-\d\dT\d\d:\d\d:\d\d\.\d{3}Z", "%Y-%m-%dT%H:%M:%S.%fZ"
+
+MILLISECOND = timedelta(milliseconds=1)
 
 
 class Peer:
@@ -254,3 +261,112 @@ class NodeLog(NodeTest):
         node.kill()
         node.start(env={**environment, "JOURNAL_STREAM": f"{there.st_dev}:{there.st_ino + 1}"})
         node.await_log("start 3 links")
+
+
+class FormedLog(NodeTest):
+    """A node whose settings say how its log is written."""
+
+    def logging(self, **how: str) -> Node:
+        """A node with a link that nobody opens, once its log has the alarms of its first look."""
+        node = self.node(NEAR, links_between([free_port()], FAR, True), log=how)
+        node.start()
+        self.await_line(node, f"alarm destination {FAR}")
+        return node
+
+    def await_line(self, node: Node, text: str) -> None:
+        wait_until(lambda: any(text in line for line in node.log()), text)
+
+
+class LogTimes(FormedLog):
+    def test_utc(self) -> None:
+        """Each line begins with its time in UTC, by the clock of the system."""
+        before = datetime.now(timezone.utc)
+        node = self.logging(times="utc")
+        after = datetime.now(timezone.utc)
+        for line in node.log():
+            self.assertRegex(line, rf"^{UTC} \w")
+        told = [datetime.strptime(line.split()[0], UTC_FORM).replace(tzinfo=timezone.utc) for line in node.log()]
+        self.assertEqual(told, sorted(told))
+        self.assertLess(before - MILLISECOND, told[0])
+        self.assertLessEqual(told[-1], after)
+
+    def test_missed_lines(self) -> None:
+        """So does the line that tells how many were missed."""
+        node = self.logging(times="utc")
+        node.operator.write("capture stop\n" * 200)
+        node.operator.read_lines(200)
+        wait_until(lambda: any(re.match(rf"{UTC} missed \d+ lines$", line) for line in node.log()), "missed lines")
+
+    def test_seconds(self) -> None:
+        """As without the key."""
+        node = self.logging(times="seconds")
+        for line in node.log():
+            self.assertRegex(line, rf"^{SECONDS} \w")
+
+
+class LogLeast(FormedLog):
+    def told(self, node: Node) -> set[str]:
+        """The first words of all lines."""
+        return {line.split()[1] for line in node.log()}
+
+    def test_warnings(self) -> None:
+        """Nothing else has a line, nor is it counted among the lines that are missed."""
+        node = self.logging(least="warning")
+        self.assertEqual(self.told(node), {"alarm"})
+        node.operator.write("capture stop\n" * 200)
+        node.operator.read_lines(200)
+        time.sleep(2)
+        self.assertEqual(self.told(node), {"alarm"})
+
+    def test_notices(self) -> None:
+        node = self.logging(least="notice")
+        self.await_line(node, f"set to-{FAR} unavailable")
+        self.assertEqual(self.told(node), {"start", "set", "alarm"})
+
+    def test_information(self) -> None:
+        """Clients have no lines."""
+        node = self.logging(least="info")
+        self.await_line(node, f"set to-{FAR} unavailable")
+        self.assertEqual(self.told(node), {"start", "listen", "console", "set", "alarm"})
+
+    def test_all(self) -> None:
+        node = self.logging(least="debug")
+        for text in (f"set to-{FAR} unavailable", "caller "):
+            self.await_line(node, text)
+        self.assertEqual(self.told(node), {"start", "listen", "console", "caller", "set", "alarm"})
+
+
+class LogForm(FormedLog):
+    def test_json(self) -> None:
+        """Each line is an object, whatever a text has."""
+        name = 'near "1" \\ \u00e9.pcap'
+        links = links_between([free_port()], FAR, True)
+        node = self.node(NEAR, links, capture=name, log={"form": "json", "times": "utc"})
+        node.start()
+        self.await_line(node, f"alarm destination {FAR}")
+        told = [json.loads(line) for line in node.log()]
+        for line in told:
+            self.assertEqual([*line], ["time", "severity", "text"])
+            self.assertRegex(line["time"], f"^{UTC}$")
+        severities = {line["text"]: line["severity"] for line in told}
+        self.assertEqual(severities["start 1 links, tick 50 ms"], "notice")
+        self.assertEqual(severities[f"capture {name}"], "info")
+        self.assertEqual(severities["alarm link e0"], "warning")
+
+    def test_seconds(self) -> None:
+        """An object tells the seconds since the start, if no key says otherwise."""
+        node = self.logging(form="json")
+        for line in node.log():
+            self.assertRegex(json.loads(line)["time"], f"^{SECONDS}$")
+
+    def test_the_journal(self) -> None:
+        """In the journal a priority stands in front of each object."""
+        node = self.node(NEAR, links_between([free_port()], FAR, True), log={"form": "json", "least": "warning"})
+        with open(node.folder / "journal", "wb") as log:
+            there = os.fstat(log.fileno())
+            node.start(stdout=log, env={**os.environ, "JOURNAL_STREAM": f"{there.st_dev}:{there.st_ino}"})
+        journal = node.folder / "journal"
+        wait_until(lambda: f"alarm destination {FAR}" in journal.read_text(), "an alarm")
+        for line in journal.read_text().splitlines():
+            self.assertEqual(line[:4], "<4>{")
+            self.assertEqual(json.loads(line[3:])["severity"], "warning")

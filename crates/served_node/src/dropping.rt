@@ -1,23 +1,20 @@
 //! A log that holds nobody up: lines for which there is no room are dropped, and counted.
 
 use crate::journal::is_journal;
-use crate::line_kind::{kind_of, time_of, without_time};
+use crate::line_kind::{kind_of, text_of, time_of};
 use crate::line_limits::LineLimits;
 use crate::log_output::{LogOutput, SlowTerminal};
 use crate::socket::Progress;
 use arrayvec::ArrayString;
 use script::{Sink, WriteFailed};
 use served_link::times::millis;
-use served_link::{Severity, seconds_text};
+use served_link::{LineForm, seconds_text};
 use std::alloc::AllocError;
 use std::fmt::Write;
 use std::time::Duration;
 
 /// Octets of lines that wait to be written, at most.
 const WAITING_OCTETS: usize = 65_536;
-
-/// Octets of the priority of a line.
-const PRIORITY_OCTETS: usize = 3;
 
 /// Writes in which the last lines go out, at most.
 const LAST_WRITES: usize = 32;
@@ -49,14 +46,15 @@ impl From<SlowTerminal> for LogFault {
     }
 }
 
-/// A log over standard output. Its lines wait until the next flush, which makes one write of them. A line is dropped if
-/// too many wait, since the reader is slow, if the second has had enough lines of its kind, or if its write fails. How
-/// many were missed is told as the next second begins, or before the next line that is taken.
+/// A log over standard output. It takes lines with the seconds since the start, and writes those that are severe enough
+/// in its form. They wait until the next flush, which makes one write of them. A line is dropped if too many wait, since
+/// the reader is slow, if the second has had enough lines of its kind, or if its write fails. How many were missed is
+/// told as the next second begins, or before the next line that is taken.
 pub struct DroppingLog<'a, W> {
     output: LogOutput<'a, W>,
     waiting: Vec<u8>,
-    /// Whether lines begin with their priority.
-    has_priority: bool,
+    /// How its lines are written.
+    pub form: LineForm,
     limits: LineLimits,
     second: u64,
     missed: u64,
@@ -68,7 +66,7 @@ impl<W> Drop for DroppingLog<'_, W> {
         let DroppingLog {
             output: _,
             waiting: _,
-            has_priority: _,
+            form: _,
             limits: _,
             second: _,
             missed: _,
@@ -77,15 +75,22 @@ impl<W> Drop for DroppingLog<'_, W> {
 }
 
 impl<'a, W: Sink> DroppingLog<'a, W> {
-    /// The log over standard output, to which this sink writes. Nothing waits yet, and nothing was dropped. If systemd
-    /// says that standard output leads to its journal, lines begin with their priority.
-    pub fn open(rt: &HostRuntime, sink: &'a mut W) -> Result<DroppingLog<'a, W>, LogFault> {
+    /// The log over standard output, to which this sink writes lines of this form. Nothing waits yet, and nothing was
+    /// dropped. If systemd says that standard output leads to its journal, lines begin with their priority.
+    pub fn open(
+        rt: &HostRuntime,
+        sink: &'a mut W,
+        form: LineForm,
+    ) -> Result<DroppingLog<'a, W>, LogFault> {
         let waiting = Vec::with_capacity(rt.alloc(), WAITING_OCTETS)?;
         let output = LogOutput::of(rt, sink)?;
         Ok(DroppingLog {
             output,
             waiting,
-            has_priority: is_journal(rt),
+            form: LineForm {
+                has_priority: is_journal(rt),
+                ..form
+            },
             limits: LineLimits::new(),
             second: 0,
             missed: 0,
@@ -134,13 +139,9 @@ impl<'a, W: Sink> DroppingLog<'a, W> {
 
     /// A line waits from now on. False if there is no room for it.
     fn hold(&mut self, line: &[u8]) -> bool {
-        let octets = self.waiting.len().saturating_add(line.len());
-        if octets.saturating_add(PRIORITY_OCTETS) > WAITING_OCTETS {
-            return false;
-        }
-        let priority = Severity::of(without_time(line)).priority();
-        (!self.has_priority || self.waiting.extend_from_slice(&priority).is_ok())
-            && self.waiting.extend_from_slice(line).is_ok()
+        let formed = self.form.line(time_of(line), text_of(line));
+        let octets = self.waiting.len().saturating_add(formed.len());
+        octets <= WAITING_OCTETS && self.waiting.extend_from_slice(formed.as_slice()).is_ok()
     }
 
     /// Tells how many lines were missed by this time, if some were. False if there is no room.
@@ -166,6 +167,9 @@ impl<W: Sink> Sink for DroppingLog<'_, W> {
     ghost output = { λ _. record { written = None; failures = 0 } };
 
     fn write(&mut self, octets: &[u8]) -> Result<(), WriteFailed> {
+        if !self.form.writes(text_of(octets)) {
+            return Ok(());
+        }
         let is_told = self.limits.admits(kind_of(octets))
             && self.tell_missed(str::from_utf8(time_of(octets)).unwrap_or(""))
             && self.hold(octets);

@@ -25,8 +25,14 @@ pub(crate) fn time_of(line: &[u8]) -> &[u8] {
     words(line, 1)
 }
 
+/// What is behind the time, without the line feed.
+pub(crate) fn text_of(line: &[u8]) -> &[u8] {
+    let text = without_time(line);
+    text.strip_suffix(b"\n".as_slice()).unwrap_or(text)
+}
+
 /// What is behind the time.
-pub(crate) fn without_time(line: &[u8]) -> &[u8] {
+fn without_time(line: &[u8]) -> &[u8] {
     let time = time_of(line).len();
     line.get(time.saturating_add(1)..).unwrap_or(&[])
 }

@@ -6,12 +6,12 @@ use crate::failure::ServeFailure;
 use crate::server::{Places, Server};
 use script::Sink;
 use served_link::times::millis;
-use served_link::{MOST_TICKS, TickClock, Unwatched};
+use served_link::{LineForm, MOST_TICKS, Severity, TickClock, Unwatched};
 use served_node::{CaptureFault, CapturePlace, DroppingLog, FileCapture, Log};
 use settings::Settings;
-use settings_file::serve::ServeSettings;
-use std::fmt;
+use settings_file::serve::{LogLeast, LogSettings, ServeSettings};
 use std::time::{Duration, Instant, SystemTime};
+use std::{fmt, io};
 use trace::{Capture, UntilFailure};
 
 /// Serves a node with these settings, which are those of this file, until a client stops it. The log writes to standard
@@ -23,7 +23,14 @@ pub fn serve<W: Sink>(
     file: &str,
     log: &mut W,
 ) -> Result<(), ServeFailure> {
-    match DroppingLog::open(rt, log) {
+    let form = match line_form(rt, serve.log()) {
+        Ok(form) => form,
+        Err(failure) => {
+            drop(settings);
+            return Err(failure);
+        }
+    };
+    match DroppingLog::open(rt, log, form) {
         Ok(mut log) => {
             let served = serve_logged(rt, settings, serve, file, &mut log);
             log.finish();
@@ -34,6 +41,37 @@ pub fn serve<W: Sink>(
             Err(ServeFailure::Log(fault))
         }
     }
+}
+
+/// How the lines of a log with these settings are written, at a node that starts now.
+fn line_form(rt: &HostRuntime, log: LogSettings) -> Result<LineForm, ServeFailure> {
+    let start_ms = if log.is_utc {
+        Some(millis(since_1970(rt)?))
+    } else {
+        None
+    };
+    Ok(LineForm {
+        has_priority: false,
+        is_json: log.is_json,
+        least: severity_of(log.least),
+        start_ms,
+    })
+}
+
+/// The least severity that the settings ask for.
+fn severity_of(least: LogLeast) -> Severity {
+    match least {
+        LogLeast::Warning => Severity::Warning,
+        LogLeast::Notice => Severity::Notice,
+        LogLeast::Info => Severity::Info,
+        LogLeast::Debug => Severity::Debug,
+    }
+}
+
+/// How long ago the year 1970 began, by the system's clock.
+fn since_1970(rt: &HostRuntime) -> io::Result<Duration> {
+    let since = SystemTime::now(rt)?.duration_since(SystemTime::UNIX_EPOCH);
+    Ok(since.unwrap_or(Duration::ZERO))
 }
 
 /// Serves a node with these settings of a file, with this log.
@@ -108,10 +146,7 @@ fn capture_place<'a>(serve: &'a ServeSettings, file: &'a str) -> Option<CaptureP
 
 /// A capture that goes there.
 fn capture(rt: &HostRuntime, place: CapturePlace<'_>) -> Result<FileCapture, ServeFailure> {
-    let now = SystemTime::now(rt)?;
-    let since_1970 = now
-        .duration_since(SystemTime::UNIX_EPOCH)
-        .unwrap_or(Duration::ZERO);
+    let since_1970 = since_1970(rt)?;
     let file = match place.open(rt) {
         Ok(file) => file,
         Err(fault) => return Err(ServeFailure::Capture(fault)),
@@ -143,6 +178,7 @@ fn run<W: Sink>(
         let rest = Duration::from_millis(clock.until_next(millis(before)));
         server.wait(before, rest)?;
         now = since(rt, started)?;
+        follow_clock(rt, now, log);
         server.turn(rt, now, log, &mut Unwatched);
         was_behind = tell_if_behind(&clock, was_behind, now, log);
         server.note_behind(was_behind, now, log);
@@ -159,6 +195,15 @@ fn run<W: Sink>(
         }
     }
     Ok(())
+}
+
+/// Lines that tell their time in UTC follow the system's clock, which may be set. It is `now` since the start.
+fn follow_clock<W: Sink>(rt: &HostRuntime, now: Duration, log: &mut DroppingLog<'_, W>) {
+    if log.form.start_ms.is_some()
+        && let Ok(clock) = since_1970(rt)
+    {
+        log.form.start_ms = Some(millis(clock).saturating_sub(millis(now)));
+    }
 }
 
 /// How long after the start it is.
