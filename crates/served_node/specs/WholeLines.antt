@@ -1,5 +1,5 @@
 -- What a whole line of a client does.
-use Rattle.std.specs.Prelude.{◌≡◌, ℕ, ◌⊎◌, Bool, true, false, List, ◌++◌, take, Option, Some, Result, Ok, Err}
+use Rattle.std.specs.Prelude.{◌≡◌, ℕ, ◌⊎◌, Bool, true, false, List, ◌++◌, take, Option, None, Some, Result, Ok, Err}
 use Rattle.console.specs.Malformed.{malformed_answer}
 use Rattle.console.specs.Trimming.{trimmed}
 use Rattle.exchange.specs.Calls.{Kept}

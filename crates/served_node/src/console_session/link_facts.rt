@@ -53,24 +53,32 @@ pub const LINK_FACTS: &[LinkFact] = &[
 /// A line.
 type FactLine = ArrayString<LINE_OCTETS>;
 
-/// Line `k` about a link; nothing past the last, or if there is no such link. The links are those that were last seen.
+/// What line `k` about a link is about; None past the last.
+pub(crate) fn fact_at(k: usize) -> Option<LinkFact>
+    ensures { result ≡ slice_get LINK_FACTS.now k }
+{
+    LINK_FACTS.get(k).copied()
+}
+
+/// The line of something that is known of a link; nothing if there is no such link. The links are those that were last
+/// seen.
 pub(crate) fn link_fact(
     exchange: &Exchange,
     links: &ServiceStates,
     link: LinkId,
-    k: usize,
+    fact: Option<LinkFact>,
     points: PointFormat,
 ) -> FactLine
-    ensures { result.bytes ≡ text.link_fact points links.now exchange.now link (slice_get LINK_FACTS.now k) }
+    ensures { result.bytes ≡ text.link_fact points links.now exchange.now link fact }
 {
-    let Some(fact) = LINK_FACTS.get(k) else {
+    let Some(fact) = fact else {
         return FactLine::new();
     };
     let Some(row) = exchange.settings().links().get(link.index()) else {
         return FactLine::new();
     };
     match exchange.link(link) {
-        Some(view) => fact_line(exchange, links, link, row, view, *fact, points),
+        Some(view) => fact_line(exchange, links, link, row, view, fact, points),
         None => FactLine::new(),
     }
 }

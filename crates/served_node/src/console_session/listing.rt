@@ -5,7 +5,7 @@ ghost use Rattle.std.specs.Io.KnownBytes.{Appends};
 ghost use Rattle.script.specs.Streams.{AppendsFirst, failures_after};
 ghost use Rattle.served_node.specs.Listings.{entries_text, entry_of, head_of, length_of, link_fact, listing_text};
 
-use super::link_facts::{LINK_FACTS, link_fact};
+use super::link_facts::{LINK_FACTS, fact_at, link_fact};
 use super::link_rows::{LINKS_HEAD, link_row};
 use super::route_rows::{ROUTES_HEAD, route_row};
 use super::set_rows::{SETS_HEAD, set_row};
@@ -137,7 +137,7 @@ fn fact_row(
     ensures { result.bytes ≡ link_fact points links.now exchange.now link (slice_get LINK_FACTS.now k) }
 {
     let mut row = Row::new();
-    row.push_str(link_fact(exchange, links, link, k, points).as_str());
+    row.push_str(link_fact(exchange, links, link, fact_at(k), points).as_str());
     row
 }
 

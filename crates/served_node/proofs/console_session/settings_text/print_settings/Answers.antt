@@ -24,6 +24,6 @@ returns-in_err-print_part-clause-first g c =
     let w0 = (g.W.Sink.output c.args.writer.now).written in
     let w1 = (g.W.Sink.output c.loop-k.writer).written in
     let w2 = (g.W.Sink.output c.print_part.new.writer).written in
-    let within : c.loop-k.k < length SETTINGS_PARTS.now = omega (arith, c.loop-k-test.true, c.len-k-end.ensures) in
+    let within : c.loop-k.k < length SETTINGS_PARTS.now = c.loop-k-test.true in
     on-error _ c.from_residual.result
     (texts-broken text c.loop-k.k (length SETTINGS_PARTS.now) w0 w1 w2 within c.loop-k.invariant.written c.in_err-print_part.ensures.first)
