@@ -10,7 +10,8 @@ ghost use Rattle.served_node.specs.Clients.{just_came, sees_of, told_of, untold,
 ghost use Rattle.served_node.specs.Clients.{line_feed, without_return, EndsNoLine, IsOneLine};
 ghost use Rattle.served_node.specs.WholeLines.{DoesLine, DoesLineAt, IsAnsweredBy, IsRefusedBy};
 ghost use Rattle.served_node.specs.WholeLines.{IsLinkShown, IsShown, ending_by, ending_of, output_of, shown};
-ghost use Rattle.served_node.specs.Listings.{listing_text};
+ghost use Rattle.served_node.specs.Alarmed.{alarms_text};
+ghost use Rattle.served_node.specs.Listings.{listing_text, settings_text};
 ghost use Rattle.settings.specs.Readings.{link_place};
 ghost use Rattle.served_node.specs.declared.console_session.outbox.TheConstants.{OUTBOX_OCTETS};
 
@@ -232,19 +233,10 @@ impl ConsoleClient {
                 print_captured(context.exchange, context.captured, &mut self.outbox)?;
             }
             Ok(ConsoleLine::Version) => self.answer(VERSION)?,
-            Ok(ConsoleLine::Alarms) => {
-                print_alarms(
-                    context.exchange,
-                    context.alarms,
-                    context.points,
-                    &mut self.outbox,
-                )?;
-            }
+            Ok(ConsoleLine::Alarms) => self.show_alarms(context)?,
             Ok(ConsoleLine::Listing(listing)) => self.list(listing, context)?,
             Ok(ConsoleLine::Link(name)) => self.show_link(name, context)?,
-            Ok(ConsoleLine::Settings) => {
-                print_settings(context.exchange, context.points, &mut self.outbox)?;
-            }
+            Ok(ConsoleLine::Settings) => self.show_settings(context)?,
             Ok(ConsoleLine::Title(name)) => {
                 let answer = title_answer(context.exchange, &name, context.points);
                 self.answer(answer.as_bytes())?;
@@ -327,6 +319,27 @@ impl ConsoleClient {
             context.tick_ms,
             &mut self.outbox,
         )
+    }
+
+    /// Shows the alarms that are raised.
+    fn show_alarms(&mut self, context: &ConsoleContext<'_>) -> Result<(), WriteFailed>
+        ensures { IsShown (alarms_text context.now.points context.now.exchange.now.settings context.now.alarms.now)
+            (ending_by result) self.old self.new }
+    {
+        print_alarms(
+            context.exchange,
+            context.alarms,
+            context.points,
+            &mut self.outbox,
+        )
+    }
+
+    /// Shows the settings as they are now.
+    fn show_settings(&mut self, context: &ConsoleContext<'_>) -> Result<(), WriteFailed>
+        ensures { IsShown (settings_text context.now.points context.now.exchange.now) (ending_by result)
+            self.old self.new }
+    {
+        print_settings(context.exchange, context.points, &mut self.outbox)
     }
 
     /// Shows what is known of the link of this name. If there is none, says so, and which name is nearest.
