@@ -84,7 +84,7 @@ subsystem (Some ssn) = number-element ssn
 subsystem None = nothing-none
 
 -- each of some timers
-EachTimer : List KeyedTimer → Type 0
+abbrev EachTimer : List KeyedTimer → Type 0
 EachTimer [] = Unit {0}
 EachTimer (timer ∷ timers) = AllNone (text.given_row timer.key timer.ticks) × EachTimer timers
 
