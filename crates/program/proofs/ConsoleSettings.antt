@@ -1,5 +1,5 @@
 -- The settings that a console shows answer none.
-use Rattle.std.proofs.Common.{◌≡◌, ℕ, zero, suc, List, [], ◌∷◌, ◌++◌, Bool, true, false, Option, None, Some, refl, length, slice_get, map}
+use Rattle.std.proofs.Common.{ℕ, zero, suc, List, [], ◌∷◌, ◌++◌, Bool, true, false, Option, None, Some, refl, length, slice_get, map}
 use Rattle.std.specs.Prelude.{codes, decimal, nat_eq}
 use Rattle.std.specs.List.{list_any}
 use Rattle.std.specs.Option.{option_map}
@@ -13,7 +13,7 @@ use Rattle.exchange.specs.Calls.{Kept}
 use Rattle.console.specs.Names.{set_name_in}
 use Rattle.console.specs.SettingsTexts as text
 use Rattle.console.specs.Texts.{digit_octet}
-use Rattle.console.specs.TimerKeys.{KeyedTimer, keyed, keyed_timers}
+use Rattle.console.specs.TimerKeys.{KeyedTimer, keyed_timers}
 use Rattle.console.specs.declared.settings_part.SettingsPart.{SettingsPart}
 use Rattle.console.specs.declared.settings_part.SettingsPart.TheVariants as part
 use Rattle.console.specs.declared.settings_part.TheConstants.{SETTINGS_PARTS, USER_INDICATORS}

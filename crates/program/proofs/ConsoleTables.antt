@@ -1,5 +1,5 @@
 -- The tables that a console shows, and the facts about a link, answer none: each line of a table begins with a blank.
-use Rattle.std.proofs.Common.{◌≡◌, ℕ, List, [], ◌∷◌, ◌++◌, ◌*◌, Bool, true, false, Option, None, Some, refl, length, slice_get}
+use Rattle.std.proofs.Common.{ℕ, List, [], ◌∷◌, ◌++◌, ◌*◌, Bool, true, false, Option, None, Some, refl, length, slice_get}
 use Rattle.std.specs.Prelude.{codes, decimal, slice_index_or}
 use Rattle.settings.specs.Points.{point_text}
 use Rattle.settings.specs.Configuration.{Configuration, DestinationEntry, LinkEntry, SetEntry}
