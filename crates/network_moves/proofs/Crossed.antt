@@ -1,7 +1,7 @@
 -- The runs of the mated pair are some.
-use Rattle.network_moves.proofs.Basics.{◌≡◌, ◌||◌, ◌++◌, Bool, true, false, not, refl, arith}
+use Rattle.network_moves.proofs.Basics.{◌≡◌, ◌||◌, ◌++◌, ℕ, zero, suc, Bool, true, false, not, nat_eq, refl, arith, nat_tests}
 use Rattle.network_moves.proofs.Definitions.{first_network}
-use Rattle.network_moves.specs.Crossing.{joining, failing, ordering, answering, changing_over, moving, run, end_of, Crosses}
+use Rattle.network_moves.specs.Crossing.{is_mate, joining, failing, ordering, answering, changing_over, moving, run, end_of, Crosses}
 use Rattle.network_moves.specs.LateAnswer.{giving_up, opening_again, late_run, EndsTheBar}
 use Rattle.network_moves.specs.Beside.{breaking, between, mates_run, MatesDecide}
 use Rattle.network_moves.proofs.Running.{AllCan, all-done, can-append, idle-opens}
@@ -96,9 +96,13 @@ within-so true b e f = refl
 within-so false true e f = e
 within-so false false e f = f
 
+mate-inside : (point : ℕ) → is_mate point ≡ true → nat_eq point 0 ≡ false
+mate-inside zero e = absurd cc
+mate-inside (suc point) e = grind (arith, nat_tests)
+
 pub mates-decide : MatesDecide
 mates-decide = record {
-  apart = record { stays = λ place m inside leads of. within-so _ _ leads of };
+  apart = record { inside = mate-inside; stays = λ place m inside leads of. within-so _ _ leads of };
   moves = all-done first_network mates_run (can-append first_network (joining ++ breaking) between (can-append first_network joining breaking joining-can apart-can) between-can);
   broken = refl;
   whole = (refl, refl);

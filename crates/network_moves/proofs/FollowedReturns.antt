@@ -2,8 +2,9 @@
 use Rattle.network_moves.proofs.Basics.{◌≡◌, ◌≢◌, ℕ, Bool, true, false, not, ◌&&◌, ◌||◌, ◌≤◌, ◌^◌, [], ◌∷◌, ◌++◌, count_by, nat_eq, nat_lt, drop, refl, ap, sym, ◌∙◌, subst, arith, if◌then◌else◌, ⊎_elim, cases_eq}
 use Rattle.network_moves.proofs.Definitions.{Message, Near, Far, Saying, UserMessage, Order, Answer, Other, one_if, LinkEnd, Line, Node, Network, Shape, Place, line_at, point_at, node_at, Gone, MayOpen, with_wait, with_completion, opened_first, opened_second, with_service, closed_line, OpensFirst, OpensSecond, Enters, Breaks, ReleasesBar, HearsUnreasonableOrder, HearsUnreasonableAnswer}
 use Rattle.network_moves.specs.Returning.{GivesUpFollowing, Strays, StartsAgain, restarted, strayed, unled}
-use Rattle.network_moves.specs.Groups.{says_of_group}
-use Rattle.network_moves.specs.Sayings.{is_elsewhere, saying}
+use Rattle.network_moves.specs.Groups.{KeepsToItself, says_of_group}
+use Rattle.network_moves.specs.Networks.{leads_out, spoofs}
+use Rattle.network_moves.specs.Sayings.{saying}
 use Rattle.network_moves.specs.Moves as moves
 use Rattle.std.proofs.lemmas.Bool.{eqb-true}
 use Rattle.network_moves.proofs.Counts.{count-cons, count-append}
@@ -84,10 +85,6 @@ module _ (shape : Shape) (read : Message → Saying) (group : ℕ → Bool) (for
       by true e = breaks apart (point_at shape place) e after.broken
       by false e = goes apart [] tt (mask-outside shape read group for_group p q k place z after.lines after.others h (not-within shape read group for_group place e) (λ f. both f e))
 
-  at-most : (b : Bool) → one_if b ≤ 1
-  at-most true = omega arith
-  at-most false = omega arith
-
   abbrev gone : Message → Bool
   gone = stays shape read group for_group false
 
@@ -143,23 +140,33 @@ module _ (shape : Shape) (read : Message → Saying) (group : ℕ → Bool) (for
 
   -- ---- a node does as it likes on a link
 
-  -- a word about a link that isn't within is none about one within
-  said-elsewhere : (link : ℕ) → within shape read group for_group link ≡ false → (for_it : Bool) (s : Saying) → one_if (says_of_group shape read group for_group (false && for_it) s) ≤ one_if (is_elsewhere link s)
-  said-elsewhere link out for_it UserMessage = omega arith
-  said-elsewhere link out for_it (Order about maker number) = about-by link out about (not (nat_lt number (2 ^ 24))) (nat_eq about link) refl
-    where
-      about-by : (link : ℕ) → within shape read group for_group link ≡ false → (about : ℕ) (odd b : Bool) → nat_eq about link ≡ b → one_if (within shape read group for_group about) ≤ one_if (not b || odd)
-      about-by link out about odd true e = omega (arith, ap one_if (ap (within shape read group for_group) (eqb-true about link e) ∙ out))
-      about-by link out about odd false e = at-most (within shape read group for_group about)
-  said-elsewhere link out for_it (Answer about maker number) = about-by link out about (not (nat_lt number (2 ^ 24))) (nat_eq about link) refl
-    where
-      about-by : (link : ℕ) → within shape read group for_group link ≡ false → (about : ℕ) (odd b : Bool) → nat_eq about link ≡ b → one_if (within shape read group for_group about) ≤ one_if (not b || odd)
-      about-by link out about odd true e = omega (arith, ap one_if (ap (within shape read group for_group) (eqb-true about link e) ∙ out))
-      about-by link out about odd false e = at-most (within shape read group for_group about)
-  said-elsewhere link out for_it Other = omega arith
+  -- no end of a link within is outside
+  none-out : KeepsToItself shape read group for_group → (link : ℕ) → within shape read group for_group link ≡ true → leads_out shape link ≡ false
+  none-out c link e =
+      ap (λ (b : Bool). b || shape.outside (shape.point link Far)) (c.inside (shape.point link Near) (within-side shape read group for_group link Near e))
+      ∙ c.inside (shape.point link Far) (within-side shape read group for_group link Far e)
 
-  pub follows-strays : Strays shape read p q → Follows shape read group for_group q k
-  follows-strays m =
+  speaks-by : (same out odd : Bool) → (same ≡ true → ⊥) → out ≡ false → one_if true ≤ one_if ((not same && not out) || odd)
+  speaks-by true out odd d e = absurd (d refl)
+  speaks-by false true odd d e = absurd cc
+  speaks-by false false odd d e = omega arith
+
+  about-by : KeepsToItself shape read group for_group → (link : ℕ) → within shape read group for_group link ≡ false → (about : ℕ) (odd b : Bool) → within shape read group for_group about ≡ b
+      → one_if b ≤ one_if ((not (nat_eq about link) && not (leads_out shape about)) || odd)
+  about-by c link out about odd true e =
+      speaks-by (nat_eq about link) (leads_out shape about) odd (λ same. both e (ap (within shape read group for_group) (eqb-true about link same) ∙ out)) (none-out c about e)
+  about-by c link out about odd false e = omega arith
+
+  -- so a word about one speaks for others
+  said-within : KeepsToItself shape read group for_group → (link : ℕ) → within shape read group for_group link ≡ false → (for_it : Bool) (s : Saying)
+      → one_if (says_of_group shape read group for_group (false && for_it) s) ≤ one_if (spoofs shape link s)
+  said-within c link out for_it UserMessage = omega arith
+  said-within c link out for_it (Order about maker number) = about-by c link out about (not (nat_lt number (2 ^ 24))) (within shape read group for_group about) refl
+  said-within c link out for_it (Answer about maker number) = about-by c link out about (not (nat_lt number (2 ^ 24))) (within shape read group for_group about) refl
+  said-within c link out for_it Other = omega arith
+
+  pub follows-strays : KeepsToItself shape read group for_group → Strays shape read p q → Follows shape read group for_group q k
+  follows-strays c m =
       breaking m.place _ _ m.after
       (apart-line shape read group for_group p q m.place (strayed (line_at p m.place) (m.left ++ m.new) m.told_far m.follows) _ m.after.lines m.after.here m.after.others
       (λ out l. record {
@@ -172,7 +179,7 @@ module _ (shape : Shape) (read : Message → Saying) (group : ℕ → Bool) (for
               l.to_far,
               m.fewer gone,
               frames-append gone m.left m.new,
-              frames-fewer gone (saying read (is_elsewhere m.place.link)) (λ x. said-elsewhere m.place.link out (for_group x) (read x)) m.new,
+              frames-fewer gone (saying read (spoofs shape m.place.link)) (λ x. said-within c m.place.link out (for_group x) (read x)) m.new,
             );
         to_near = refl;
       })

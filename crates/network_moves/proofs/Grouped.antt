@@ -51,7 +51,7 @@ module _ (shape : Shape) (read : Message → Saying) (group : ℕ → Bool) (for
   follows c p q k a h (moves.gives_up_following m) = follows-gives_up_following shape read group for_group p q k a h m
   follows c p q k a h (moves.hears_unreasonable_order m) = follows-unreasonable_order shape read group for_group p q k a h m
   follows c p q k a h (moves.hears_unreasonable_answer m) = follows-unreasonable_answer shape read group for_group p q k a h m
-  follows c p q k a h (moves.strays m) = follows-strays shape read group for_group p q k a h m
+  follows c p q k a h (moves.strays m) = follows-strays shape read group for_group p q k a h c m
   follows c p q k a h (moves.starts_again m) = follows-starts_again shape read group for_group p q k a h m
 
   -- ---- what concerns the group stays in it, whichever nodes are broken

@@ -1,11 +1,11 @@
 -- What holds whatever was broken, and however often nodes start again: the ends of links are sound, and no word has a number that
 -- no end has.
-use Rattle.network_moves.proofs.Basics.{◌≡◌, ◌≢◌, ℕ, Bool, true, false, not, ◌+◌, ◌≤◌, ◌<◌, ◌^◌, ◌||◌, List, [], ◌∷◌, ◌++◌, count_by, drop, nat_eq, nat_lt, refl, ap, sym, ◌∙◌, subst, arith, nat_tests, ⊎_elim, cases_eq, Some, Ok}
+use Rattle.network_moves.proofs.Basics.{◌≡◌, ◌≢◌, ℕ, Bool, true, false, not, ◌+◌, ◌≤◌, ◌<◌, ◌^◌, ◌&&◌, ◌||◌, List, [], ◌∷◌, ◌++◌, count_by, drop, nat_eq, nat_lt, refl, ap, sym, ◌∙◌, subst, arith, nat_tests, ⊎_elim, cases_eq, Some, Ok}
 use Rattle.network_moves.proofs.Definitions.{Message, WINDOW, Queue, IsQueue, Sending, last_accepted, last_sent, accept_answer, to_send, sound-appended, sound-first, sound-emptied, Side, Near, Far, Saying, UserMessage, Order, Answer, Other, is_user_message, saying, Frame, EmptyFrame, MessageFrame, Phase, Live, Moved, Gone, LinkEnd, Line, Node, Network, Shape, seen, Place, line_at, point_at, node_at, one_if, NodeBecomes, LinesBecome, Becomes, IsTakenFrom, IsEnd, closed_end, first_network, after_answer, appended, emptied, with_failure, with_sent, with_completion, opened_first, Breaks, Move, Moves, last_of}
 use Rattle.network_moves.specs.Moves as moves
-use Rattle.network_moves.specs.Lasting.{is_odd, odd, ends_last}
+use Rattle.network_moves.specs.Lasting.{is_odd, odd, ends_stay_sound}
 use Rattle.network_moves.specs.Returning.{StartsAgain, restarted, shut_end}
-use Rattle.network_moves.specs.Sayings.{is_elsewhere}
+use Rattle.network_moves.specs.Networks.{leads_out, spoofs}
 use Rattle.network_moves.proofs.Counts.{count-cons, count-append, count-one}
 use Rattle.network_moves.proofs.Lines.{both, true_is_false, false_is_true, busy, is-next, queue-sent}
 use Rattle.network_moves.proofs.LinesTaken.{queue-accepted, end-came}
@@ -134,12 +134,12 @@ seen-twice : (side : Side) (z : Line) → seen side (seen side z) ≡ z
 seen-twice Near z = refl
 seen-twice Far z = refl
 
--- a word that isn't elsewhere has a number of 24 bits
-odd-elsewhere : (link : ℕ) (s : Saying) → one_if (is_odd s) ≤ one_if (is_elsewhere link s)
-odd-elsewhere link UserMessage = omega arith
-odd-elsewhere link (Order about maker number) = or-more (not (nat_eq about link)) (not (nat_lt number (2 ^ 24)))
-odd-elsewhere link (Answer about maker number) = or-more (not (nat_eq about link)) (not (nat_lt number (2 ^ 24)))
-odd-elsewhere link Other = omega arith
+-- a word that doesn't speak for others has a number of 24 bits
+odd-speaks : (shape : Shape) (link : ℕ) (s : Saying) → one_if (is_odd s) ≤ one_if (spoofs shape link s)
+odd-speaks shape link UserMessage = omega arith
+odd-speaks shape link (Order about maker number) = or-more (not (nat_eq about link) && not (leads_out shape about)) (not (nat_lt number (2 ^ 24)))
+odd-speaks shape link (Answer about maker number) = or-more (not (nat_eq about link) && not (leads_out shape about)) (not (nat_lt number (2 ^ 24)))
+odd-speaks shape link Other = omega arith
 
 moved-over : Moved ≡ Live → ⊥
 moved-over e = absurd cc
@@ -450,7 +450,7 @@ module _ (shape : Shape) (read : Message → Saying) where
                 l.to_far,
                 m.fewer (odd read),
                 frames-append (odd read) m.left m.new,
-                frames-fewer (odd read) (saying read (is_elsewhere m.place.link)) (λ x. odd-elsewhere m.place.link (read x)) m.new,
+                frames-fewer (odd read) (saying read (spoofs shape m.place.link)) (λ x. odd-speaks shape m.place.link (read x)) m.new,
               );
           to_near = refl;
         })
@@ -470,7 +470,7 @@ module _ (shape : Shape) (read : Message → Saying) where
     lines = λ link. record { near = first-end; far = first-end; near_plain = refl; far_plain = refl; to_far = refl; to_near = refl };
   }
 
-pub ends-last : ends_last
+pub ends-last : ends_stay_sound
 ends-last shape read networks ms =
     let h : Lasts shape read (last_of first_network networks) = lasts-after shape read first_network networks ms (lasts-first shape read) in
     record {

@@ -84,13 +84,14 @@ is_mate point = nat_eq point 1 || nat_eq point 2
 abbrev pub is_for_mate : Message → Bool
 is_for_mate m = nat_eq (slice_index m.sif 0) 2
 
--- any message may go by any link
+-- any message may go by any link; and point 0 is outside
 abbrev pub mated_freely : Shape
 mated_freely = record {
   nodes = 3;
   links = 4;
   point = mated_point;
   leads = λ link side message. true;
+  outside = λ point. nat_eq point 0;
 }
 
 -- but what concerns the mates goes between them by the cross link alone

@@ -1,6 +1,6 @@
 -- Of a group of nodes that keeps to itself: what became of the messages for it is told by the books of its own nodes,
 -- whatever else the others do.
-use Rattle.std.specs.Prelude.{◌≡◌, ◌+◌, ◌≤◌, ◌&&◌, ℕ, Bool, true, false, List, [], ◌∷◌, count_by, nat_eq, if◌then◌else◌}
+use Rattle.std.specs.Prelude.{◌≡◌, ◌+◌, ◌≤◌, ◌&&◌, ℕ, Bool, true, false, List, [], count_by, nat_eq, if◌then◌else◌}
 use Rattle.signalling_types.specs.Message.{Message}
 use Rattle.network_moves.specs.Sayings.{Near, Far, Saying, UserMessage, Order, Answer, Other, user}
 use Rattle.network_moves.specs.Networks.{Line, Node, Network, Shape, Place, point_at}
@@ -23,8 +23,9 @@ module _ (shape : Shape) (read : Message → Saying) (group : ℕ → Bool) (for
   abbrev pub concerns : Message → Bool
   concerns m = says_of_group (for_group m) (read m)
 
-  -- the group keeps to itself: its nodes put what concerns it on no link but those within
+  -- the group keeps to itself: its nodes put what concerns it on no link but those within, and none of them is outside
   pub record KeepsToItself : Type 0 where
+    pub inside : (point : ℕ) → group point ≡ true → shape.outside point ≡ false
     pub stays : (place : Place) (m : Message) → group (point_at shape place) ≡ true →
         shape.leads place.link place.side m ≡ true → concerns m ≡ true → is_within place.link ≡ true
 

@@ -25,7 +25,7 @@ module _ (read : Message → Saying) where
     pub queues : (place : Place) → count_by odd (line_at p place).near.queue.all ≡ 0
 
 -- so it is after every list of moves from the first network on, whichever nodes are broken
-abbrev pub ends_last : Type 0
-ends_last =
+abbrev pub ends_stay_sound : Type 0
+ends_stay_sound =
     (shape : Shape) (read : Message → Saying) (networks : List Network) → Moves shape read first_network networks →
     IsLasting read (last_of first_network networks)

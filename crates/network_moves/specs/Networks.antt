@@ -1,9 +1,9 @@
 -- Nodes, the links between them, and what is on its way.
-use Rattle.std.specs.Prelude.{◌≡◌, ◌≢◌, ℕ, zero, suc, Bool, ◌<◌, ◌+◌, List, [], ◌∷◌, drop, take, count_by}
-use Rattle.std.specs.Prelude.{cond}
+use Rattle.std.specs.Prelude.{◌≡◌, ◌≢◌, ◌<◌, ◌+◌, ◌^◌, ◌&&◌, ◌||◌, ℕ, zero, suc, Bool, false, not, nat_eq, nat_lt, List}
+use Rattle.std.specs.Prelude.{[], ◌∷◌, drop, take, count_by, cond}
 use Rattle.signalling_types.specs.Message.{Message}
 use Rattle.link.specs.Queue.{Queue}
-use Rattle.network_moves.specs.Sayings.{Side, Near, Far}
+use Rattle.network_moves.specs.Sayings.{Side, Near, Far, Saying, UserMessage, Order, Answer, Other}
 
 -- User Data in flight: without a message, or with one (RFC 4165 §2)
 pub data Frame : Type 0 where
@@ -70,13 +70,14 @@ pub record Network : Type 0 where
   -- the nodes after which only laws that say so promise anything
   pub broken : ℕ → Bool
 
--- which nodes and links there are, each by its number; at which nodes the ends of a link are; and which messages the
--- node there may put on an end
+-- which nodes and links there are, each by its number; at which nodes the ends of a link are; which messages the node
+-- there may put on an end; and which nodes are outside
 pub record Shape : Type 0 where
   pub nodes : ℕ
   pub links : ℕ
   pub point : ℕ → Side → ℕ
   pub leads : ℕ → Side → Message → Bool
+  pub outside : ℕ → Bool
 
 -- ---- a link seen from either end
 
@@ -114,6 +115,22 @@ point_at shape place = shape.point place.link place.side
 
 abbrev pub node_at : Shape → Network → Place → Node
 node_at shape p place = p.node (point_at shape place)
+
+-- ---- what nobody says who does as they like
+
+-- an end of a link is outside
+abbrev pub leads_out : Shape → (link : ℕ) → Bool
+leads_out shape link = shape.outside (shape.point link Near) || shape.outside (shape.point link Far)
+
+-- a word that comes by this link is about another one, of which no end is outside; or it has a number that no message
+-- has: these have 24 bits. (A word about a link that leads out may come by any, Q.704 §5.4)
+abbrev pub spoofs : Shape → (link : ℕ) → Saying → Bool
+spoofs shape link UserMessage = false
+spoofs shape link (Order about maker number) =
+    (not (nat_eq about link) && not (leads_out shape about)) || not (nat_lt number (2 ^ 24))
+spoofs shape link (Answer about maker number) =
+    (not (nat_eq about link) && not (leads_out shape about)) || not (nat_lt number (2 ^ 24))
+spoofs shape link Other = false
 
 -- ---- what the near end's messages are
 

@@ -2,10 +2,10 @@
 use Rattle.std.specs.Prelude.{◌≡◌, ◌≢◌, ◌≤◌, ℕ, Bool, true, false, ◌<◌, [], ◌++◌, ◌∷◌, List, drop, None}
 use Rattle.signalling_types.specs.Message.{Message}
 use Rattle.link.specs.Queue.{Queue, first_queue, emptied, named_count}
-use Rattle.network_moves.specs.Sayings.{Near, Far, Saying, Order, Answer, opposite, is_elsewhere, saying}
+use Rattle.network_moves.specs.Sayings.{Near, Far, Saying, Order, Answer, opposite, saying}
 use Rattle.network_moves.specs.Networks.{Frame, Live, Gone, LinkEnd, Line, Node, Network, Shape, Place, turned}
 use Rattle.network_moves.specs.Networks.{line_at, node_at, point_at, given_up, frames_by, LinesBecome, Becomes}
-use Rattle.network_moves.specs.Networks.{IsTakenFrom}
+use Rattle.network_moves.specs.Networks.{IsTakenFrom, spoofs}
 use Rattle.network_moves.specs.Failing.{final_number, with_wait, with_completion}
 
 -- an end in a new epoch; what came from it before stays, and what was given up here has gone for good
@@ -174,15 +174,15 @@ module _ (shape : Shape) (read : Message → Saying) (p q : Network) where
         (with_completion (line_at p place) Gone false)
         (without_sent (record (node_at shape p place) { bag = rest }) (line_at p place).near.queue named)
 
-  -- a node does as it likes on a link of it, as one outside the network may: it puts anything in flight, but speaks for
-  -- nobody else, so no order or answer about another link
+  -- a node does as it likes on a link of it, as one outside may: it puts anything in flight, but spoofs nobody else who
+  -- isn't outside. So its order or answer is about that link, or about one that leads out
   pub record Strays : Type 0 where
     pub place : Place
     -- what is left in flight of what was, and what is new
     pub left : List Frame
     pub fewer : (test : Message → Bool) → frames_by test left ≤ frames_by test (line_at p place).to_far
     pub new : List Frame
-    pub own : frames_by (saying read (is_elsewhere place.link)) new ≡ 0
+    pub own : frames_by (saying read (spoofs shape place.link)) new ≡ 0
     pub told_far : ℕ
     pub follows : Bool
     pub after : Breaks shape p q place

@@ -1,5 +1,5 @@
 -- What a message says to the nodes of a network (Q.704 §5, with the numbers of Q.2210). Orders and answers are words.
-use Rattle.std.specs.Prelude.{◌^◌, ℕ, Bool, true, false, not, ◌&&◌, ◌||◌, nat_eq, nat_lt}
+use Rattle.std.specs.Prelude.{ℕ, Bool, true, false, not, ◌&&◌, ◌||◌, nat_eq}
 use Rattle.signalling_types.specs.Message.{Message}
 
 -- the two ends of a link; which is called near doesn't matter
@@ -54,13 +54,6 @@ is_untrue link side up last_accepted (Order about maker number) =
 is_untrue link side up last_accepted (Answer about maker number) =
     is_end link side about maker && (up || not (nat_eq number last_accepted))
 is_untrue link side up last_accepted Other = false
-
--- a word is about another link than this one, or has a number that no message has: these have 24 bits
-abbrev pub is_elsewhere : (link : ℕ) → Saying → Bool
-is_elsewhere link UserMessage = false
-is_elsewhere link (Order about maker number) = not (nat_eq about link) || not (nat_lt number (2 ^ 24))
-is_elsewhere link (Answer about maker number) = not (nat_eq about link) || not (nat_lt number (2 ^ 24))
-is_elsewhere link Other = false
 
 -- messages of which what they say passes a test
 abbrev pub saying : (Message → Saying) → (Saying → Bool) → Message → Bool

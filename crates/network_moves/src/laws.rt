@@ -13,7 +13,7 @@ ghost use Rattle.network_moves.specs.Theorems.{OrdersAreReasonable, AnswersAreRe
 ghost use Rattle.network_moves.specs.Theorems.{EachMessageEntersOnce, EachMessageEndsOnce, EachMessageIsAccountedFor};
 ghost use Rattle.network_moves.specs.Laws.{WordsAreAwaited, WordsAreTrue};
 ghost use Rattle.network_moves.specs.Groups.{groups_begin_anew, groups_decide_alone, nothing_leaves_the_group};
-ghost use Rattle.network_moves.specs.Lasting.{ends_last};
+ghost use Rattle.network_moves.specs.Lasting.{ends_stay_sound};
 ghost use Rattle.network_moves.specs.Quiet.{first_networks_are_quiet};
 ghost use Rattle.network_moves.specs.Crossing.{Crosses};
 ghost use Rattle.network_moves.specs.LateAnswer.{EndsTheBar};
@@ -77,7 +77,7 @@ pub fn each_message_is_accounted_for()
 /// The second half of the node law, of a group of nodes that keeps to itself, whatever else the others do. It keeps to
 /// itself if its nodes put what concerns it (user messages for it, and orders and answers about the links between its
 /// nodes) on links between its nodes alone. After every list of moves from the first network on, while no node of the
-/// group is broken, though others may be, start again, and put anything in flight that speaks for nobody else: of any
+/// group is broken, though others may be, start again, and put anything in flight that spoofs nobody of it: of any
 /// kind of user messages for the group, as many came in at each of its nodes as ended there; came from it to a node of
 /// the group by a link; wait, at the node or on such a link; or are gone. And no more are gone than its notices of loss
 /// name.
@@ -107,7 +107,7 @@ pub fn groups_begin_anew()
 /// only in service or while that goes on. And no order or answer at a node or on an end has a number of more than 24
 /// bits.
 pub fn ends_stay_sound()
-    ensures { ends_last }
+    ensures { ends_stay_sound }
 {}
 
 /// The first network is quiet, whatever its shape.

@@ -11,7 +11,9 @@ use Rattle.network_rules.specs.Networks.{NetworkNode, first_network}
 use Rattle.network_rules.specs.Outside.{after_moves}
 use Rattle.network_rules.specs.Paths.{PassesInOrder, onward_at}
 use Rattle.network_rules.proofs.Merged.{merged-count}
-use Rattle.network_rules.proofs.PassedOn.{all-moves-pass}
+use Rattle.network_rules.specs.Anew.{after_all, begun_anew}
+use Rattle.network_rules.proofs.PassedOn.{all-moves-pass, all-pass}
+use Rattle.node_law.specs.Anew.{what_comes_is_taken_or_refused_anew}
 use Rattle.node_law.specs.Ends.{what_comes_is_taken_or_refused}
 
 module _ (test : Message → Bool) where
@@ -58,3 +60,6 @@ all-taken settings moves point = record {
   once = λ test.
       taken-or-refused test ((after_moves moves (first_network settings)).node point) (all-moves-pass (first_network settings) moves point);
 }
+
+pub all-taken-anew : what_comes_is_taken_or_refused_anew
+all-taken-anew w changes point = record { once = λ test. taken-or-refused test ((after_all changes (begun_anew w)).node point) (all-pass w changes point) }

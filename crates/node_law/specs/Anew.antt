@@ -15,7 +15,7 @@ use Rattle.network_rules.specs.Networks.{NetworkState, end_of, first_network}
 use Rattle.network_rules.specs.Pairs.{pair_of}
 use Rattle.network_rules.specs.Totals.{IsPlaced, is_listed}
 use Rattle.node_law.specs.Alike.{AreLinked}
-use Rattle.node_law.specs.Ends.{EndsWhole, accepted_at, came_from, gone_at, waits_at}
+use Rattle.node_law.specs.Ends.{EndsWhole, TakesOrRefuses, accepted_at, came_from, gone_at, waits_at}
 use Rattle.node_law.specs.Hops.{AreHop, AreOfOneNetwork, ComesOverWhole, KeepsEachFlow, accepted_for, came_over}
 use Rattle.node_law.specs.Hops.{gone_for, settings_of, waits_for}
 use Rattle.node_law.specs.Sums.{AreAccountedFor, ComeToNode, ComeWhole, IsWhole, ToEach}
@@ -84,6 +84,15 @@ module _ (before w : NetworkState) where
     pub network : AreOfOneNetwork before near far
     pub lossless : AreLosslessSince near far
     pub punctual : Stays (times_late (pair_of before near far)) (times_late (pair_of w near far))
+
+-- ---- what nodes take in
+
+-- of what a node booked since then, whatever was left there, done, lost or broken, and however often nodes have started
+-- again, of any network
+abbrev pub what_comes_is_taken_or_refused_anew : Type 0
+what_comes_is_taken_or_refused_anew =
+    (w : NetworkState) (changes : List Change) (point : ℕ) →
+    TakesOrRefuses (after_all changes (begun_anew w)) point
 
 -- ---- a hop
 

@@ -10,6 +10,7 @@ ghost use Rattle.node_law.specs.Anew.{ends_begin_anew, hops_begin_anew, networks
 ghost use Rattle.node_law.specs.Anew.{nodes_lose_nothing_anew, nothing_is_lost_anew};
 ghost use Rattle.node_law.specs.Anew.{nothing_is_lost_from_end_to_end_anew, order_begins_anew};
 ghost use Rattle.node_law.specs.Anew.{quiet_networks_have_nothing_left, sums_begin_anew};
+ghost use Rattle.node_law.specs.Anew.{what_comes_is_taken_or_refused_anew};
 ghost use Rattle.node_law.specs.Ends.{each_message_ends_once, nodes_lose_nothing, what_comes_is_taken_or_refused};
 ghost use Rattle.node_law.specs.Hops.{flows_come_in_order_over_a_hop, hops_share_a_set, messages_come_over_a_hop};
 ghost use Rattle.node_law.specs.Hops.{nothing_is_lost_over_a_hop};
@@ -37,9 +38,11 @@ pub fn each_message_ends_once()
 /// What comes to a node for another point it accepts, unless it refuses it. So the node laws of neighbours are joined.
 /// Whatever was lost or broken, and of any network, also one that links leave: by any test, the user messages that a
 /// node accepted, and those for other points that came and that it refused, are together those that entered the network
-/// there, and those that came for other points.
+/// there, and those that came for other points. It is so of what is booked since the books began anew, from any state
+/// on, however often nodes start again.
 pub fn what_comes_is_taken_or_refused()
-    ensures { what_comes_is_taken_or_refused }
+    ensures always { what_comes_is_taken_or_refused }
+    ensures anew { what_comes_is_taken_or_refused_anew }
 {}
 
 /// From end to end, while no node counts a break: by any test, as many user messages entered the network as were

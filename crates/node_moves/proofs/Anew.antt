@@ -6,7 +6,7 @@ use Rattle.node_moves.proofs.Grown.{IsUnraised, same-grown}
 use Rattle.node_moves.proofs.Reading.{says_of}
 use Rattle.node_moves.proofs.Flights.{changed-here, changed-other}
 use Rattle.node_moves.proofs.Running.{first-shown}
-use Rattle.node_moves.proofs.Closed.{either-true, each-true, is_one_of, for_one_of, hop_points, are-hop, stays-between}
+use Rattle.node_moves.proofs.Closed.{either-true, each-true, is_one_of, for_one_of, hop_points, are-hop, hop-outside, stays-between}
 use Rattle.node_moves.proofs.Hops.{near-in, far-in, led, comes-by}
 use Rattle.node_moves.proofs.Everywhere.{IsKept, IsSameNode, one-step}
 use Rattle.node_moves.proofs.Changes.{SpareAll, nobody, spares-nobody, AreAt, at-after, Comes, ChangeGoes, all-changes}
@@ -77,25 +77,36 @@ none-managed c holds (m ∷ ms) e =
     by true f g = (let no : false ≡ true = sym (ap (λ (q : Bool). not q && is_flow_held c holds m) f) ∙ g in absurd cc)
 
 module _ (settings : (point : ℕ) → Configuration) (near far : ℕ) where
-  -- what comes from outside changes nothing but what is in flight
-  put-same : (c : Configuration) (link : ℕ) (text : List ℕ) (r : Result FrameValue FrameFault) (x : NetworkNode) → IsSameNode x (put_in c link text r x)
-  put-same c link text (Ok (StatusFrame bsn fsn status)) x = record { node = refl; submitted = refl; came = refl; accepted = refl; made = refl; named = refl }
-  put-same c link text (Ok (EmptyFrame bsn fsn)) x = record { node = refl; submitted = refl; came = refl; accepted = refl; made = refl; named = refl }
-  put-same c link text (Ok (MessageFrame bsn fsn sio sif)) x = by (may_come c link (record { sio = sio; sif = sif }))
-    where
-      by : (b : Bool) → IsSameNode x (if b then record x { user_data = updated x.user_data link (x.user_data link ++ text ∷ []) } else x)
-      by true = record { node = refl; submitted = refl; came = refl; accepted = refl; made = refl; named = refl }
-      by false = record { node = refl; submitted = refl; came = refl; accepted = refl; made = refl; named = refl }
-  put-same c link text (Err fault) x = record { node = refl; submitted = refl; came = refl; accepted = refl; made = refl; named = refl }
+  -- something may be done to one node
+  done-keeps : (P : Configuration → NetworkNode → Type 0) → (y : ℕ) (w : NetworkState) (point : ℕ) (b : Bool) (f : NetworkNode → NetworkNode) → (P (settings point) (w.node point) → P (settings point) (f (w.node point)))
+      → P (settings y) (w.node y) → P (settings y) ((if b then changed point f w else w).node y)
+  done-keeps P y w point false f g k = k
+  done-keeps P y w point true f g k =
+      ⊎_elim
+      (λ (is : y ≡ point).
+      subst (λ (i : ℕ). P (settings i) (w.node i) → P (settings i) ((changed point f w).node i)) (sym is) (λ j. subst (P (settings point)) (sym (changed-here point f w)) (g j)) k)
+      (λ (d : y ≢ point). subst (P (settings y)) (sym (changed-other point f w y d)) k)
+      (cases_eq y point)
 
   outside-keeps : (P : Configuration → NetworkNode → Type 0) → IsKept P → (y : ℕ) (w : NetworkState) (point : ℕ) (b : Bool) (f : NetworkNode → NetworkNode) → ((x : NetworkNode) → IsSameNode x (f x)) → P (settings y) (w.node y)
       → P (settings y) ((if b then changed point f w else w).node y)
-  outside-keeps P kept y w point false f same k = k
-  outside-keeps P kept y w point true f same k =
-      ⊎_elim
-      (λ (is : y ≡ point). subst (P (settings y)) (ap (λ (i : ℕ). f (w.node i)) is ∙ sym (changed-here point f w) ∙ ap (changed point f w).node (sym is)) (kept.flown (settings y) (w.node y) (f (w.node y)) (same (w.node y)) k))
-      (λ (d : y ≢ point). subst (P (settings y)) (sym (changed-other point f w y d)) k)
-      (cases_eq y point)
+  outside-keeps P kept y w point b f same k = done-keeps P y w point b f (λ j. kept.flown (settings point) (w.node point) (f (w.node point)) (same (w.node point)) j) k
+
+  -- what comes from outside changes what is in flight alone, or is handed in
+  put-keeps : (P : Configuration → NetworkNode → Type 0) → IsKept P → (y : ℕ) (w : NetworkState) (point link : ℕ) (b : Bool) (text : List ℕ) (r : Result FrameValue FrameFault) → P (settings y) (w.node y)
+      → P (settings y) ((if b then changed point (put_in settings point link text r) w else w).node y)
+  put-keeps P kept y w point link b text (Ok (StatusFrame bsn fsn status)) k =
+      outside-keeps P kept y w point b (put_in settings point link text (Ok (StatusFrame bsn fsn status))) (λ x. record { node = refl; submitted = refl; came = refl; accepted = refl; made = refl; named = refl }) k
+  put-keeps P kept y w point link b text (Ok (EmptyFrame bsn fsn)) k =
+      outside-keeps P kept y w point b (put_in settings point link text (Ok (EmptyFrame bsn fsn))) (λ x. record { node = refl; submitted = refl; came = refl; accepted = refl; made = refl; named = refl }) k
+  put-keeps P kept y w point link b text (Ok (MessageFrame bsn fsn sio sif)) k =
+      outside-keeps P kept y w point b (put_in settings point link text (Ok (MessageFrame bsn fsn sio sif))) (λ x. by x (may_come settings (record { sio = sio; sif = sif }))) k
+    where
+      by : (x : NetworkNode) (b : Bool) → IsSameNode x (if b then record x { user_data = updated x.user_data link (x.user_data link ++ text ∷ []) } else x)
+      by x true = record { node = refl; submitted = refl; came = refl; accepted = refl; made = refl; named = refl }
+      by x false = record { node = refl; submitted = refl; came = refl; accepted = refl; made = refl; named = refl }
+  put-keeps P kept y w point link b text (Err fault) k =
+      done-keeps P y w point b (put_in settings point link text (Err fault)) (kept.happened (settings point) (FrameCame link text) (w.node point)) k
 
   -- a node that is neither of the two is another than one that is
   others-apart : (y : ℕ) → is_one_of near far y ≡ true → (point : ℕ) → (point ≢ near) × (point ≢ far) → y ≢ point
@@ -113,7 +124,7 @@ module _ (settings : (point : ℕ) → Configuration) (near far : ℕ) where
       (outside-keeps (λ c x. HasCounted before.node.parts x) (counted-kept before.node.parts) y w point (leads_out settings point link) (be_led link) (λ x. record { node = refl; submitted = refl; came = refl; accepted = refl; made = refl; named = refl }) k)
   counted-after y before (ComesOutside point link text ∷ changes) e h w k =
       counted-after y before changes e h.1 (after_change settings (ComesOutside point link text) w)
-      (outside-keeps (λ c x. HasCounted before.node.parts x) (counted-kept before.node.parts) y w point (leads_out settings point link) (put_in (settings point) link text (read_frame text)) (put-same (settings point) link text (read_frame text)) k)
+      (put-keeps (λ c x. HasCounted before.node.parts x) (counted-kept before.node.parts) y w point link (leads_out settings point link) text (read_frame text) k)
   counted-after y before (Restarts point ∷ changes) e h w k =
       counted-after y before changes e h.1 (after_change settings (Restarts point) w)
       (subst (HasCounted before.node.parts) (sym (changed-other point (restarted (settings point)) w y (others-apart y e point h.0))) k)
@@ -142,7 +153,7 @@ module _ (settings : (point : ℕ) → Configuration) (near far : ℕ) where
       (outside-keeps P kept y w point (leads_out settings point link) (be_led link) (λ x. record { node = refl; submitted = refl; came = refl; accepted = refl; made = refl; named = refl }) k)
   changes-keep P kept again y (ComesOutside point link text ∷ changes) w k =
       changes-keep P kept again y changes (after_change settings (ComesOutside point link text) w)
-      (outside-keeps P kept y w point (leads_out settings point link) (put_in (settings point) link text (read_frame text)) (put-same (settings point) link text (read_frame text)) k)
+      (put-keeps P kept y w point link (leads_out settings point link) text (read_frame text) k)
 
   -- at each node, whatever is done
   pub capped-after : (y : ℕ) (changes : List Change) (w : NetworkState) → IsCapped (w.node y) → IsCapped ((after_changes settings changes w).node y)
@@ -182,7 +193,7 @@ module _ (settings : (point : ℕ) → Configuration) (t : ArePlaced settings) (
 
   abbrev reached : Comes settings t (hop_points near far) (are-hop near far) nobody no-nodes (first_network settings) quiet.first_network start
   reached =
-      (all-changes settings t (hop_points near far) (are-hop near far) nobody no-nodes before (spares-nobody before) (first_network settings)).goes quiet.first_network at-first
+      (all-changes settings t (hop_points near far) (are-hop near far) nobody no-nodes (hop-outside settings near far fn ff) before (spares-nobody before) (first_network settings)).goes quiet.first_network at-first
       (first-shown settings t (hop_points near far) (are-hop near far))
 
   abbrev p : Network
@@ -200,7 +211,7 @@ module _ (settings : (point : ℕ) → Configuration) (t : ArePlaced settings) (
   at-begun x fx = record { lasts = begun-lasts (hop_points near far) p (at-p x fx).lasts; led = (at-p x fx).led }
 
   abbrev since : ChangeGoes settings t (hop_points near far) (are-hop near far) (is_one_of near far) two-nodes (begun_anew start) now
-  since = all-changes settings t (hop_points near far) (are-hop near far) (is_one_of near far) two-nodes changes (others-spared near far changes others) (begun_anew start)
+  since = all-changes settings t (hop_points near far) (are-hop near far) (is_one_of near far) two-nodes (hop-outside settings near far fn ff) changes (others-spared near far changes others) (begun_anew start)
 
   abbrev goes_on : Comes settings t (hop_points near far) (are-hop near far) (is_one_of near far) two-nodes (begun_anew start) (begun p) now
   goes_on = since.goes (begun p) at-begun (begun-shown settings t start p reached.shown)

@@ -30,7 +30,7 @@ unfoldable use Rattle.changeback.specs.Return.{changes_of, changes}
 
 -- ---- lists of changes
 
-steps-then : (settings : (point : ℕ) → Configuration) (steps : List Step) (rest : List Change) (w : NetworkState) → after_changes settings (map Does steps ++ rest) w ≡ after_changes settings rest (after_steps settings steps w)
+pub steps-then : (settings : (point : ℕ) → Configuration) (steps : List Step) (rest : List Change) (w : NetworkState) → after_changes settings (map Does steps ++ rest) w ≡ after_changes settings rest (after_steps settings steps w)
 steps-then settings [] rest w = refl
 steps-then settings (step ∷ steps) rest w = steps-then settings steps rest _
 
@@ -38,7 +38,7 @@ steps-alone : (settings : (point : ℕ) → Configuration) (steps : List Step) (
 steps-alone settings [] w = refl
 steps-alone settings (step ∷ steps) w = steps-alone settings steps _
 
-steps-both : (settings : (point : ℕ) → Configuration) (steps more : List Step) (w : NetworkState) → after_steps settings (steps ++ more) w ≡ after_steps settings more (after_steps settings steps w)
+pub steps-both : (settings : (point : ℕ) → Configuration) (steps more : List Step) (w : NetworkState) → after_steps settings (steps ++ more) w ≡ after_steps settings more (after_steps settings steps w)
 steps-both settings [] more w = refl
 steps-both settings (step ∷ steps) more w = steps-both settings steps more _
 
@@ -47,7 +47,7 @@ steps-both settings (step ∷ steps) more w = steps-both settings steps more _
 abbrev begun_node : NetworkNode → NetworkNode
 begun_node x = record x { submitted = []; came = λ link. []; accepted = []; made = []; named = [] }
 
-abbrev begun_four : Four → Four
+abbrev pub begun_four : Four → Four
 begun_four t = record { one = begun_node t.one; two = begun_node t.two; three = begun_node t.three; four = begun_node t.four; others = λ point. begun_node (t.others point) }
 
 begun-at : (a b c d : Bool) (t : Four) (point : ℕ) → begun_node (at_point a b c d t point) ≡ at_point a b c d (begun_four t) point
@@ -57,7 +57,7 @@ begun-at false false true d t point = refl
 begun-at false false false true t point = refl
 begun-at false false false false t point = refl
 
-begun-is : (t : Four) → begun_anew (network_of t) ≡ network_of (begun_four t)
+pub begun-is : (t : Four) → begun_anew (network_of t) ≡ network_of (begun_four t)
 begun-is t = λ i. record { node = λ point. begun-at (nat_eq point 1) (nat_eq point 2) (nat_eq point 3) (nat_eq point 4) t point i }
 
 -- ---- the states, each computed from the one before

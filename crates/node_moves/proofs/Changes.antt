@@ -5,13 +5,14 @@ use Rattle.node_moves.proofs.Machine as machine
 use Rattle.node_moves.proofs.Machine.{Frame, Line, Network, Shape, line_at, one_if, saying, Move, Moves, last_of}
 use Rattle.node_moves.proofs.Definitions.{Configuration, Node, WholeQueues, peer_of}
 use Rattle.node_moves.proofs.Grown.{Grown, IsUnraised, same-grown, both-grown, unraised-first, unraised-then}
-use Rattle.node_moves.proofs.Reading.{IsShape, says_of}
+use Rattle.node_moves.proofs.Reading.{IsShape, KnowsOutside, says_of}
 use Rattle.node_moves.proofs.Shown.{Shows}
 use Rattle.node_moves.proofs.Going.{IsAt, last-append, moves-append}
 use Rattle.node_moves.proofs.Flights.{IsSameFlight, changed-here, changed-other, updated-here, updated-other}
 use Rattle.node_moves.proofs.World.{IsFlown, AreData, AreStatuses, IsData, IsStatus, Shown, rests, place_at}
 use Rattle.node_moves.proofs.Steps.{StepGoes, Reaches}
 use Rattle.node_moves.proofs.Running.{all-steps}
+use Rattle.node_moves.proofs.Malformed.{malformed-step}
 use Rattle.node_moves.proofs.FromOutside.{Comes_so, data-more, statuses-more, speaks-own, outside_of, outside-move, outside-broken, outside-shown}
 use Rattle.node_moves.proofs.StartedAgain.{after, restart-shown, restart-move, restart-broken}
 use Rattle.node_moves.proofs.GivenUp as given
@@ -21,8 +22,7 @@ use Rattle.node_moves.specs.Networks.{NetworkNode, NetworkState, IsNode, be_led,
 use Rattle.m2pa_codec.specs.Frames.{FrameValue, EmptyFrame, MessageFrame, StatusFrame, read_frame}
 use Rattle.signalling_types.specs.declared.notice.FrameFault.{FrameFault}
 use Rattle.network_moves.proofs.Lasting.{lasts-after}
-use Rattle.network_moves.specs.Networks.{frames_by}
-use Rattle.network_moves.specs.Sayings.{is_elsewhere}
+use Rattle.network_moves.specs.Networks.{frames_by, spoofs}
 
 -- changes by which none of these nodes starts again, or gives up following
 abbrev pub Spares : (kept : ℕ → Bool) → Change → Type 0
@@ -175,7 +175,7 @@ module _ (settings : (point : ℕ) → Configuration) (t : ArePlaced settings) (
 
     -- User Data
     data-outside : (w : NetworkState) (x link : ℕ) (text : List ℕ) (frame : Frame) → IsNode settings x → link < length (settings x).links → is_node settings (peer_of (settings x) link) ≡ false → IsData text frame
-        → frames_by (saying says_of (is_elsewhere (place_at settings t x link).link)) (frame ∷ []) ≡ 0
+        → frames_by (saying says_of (spoofs shape (place_at settings t x link).link)) (frame ∷ []) ≡ 0
         → ChangeGoes w (changed x (λ e. record e { user_data = updated e.user_data link (e.user_data link ++ text ∷ []) }) w)
     data-outside w x link text frame fx inside out is own = by-outside w x link (λ e. record e { user_data = updated e.user_data link (e.user_data link ++ text ∷ []) }) fx inside out refl (λ p s.
         let y : Line = line_at p (place_at settings t x link) in
@@ -242,20 +242,20 @@ module _ (settings : (point : ℕ) → Configuration) (t : ArePlaced settings) (
             (λ (d : y ≢ x). changed-other x (λ e. e) w y d)
             (cases_eq y x)
 
-    text-outside : (w : NetworkState) (x link : ℕ) (text : List ℕ) (r : Result FrameValue FrameFault) → read_frame text ≡ r → IsNode settings x → link < length (settings x).links
-        → is_node settings (peer_of (settings x) link) ≡ false → ChangeGoes w (changed x (put_in (settings x) link text r) w)
-    text-outside w x link text (Ok (StatusFrame bsn fsn status)) e fx inside out = status-outside w x link text fx inside out (record { value = StatusFrame bsn fsn status; reads = e; status = refl })
-    text-outside w x link text (Ok (EmptyFrame bsn fsn)) e fx inside out =
+    text-outside : KnowsOutside settings shape → (w : NetworkState) (x link : ℕ) (text : List ℕ) (r : Result FrameValue FrameFault) → read_frame text ≡ r → IsNode settings x → link < length (settings x).links
+        → is_node settings (peer_of (settings x) link) ≡ false → ChangeGoes w (changed x (put_in settings x link text r) w)
+    text-outside known w x link text (Ok (StatusFrame bsn fsn status)) e fx inside out = status-outside w x link text fx inside out (record { value = StatusFrame bsn fsn status; reads = e; status = refl })
+    text-outside known w x link text (Ok (EmptyFrame bsn fsn)) e fx inside out =
         data-outside w x link text (machine.EmptyFrame fsn bsn) fx inside out (record { value = EmptyFrame bsn fsn; reads = e; carries = refl }) refl
-    text-outside w x link text (Ok (MessageFrame bsn fsn sio sif)) e fx inside out = by (may_come (settings x) link (record { sio = sio; sif = sif })) refl
+    text-outside known w x link text (Ok (MessageFrame bsn fsn sio sif)) e fx inside out = by (may_come settings (record { sio = sio; sif = sif })) refl
       where
-        by : (b : Bool) → may_come (settings x) link (record { sio = sio; sif = sif }) ≡ b
+        by : (b : Bool) → may_come settings (record { sio = sio; sif = sif }) ≡ b
             → ChangeGoes w (changed x (λ q. if b then record q { user_data = updated q.user_data link (q.user_data link ++ text ∷ []) } else q) w)
         by true may =
             data-outside w x link text (machine.MessageFrame fsn bsn (record { sio = sio; sif = sif })) fx inside out (record { value = MessageFrame bsn fsn sio sif; reads = e; carries = refl })
-            (let own : one_if (saying says_of (is_elsewhere (place_at settings t x link).link) (record { sio = sio; sif = sif })) ≡ 0 = speaks-own (settings x) (t.well x fx) link (record { sio = sio; sif = sif }) may in omega (arith, own))
+            (let own : one_if (saying says_of (spoofs shape (place_at settings t x link).link) (record { sio = sio; sif = sif })) ≡ 0 = speaks-own settings shape o known (place_at settings t x link).link (record { sio = sio; sif = sif }) may in omega (arith, own))
         by false may = unmoved w x
-    text-outside w x link text (Err fault) e fx inside out = unmoved w x
+    text-outside known w x link text (Err fault) e fx inside out = by-step w _ (malformed-step settings t shape o w x link fx inside text fault e)
 
     -- where a link leads out
     if-out : (w : NetworkState) (x link : ℕ) (v : NetworkState) → (IsNode settings x → link < length (settings x).links → is_node settings (peer_of (settings x) link) ≡ false → ChangeGoes w v)
@@ -285,15 +285,15 @@ module _ (settings : (point : ℕ) → Configuration) (t : ArePlaced settings) (
           };
     }
 
-    one-change : (change : Change) → Spares kept change → (w : NetworkState) → ChangeGoes w (after_change settings change w)
-    one-change (Does step) spared w = by-step w (after_change settings (Does step) w) (all-steps settings t shape o (step ∷ []) w)
-    one-change (Restarts point) spared w = by-restart w point spared
-    one-change (GivesUp point link) spared w = by-giving-up w point link spared
-    one-change (OpensOutside point link) spared w = if-out w point link (changed point (be_led link) w) (opens-outside w point link)
-    one-change (ComesOutside point link text) spared w =
-        if-out w point link (changed point (put_in (settings point) link text (read_frame text)) w) (text-outside w point link text (read_frame text) refl)
+    one-change : KnowsOutside settings shape → (change : Change) → Spares kept change → (w : NetworkState) → ChangeGoes w (after_change settings change w)
+    one-change known (Does step) spared w = by-step w (after_change settings (Does step) w) (all-steps settings t shape o (step ∷ []) w)
+    one-change known (Restarts point) spared w = by-restart w point spared
+    one-change known (GivesUp point link) spared w = by-giving-up w point link spared
+    one-change known (OpensOutside point link) spared w = if-out w point link (changed point (be_led link) w) (opens-outside w point link)
+    one-change known (ComesOutside point link text) spared w =
+        if-out w point link (changed point (put_in settings point link text (read_frame text)) w) (text-outside known w point link text (read_frame text) refl)
 
-    pub all-changes : (changes : List Change) → SpareAll kept changes → (w : NetworkState) → ChangeGoes w (after_changes settings changes w)
-    all-changes [] spared w = no-change w
-    all-changes (change ∷ changes) spared w =
-        both-changes w (after_change settings change w) (after_changes settings changes (after_change settings change w)) (one-change change spared.0 w) (all-changes changes spared.1 (after_change settings change w))
+    pub all-changes : KnowsOutside settings shape → (changes : List Change) → SpareAll kept changes → (w : NetworkState) → ChangeGoes w (after_changes settings changes w)
+    all-changes known [] spared w = no-change w
+    all-changes known (change ∷ changes) spared w =
+        both-changes w (after_change settings change w) (after_changes settings changes (after_change settings change w)) (one-change known change spared.0 w) (all-changes known changes spared.1 (after_change settings change w))

@@ -2,12 +2,13 @@
 use Rattle.node_moves.proofs.Basics.{◌≡◌, ◌⊎◌, inl, inr, ℕ, Bool, true, false, not, ◌^◌, ◌<◌, ◌&&◌, ◌||◌, List, [], ◌∷◌, length, Option, Some, None, Result, Ok, Err, nat_eq, nat_lt, slice_index_or, refl, ap, sym, subst, ◌∙◌, arith, ⊎_elim, eqb-true, true≢false}
 use Rattle.node_moves.proofs.Machine.{Side, Near, Far, opposite, Saying, UserMessage, Order, Answer, Other, Shape, point_at}
 use Rattle.node_moves.proofs.Definitions.{Message, flow_of, is_management, dpc_of, opc_of, service_indicator, testing, Management, MgmtFault, read_management, Configuration, IsWell, Parts, entry_of, peer_of, adjacent_of, set_of, link_of}
-use Rattle.node_moves.proofs.Reading.{IsShape, place_by, place_of, across, other-place, read_says, says_by, says_of, is_long}
+use Rattle.node_moves.proofs.Reading.{IsShape, KnowsOutside, place_by, place_of, across, other-place, read_says, says_by, says_of, is_long}
 use Rattle.node_moves.proofs.Shown.{HasWays, place, at-own}
 use Rattle.node_moves.proofs.Heard.{never-odd, own-apart}
 use Rattle.node_moves.proofs.Codes.{HasCode, read-fits}
 use Rattle.node_moves.proofs.Routed.{no-element, contains-or, no_entry, goes-by-its-sets}
 use Rattle.node_moves.proofs.Running.{all_points, point_by, are-all}
+use Rattle.node_moves.specs.Networks.{IsNode, is_node}
 use Rattle.exchange_rules.proofs.MadeManagement.{code-fits, adjacent-fits}
 use Rattle.exchange_rules.specs.Routing.{facts}
 use Rattle.mtp3_codec.specs.Management.{link_code_of}
@@ -63,7 +64,7 @@ is_between near far link = is_within all_points says_of (is_one_of near far) (fo
 
 -- all points, where the two put what concerns them on links between them alone
 abbrev pub hop_points : (near far : ℕ) → Shape
-hop_points near far = record all_points { leads = λ link side m. not (is_one_of near far (all_points.point link side) && concerning near far m) || is_between near far link }
+hop_points near far = record all_points { leads = λ link side m. not (is_one_of near far (all_points.point link side) && concerning near far m) || is_between near far link; outside = λ point. not (is_one_of near far point) }
 
 pub are-hop : (near far : ℕ) → IsShape (hop_points near far)
 are-hop near far = record { nodes = are-all.nodes; links = are-all.links; points = are-all.points }
@@ -77,9 +78,21 @@ says-same near far for_it Other = refl
 
 pub stays-between : (near far : ℕ) → KeepsToItself (hop_points near far) says_of (is_one_of near far) (for_one_of near far)
 stays-between near far = record {
+  inside = λ point e. ap not e;
   stays = λ place m here leads of. within-by (is_one_of near far (point_at all_points place)) (concerning near far m) (is_between near far place.link) here leads
       (sym (says-same near far (for_one_of near far m) (says_of m)) ∙ of);
 }
+
+-- to them all others are outside, and so is who has no node
+pub hop-outside : (settings : (point : ℕ) → Configuration) (near far : ℕ) → IsNode settings near → IsNode settings far → KnowsOutside settings (hop_points near far)
+hop-outside settings near far fn ff = record { each = λ point none. by point none (is_one_of near far point) refl }
+  where
+    at : (point one : ℕ) → is_node settings point ≡ false → IsNode settings one → nat_eq point one ≡ true → ⊥
+    at point one none fx same = true≢false (sym fx ∙ ap (is_node settings) (sym (eqb-true point one same)) ∙ none)
+
+    by : (point : ℕ) → is_node settings point ≡ false → (b : Bool) → is_one_of near far point ≡ b → not (is_one_of near far point) ≡ true
+    by point none false e = ap not e
+    by point none true e = absurd (⊎_elim (at point near none fn) (at point far none ff) (either-true (nat_eq point near) (nat_eq point far) e))
 
 module _ (near far : ℕ) where
   abbrev group : ℕ → Bool

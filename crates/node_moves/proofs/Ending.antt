@@ -11,7 +11,7 @@ use Rattle.node_moves.proofs.BothEnds.{IsOther, is-other}
 use Rattle.node_moves.proofs.FateCounts.{counted-messages}
 use Rattle.node_moves.proofs.Running.{all_points, are-all, all-led, reached}
 use Rattle.node_moves.specs.Networks.{Fate, NetworkState, LinkEnd, IsNode, other_end, after_steps, first_network, messages_of}
-use Rattle.node_moves.specs.Laws.{AreTheirs, is_user, came_by, received_by, waiting_on, came_from, waits_at, accepted_at, fates_that, any_fate, EndsOnce, each_message_ends_once}
+use Rattle.node_moves.specs.Laws.{AreTheirs, is_user, came_by, received_by, waiting_on, came_from, waits_at, accepted_at, fates_that, any_fate, EndsOnce, each_message_of_a_node_ends_once}
 use Rattle.node_moves.specs.Outside.{ArePlaced}
 use Rattle.node_moves.specs.Laws as law
 use Rattle.exchange_rules.proofs.MadeManagement.{code-fits, adjacent-fits}
@@ -289,7 +289,7 @@ module _ (settings : (point : ℕ) → Configuration) (t : ArePlaced settings) (
 pub placed : (settings : (point : ℕ) → Configuration) → AreTheirs settings → ArePlaced settings
 placed settings t = record { own = t.own; well = t.well; joined = λ point link f inside there. t.joined point link f inside }
 
-pub ends-once : each_message_ends_once
+pub ends-once : each_message_of_a_node_ends_once
 ends-once settings steps x its fx none =
     let t : ArePlaced settings = placed settings its in
     let r : (p : Network) × Sound all_points says_of p × Shown settings t (after_steps settings steps (first_network settings)) p = reached settings t all_points are-all (λ x fx. all-led (settings x)) steps none in

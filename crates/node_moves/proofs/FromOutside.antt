@@ -1,85 +1,106 @@
 -- What comes by links that lead out: one move each.
-use Rattle.node_moves.proofs.Basics.{◌≡◌, ◌≢◌, ℕ, zero, suc, Bool, true, false, not, ◌&&◌, ◌||◌, ◌^◌, ◌≤◌, ◌<◌, List, [], ◌∷◌, ◌++◌, length, Ok, Err, Result, count_by, nat_eq, nat_lt, refl, ap, sym, subst, ◌∙◌, arith, nat_tests, if◌then◌else◌, ⊎_elim, cases_eq, ne_eqb, eq-eqb, eqb-true}
+use Rattle.node_moves.proofs.Basics.{◌≡◌, ◌≢◌, ℕ, zero, suc, Bool, true, false, not, ◌&&◌, ◌||◌, ◌^◌, ◌≤◌, ◌<◌, List, [], ◌∷◌, ◌++◌, length, Ok, Err, Result, count_by, nat_eq, nat_lt, refl, ap, sym, subst, ◌∙◌, arith, nat_tests, if◌then◌else◌, ◌⊎◌, inl, inr, ⊎_elim, cases_eq, ne_eqb, eq-eqb}
 use Rattle.node_moves.proofs.Machine.{Side, Near, Far, opposite, Frame, LinkEnd, Line, Network, Shape, turned, seen, Place, line_at, point_at, one_if, saying, Move}
-use Rattle.node_moves.proofs.Definitions.{Message, Configuration, IsWell, dpc_of, opc_of, is_management, service_indicator, testing, entry_of, peer_of, set_of, Management, MgmtFault, read_management}
-use Rattle.node_moves.proofs.Reading.{IsShape, place_of, across, other-place, read_says, says_by, says_of, is_long}
-use Rattle.node_moves.proofs.Shown.{Shows, IsShown, place, link-inside, links-apart, at-own}
-use Rattle.node_moves.proofs.Heard.{own-apart}
+use Rattle.node_moves.proofs.Definitions.{Message, Configuration, dpc_of, opc_of, is_management, service_indicator, testing, peer_of, set_of, Management, MgmtFault, read_management}
+use Rattle.node_moves.proofs.Reading.{IsShape, KnowsOutside, place_of, across, other-place, read_says, says_by, says_of, is_long}
+use Rattle.node_moves.proofs.Shown.{Shows, IsShown, link-inside, links-apart, at-own}
+use Rattle.node_moves.proofs.Codes.{HasCode, read-fits}
 use Rattle.node_moves.proofs.World.{IsFlown, AreData, AreStatuses, IsData, IsStatus, Shown, rests, place_at, same-line}
 use Rattle.node_moves.proofs.Relining.{across-line}
 use Rattle.node_moves.proofs.Flights.{IsSameFlight, same-flight, changed-here, changed-other}
 use Rattle.node_moves.proofs.Closed.{each-true}
 use Rattle.node_moves.proofs.Ending.{peer-at}
 use Rattle.node_moves.specs.Networks.{Fate, NetworkNode, NetworkState, IsNode, is_node, changed, messages_of}
-use Rattle.node_moves.specs.Outside.{ArePlaced, is_about_it, speaks_for_itself, may_come}
+use Rattle.node_moves.specs.Outside.{ArePlaced, is_from_outside, spoofs_nobody, may_come}
 use Rattle.exchange_rules.proofs.MadeManagement.{adjacent-fits}
 use Rattle.mtp3_codec.specs.declared.management.Management.TheVariants as says
 use Rattle.network_moves.specs.Moves as moves
-use Rattle.network_moves.specs.Networks.{frames_by}
+use Rattle.network_moves.specs.Networks.{frames_by, leads_out, spoofs}
 use Rattle.network_moves.specs.Returning.{strayed}
-use Rattle.network_moves.specs.Sayings.{is_elsewhere}
 
 -- ---- a message that may come speaks for nobody else
 
 none-if : (b : Bool) → b ≡ false → one_if b ≡ 0
 none-if b e = ap one_if e
 
-not-or : (a b : Bool) → a ≡ true → b ≡ true → (not a || not b) ≡ false
-not-or true true e f = refl
-not-or false b e f = absurd cc
-not-or true false e f = absurd cc
+for-outside : (same out low : Bool) → out ≡ true → low ≡ true → ((not same && not out) || not low) ≡ false
+for-outside true true true e f = refl
+for-outside false true true e f = refl
+for-outside same false low e f = absurd cc
+for-outside same true false e f = absurd cc
 
-module _ (c : Configuration) (well : IsWell c) (link : ℕ) (m : Message) where
-  abbrev k : ℕ
-  k = (place c link).link
+not-both : (a b : Bool) → not (a && b) ≡ true → (a ≡ false) ⊎ (b ≡ false)
+not-both true true e = absurd cc
+not-both true false e = inr refl
+not-both false b e = inl refl
 
-  about-so : (slc number : ℕ) → is_about_it c link m slc number ≡ true → (not (nat_eq (place_of (opc_of m) (dpc_of m) slc).link k) || not (nat_lt number (2 ^ 24))) ≡ false
-  about-so slc number e =
-      let one : (nat_eq (opc_of m) (peer_of c link) ≡ true) × ((nat_eq (dpc_of m) c.own && (nat_eq slc (entry_of c link).slc && nat_lt number (2 ^ 24))) ≡ true) = each-true _ _ e in
-      let two : (nat_eq (dpc_of m) c.own ≡ true) × ((nat_eq slc (entry_of c link).slc && nat_lt number (2 ^ 24)) ≡ true) = each-true _ _ one.1 in
-      let three : (nat_eq slc (entry_of c link).slc ≡ true) × (nat_lt number (2 ^ 24) ≡ true) = each-true _ _ two.1 in
-      let is : (place_of (opc_of m) (dpc_of m) slc).link ≡ k =
-      ap (λ (i : ℕ). (place_of i (dpc_of m) slc).link) (eqb-true (opc_of m) (peer_of c link) one.0)
-      ∙ ap (λ (i : ℕ). (place_of (peer_of c link) i slc).link) (eqb-true (dpc_of m) c.own two.0)
-      ∙ ap (λ (i : ℕ). (place_of (peer_of c link) c.own i).link) (eqb-true slc (entry_of c link).slc three.0)
-      ∙ ap (λ (q : Place). q.link) (other-place c.own (peer_of c link) (entry_of c link).slc (own-apart c well link)) in
-      not-or (nat_eq (place_of (opc_of m) (dpc_of m) slc).link k) (nat_lt number (2 ^ 24)) (eq-eqb (place_of (opc_of m) (dpc_of m) slc).link k is) three.1
+or-so : (a b : Bool) → b ≡ true → (a || b) ≡ true
+or-so true b e = refl
+or-so false b e = e
 
-  word-own : (r : Result Management MgmtFault) → speaks_for_itself c link m r ≡ true → is_elsewhere k (read_says (opc_of m) (dpc_of m) r) ≡ false
-  word-own (Ok (says.ExtendedChangeoverOrder slc number)) e = about-so slc number e
-  word-own (Ok (says.ExtendedChangeoverAcknowledgement slc number)) e = about-so slc number e
-  word-own (Ok (says.EmergencyChangeoverOrder slc)) e = absurd cc
-  word-own (Ok (says.EmergencyChangeoverAcknowledgement slc)) e = absurd cc
-  word-own (Ok (says.ChangebackDeclaration slc code)) e = refl
-  word-own (Ok (says.ChangebackAcknowledgement slc code)) e = refl
-  word-own (Ok (says.TransferProhibited point)) e = refl
-  word-own (Ok (says.TransferRestricted point)) e = refl
-  word-own (Ok (says.TransferAllowed point)) e = refl
-  word-own (Ok (says.RouteSetTestProhibited point)) e = refl
-  word-own (Ok (says.RouteSetTestRestricted point)) e = refl
-  word-own (Ok says.TrafficRestartAllowed) e = refl
-  word-own (Ok (says.UserPartUnavailable point user_part cause)) e = refl
-  word-own (Err fault) e = refl
+module _ (settings : (point : ℕ) → Configuration) (shape : Shape) (o : IsShape shape) (known : KnowsOutside settings shape) where
+  -- a link leads out whose one end is outside
+  out-side : (side : Side) (link : ℕ) → shape.outside (shape.point link side) ≡ true → leads_out shape link ≡ true
+  out-side Near link e = ap (λ (b : Bool). b || shape.outside (shape.point link Far)) e
+  out-side Far link e = or-so (shape.outside (shape.point link Near)) (shape.outside (shape.point link Far)) e
 
-  short-of : (a b : Bool) → (not a && b) ≡ true → (a ≡ false) × (b ≡ true)
-  short-of true b e = absurd cc
-  short-of false b e = (refl, e)
+  out-at : (own other slc : ℕ) → own < 2 ^ 14 → other < 2 ^ 14 → slc < 2 ^ 4 → is_node settings own ≡ false → leads_out shape (place_of own other slc).link ≡ true
+  out-at own other slc a b d none = out-side (place_of own other slc).side (place_of own other slc).link (ap shape.outside (o.points own other slc a b d) ∙ known.each own none)
 
-  managed-or : (a b : Bool) → (not a || b) ≡ true → a ≡ true → b ≡ true
-  managed-or true b e f = e
-  managed-or false b e f = absurd cc
+  out-between : (opc dpc slc : ℕ) → opc < 2 ^ 14 → dpc < 2 ^ 14 → slc < 2 ^ 4 → not (is_node settings opc && is_node settings dpc) ≡ true → leads_out shape (place_of opc dpc slc).link ≡ true
+  out-between opc dpc slc a b d e =
+      ⊎_elim
+      (λ (from : is_node settings opc ≡ false). out-at opc dpc slc a b d from)
+      (λ (to : is_node settings dpc ≡ false).
+      ⊎_elim
+      (λ (same : opc ≡ dpc). out-at opc dpc slc a b d (ap (is_node settings) same ∙ to))
+      (λ (apart : opc ≢ dpc). ap (λ (q : Place). leads_out shape q.link) (sym (other-place opc dpc slc apart)) ∙ out-at dpc opc slc b a d to)
+      (cases_eq opc dpc))
+      (not-both (is_node settings opc) (is_node settings dpc) e)
 
-  own-said : (a b d : Bool) → is_long m ≡ a → is_management m ≡ b → nat_eq (service_indicator m) testing ≡ d → may_come c link m ≡ true → is_elsewhere k (says_by a b d m) ≡ false
-  own-said true b d e f g h = (let s : (is_long m ≡ false) × _ = short-of (is_long m) _ h in let no : true ≡ false = sym e ∙ s.0 in absurd cc)
-  own-said false false d e f g h = refl
-  own-said false true true e f g h = refl
-  own-said false true false e f g h =
-      let lowest : nat_eq (service_indicator m) 0 ≡ true = grind (arith, nat_tests, f, g) in
-      word-own (read_management m.sif) (managed-or (nat_eq (service_indicator m) 0) (speaks_for_itself c link m (read_management m.sif)) (short-of (is_long m) _ h).1 lowest)
+  module _ (link : ℕ) (m : Message) where
+    about-so : (slc number : ℕ) → slc < 2 ^ 4 → is_from_outside settings m number ≡ true
+        → ((not (nat_eq (place_of (opc_of m) (dpc_of m) slc).link link) && not (leads_out shape (place_of (opc_of m) (dpc_of m) slc).link)) || not (nat_lt number (2 ^ 24))) ≡ false
+    about-so slc number fits e =
+        let two : (not (is_node settings (opc_of m) && is_node settings (dpc_of m)) ≡ true) × (nat_lt number (2 ^ 24) ≡ true) = each-true _ _ e in
+        for-outside (nat_eq (place_of (opc_of m) (dpc_of m) slc).link link) (leads_out shape (place_of (opc_of m) (dpc_of m) slc).link) (nat_lt number (2 ^ 24))
+        (out-between (opc_of m) (dpc_of m) slc (omega arith) (omega arith) fits two.0) two.1
 
-  pub speaks-own : may_come c link m ≡ true → one_if (saying says_of (is_elsewhere k) m) ≡ 0
-  unfolding says_of
-  speaks-own h = none-if _ (own-said (is_long m) (is_management m) (nat_eq (service_indicator m) testing) refl refl refl h)
+    word-own : (r : Result Management MgmtFault) → HasCode r → spoofs_nobody settings m r ≡ true → spoofs shape link (read_says (opc_of m) (dpc_of m) r) ≡ false
+    word-own (Ok (says.ExtendedChangeoverOrder slc number)) h e = about-so slc number h.fits e
+    word-own (Ok (says.ExtendedChangeoverAcknowledgement slc number)) h e = about-so slc number h.fits e
+    word-own (Ok (says.EmergencyChangeoverOrder slc)) h e = absurd cc
+    word-own (Ok (says.EmergencyChangeoverAcknowledgement slc)) h e = absurd cc
+    word-own (Ok (says.ChangebackDeclaration slc code)) h e = refl
+    word-own (Ok (says.ChangebackAcknowledgement slc code)) h e = refl
+    word-own (Ok (says.TransferProhibited point)) h e = refl
+    word-own (Ok (says.TransferRestricted point)) h e = refl
+    word-own (Ok (says.TransferAllowed point)) h e = refl
+    word-own (Ok (says.RouteSetTestProhibited point)) h e = refl
+    word-own (Ok (says.RouteSetTestRestricted point)) h e = refl
+    word-own (Ok says.TrafficRestartAllowed) h e = refl
+    word-own (Ok (says.UserPartUnavailable point user_part cause)) h e = refl
+    word-own (Err fault) h e = refl
+
+    short-of : (a b : Bool) → (not a && b) ≡ true → (a ≡ false) × (b ≡ true)
+    short-of true b e = absurd cc
+    short-of false b e = (refl, e)
+
+    managed-or : (a b : Bool) → (not a || b) ≡ true → a ≡ true → b ≡ true
+    managed-or true b e f = e
+    managed-or false b e f = absurd cc
+
+    own-said : (a b d : Bool) → is_long m ≡ a → is_management m ≡ b → nat_eq (service_indicator m) testing ≡ d → may_come settings m ≡ true → spoofs shape link (says_by a b d m) ≡ false
+    own-said true b d e f g h = (let s : (is_long m ≡ false) × _ = short-of (is_long m) _ h in let no : true ≡ false = sym e ∙ s.0 in absurd cc)
+    own-said false false d e f g h = refl
+    own-said false true true e f g h = refl
+    own-said false true false e f g h =
+        let lowest : nat_eq (service_indicator m) 0 ≡ true = grind (arith, nat_tests, f, g) in
+        word-own (read_management m.sif) (read-fits m.sif) (managed-or (nat_eq (service_indicator m) 0) (spoofs_nobody settings m (read_management m.sif)) (short-of (is_long m) _ h).1 lowest)
+
+    pub speaks-own : may_come settings m ≡ true → one_if (saying says_of (spoofs shape link) m) ≡ 0
+    unfolding says_of
+    speaks-own h = none-if _ (own-said (is_long m) (is_management m) (nat_eq (service_indicator m) testing) refl refl refl h)
 
 -- ---- what is in flight grows
 
@@ -121,7 +142,7 @@ module _ (settings : (point : ℕ) → Configuration) (t : ArePlaced settings) (
     pub left : List Frame
     pub fewer : (test : Message → Bool) → frames_by test left ≤ frames_by test (line_at p its).to_near
     pub new : List Frame
-    pub own : frames_by (saying says_of (is_elsewhere its.link)) new ≡ 0
+    pub own : frames_by (saying says_of (spoofs shape its.link)) new ≡ 0
     pub told : ℕ
     pub follows : Bool
     pub user_data : AreData ((f (w.node x)).user_data link) (left ++ new)

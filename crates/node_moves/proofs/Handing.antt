@@ -110,7 +110,7 @@ module _ (settings : (point : ℕ) → Configuration) (t : ArePlaced settings) (
   abbrev lost_by : (text : List ℕ) → List Message
   lost_by text = (of_rules.gone (FrameCame link text) (state_of c (w.node x))).lost
 
-  after-frame : (text : List ℕ) (j : Books) → Goes shape c (mid (receive whole c link text n).left [] [] j) (mid (apply whole c (FrameCame link text) n).left [] [] (naming j (lost_by text)))
+  pub after-frame : (text : List ℕ) (j : Books) → Goes shape c (mid (receive whole c link text n).left [] [] j) (mid (apply whole c (FrameCame link text) n).left [] [] (naming j (lost_by text)))
   after-frame text j =
       event-settles shape o c well (FrameCame link text) (mid (receive whole c link text n).left [] [] j) n j
       ((late_by-goes shape o c well (receive whole c link text n).outcome (receive whole c link text n).left).each [] [] j)

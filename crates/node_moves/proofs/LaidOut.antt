@@ -1,13 +1,15 @@
--- A network whose nodes are those of a mated pair, as four nodes: so a step computes the node at which it is done, once.
+-- A network whose nodes are at four points, as four nodes: so a step computes the node at which it is done, once.
 use Rattle.node_moves.proofs.Basics.{◌≡◌, ℕ, Bool, true, false, List, [], ◌∷◌, Option, Some, None, nat_eq, refl, ap, sym, ◌∙◌, arith, if◌then◌else◌, eqb-true}
-use Rattle.node_moves.proofs.Definitions.{whole}
+use Rattle.node_moves.proofs.Definitions.{Configuration, whole}
+use Rattle.node_moves.specs.Anew.{Change, Does, Restarts, GivesUp, OpensOutside, ComesOutside, after_change, after_changes, given_up, restarted}
 use Rattle.node_moves.specs.MatedPair.{mated}
 use Rattle.node_moves.specs.Networks.{NetworkNode, NetworkState, LinkEnd, Doing, Takes, OpensFirst, Step, after_steps, be_led, changed, come_up, did, did_here, fetch, flies, is_node, may_open_at, open_first, other_end, reach, sent}
 use Rattle.exchange_rules.specs.Opening.{wanted}
 use Rattle.exchange_rules.specs.Sending.{frame_taken, after_take}
 use Rattle.exchange_rules.specs.declared.wants.Wants.{Wants}
 use Rattle.exchange_rules.specs.declared.wants.Wants.TheVariants.{Nothing, Open, Close}
-use Rattle.m2pa_codec.specs.Frames.{FrameValue}
+use Rattle.node_moves.specs.Outside.{leads_out, put_in}
+use Rattle.m2pa_codec.specs.Frames.{FrameValue, read_frame}
 
 pub record Four : Type 0 where
   pub one : NetworkNode
@@ -114,57 +116,98 @@ placing point change x t e = (λ i. record { node = λ other. here (nat_eq other
 
 -- ---- steps
 
-abbrev takes : (point link : ℕ) → NetworkNode → NetworkNode
-takes point link x = record x { node = after_take whole (mated point) link x.node }
+module _ (settings : (point : ℕ) → Configuration) where
+  abbrev takes : (point link : ℕ) → NetworkNode → NetworkNode
+  takes point link x = record x { node = after_take whole (settings point) link x.node }
 
-abbrev taken_in : Option FrameValue → (point link : ℕ) → Option LinkEnd → Four → Four
-taken_in None point link there t = t
-taken_in (Some frame) point link None t = changed_at point (takes point link) t
-taken_in (Some frame) point link (Some there) t = changed_at there.point (reach frame there.link) (changed_at point (takes point link) t)
+  abbrev taken_in : Option FrameValue → (point link : ℕ) → Option LinkEnd → Four → Four
+  taken_in None point link there t = t
+  taken_in (Some frame) point link None t = changed_at point (takes point link) t
+  taken_in (Some frame) point link (Some there) t = changed_at there.point (reach frame there.link) (changed_at point (takes point link) t)
 
-abbrev opened_in : Wants → (may : Bool) → (point link : ℕ) → Option LinkEnd → Four → Four
-opened_in Open true point link (Some there) t = changed_at there.point (be_led there.link) (changed_at point (come_up (mated point) link) t)
-opened_in wants may point link there t = t
+  abbrev opened_in : Wants → (may : Bool) → (point link : ℕ) → Option LinkEnd → Four → Four
+  opened_in Open true point link (Some there) t = changed_at there.point (be_led there.link) (changed_at point (come_up (settings point) link) t)
+  opened_in wants may point link there t = t
 
-abbrev did_in : Doing → (point : ℕ) → Four → Four
-did_in (Takes link) point t = taken_in (frame_taken whole (mated point) link (node_at t point).node) point link (other_end mated point link) t
-did_in (OpensFirst link) point t =
-    opened_in (wanted (node_at t point).node.parts link) (may_open_at mated (network_of t) (other_end mated point link)) point link (other_end mated point link) t
-did_in what point t = changed_at point (did_here what (mated point)) t
+  abbrev did_in : Doing → (point : ℕ) → Four → Four
+  did_in (Takes link) point t = taken_in (frame_taken whole (settings point) link (node_at t point).node) point link (other_end settings point link) t
+  did_in (OpensFirst link) point t =
+      opened_in (wanted (node_at t point).node.parts link) (may_open_at settings (network_of t) (other_end settings point link)) point link (other_end settings point link) t
+  did_in what point t = changed_at point (did_here what (settings point)) t
 
-module _ (point link : ℕ) (t : Four) where
-  taken-is : (o : Option FrameValue) (there : Option LinkEnd) → other_end mated point link ≡ there → fetch mated o point link (network_of t) ≡ network_of (taken_in o point link there t)
-  taken-is None there e = refl
-  taken-is (Some frame) there e = ap (λ (q : Option LinkEnd). flies frame q (sent mated point link (network_of t))) e ∙ by there
-    where
-      by : (q : Option LinkEnd) → flies frame q (sent mated point link (network_of t)) ≡ network_of (taken_in (Some frame) point link q t)
-      by None = changed-is (takes point link) t point
-      by (Some end) =
-          ap (changed end.point (reach frame end.link)) (changed-is (takes point link) t point) ∙ changed-is (reach frame end.link) (changed_at point (takes point link) t) end.point
+  module _ (point link : ℕ) (t : Four) where
+    taken-is : (o : Option FrameValue) (there : Option LinkEnd) → other_end settings point link ≡ there → fetch settings o point link (network_of t) ≡ network_of (taken_in o point link there t)
+    taken-is None there e = refl
+    taken-is (Some frame) there e = ap (λ (q : Option LinkEnd). flies frame q (sent settings point link (network_of t))) e ∙ by there
+      where
+        by : (q : Option LinkEnd) → flies frame q (sent settings point link (network_of t)) ≡ network_of (taken_in (Some frame) point link q t)
+        by None = changed-is (takes point link) t point
+        by (Some end) =
+            ap (changed end.point (reach frame end.link)) (changed-is (takes point link) t point) ∙ changed-is (reach frame end.link) (changed_at point (takes point link) t) end.point
 
-  opened-is : (wants : Wants) (may : Bool) (there : Option LinkEnd) → open_first mated wants may point link there (network_of t) ≡ network_of (opened_in wants may point link there t)
-  opened-is Open true (Some there) =
-      ap (changed there.point (be_led there.link)) (changed-is (come_up (mated point) link) t point) ∙ changed-is (be_led there.link) (changed_at point (come_up (mated point) link) t) there.point
-  opened-is Open true None = refl
-  opened-is Open false there = refl
-  opened-is Nothing may there = refl
-  opened-is Close may there = refl
+    opened-is : (wants : Wants) (may : Bool) (there : Option LinkEnd) → open_first settings wants may point link there (network_of t) ≡ network_of (opened_in wants may point link there t)
+    opened-is Open true (Some there) =
+        ap (changed there.point (be_led there.link)) (changed-is (come_up (settings point) link) t point) ∙ changed-is (be_led there.link) (changed_at point (come_up (settings point) link) t) there.point
+    opened-is Open true None = refl
+    opened-is Open false there = refl
+    opened-is Nothing may there = refl
+    opened-is Close may there = refl
 
-did-is : (what : Doing) (point : ℕ) (t : Four) → did mated what point (network_of t) ≡ network_of (did_in what point t)
-did-is (Takes link) point t = taken-is point link t (frame_taken whole (mated point) link (node_at t point).node) (other_end mated point link) refl
-did-is (OpensFirst link) point t =
-    opened-is point link t (wanted (node_at t point).node.parts link) (may_open_at mated (network_of t) (other_end mated point link)) (other_end mated point link)
-did-is what point t = changed-is (did_here what (mated point)) t point
+  did-is : (what : Doing) (point : ℕ) (t : Four) → did settings what point (network_of t) ≡ network_of (did_in what point t)
+  did-is (Takes link) point t = taken-is point link t (frame_taken whole (settings point) link (node_at t point).node) (other_end settings point link) refl
+  did-is (OpensFirst link) point t =
+      opened-is point link t (wanted (node_at t point).node.parts link) (may_open_at settings (network_of t) (other_end settings point link)) (other_end settings point link)
+  did-is what point t = changed-is (did_here what (settings point)) t point
+
+  abbrev pub run_in : List Step → Four → Four
+  run_in [] t = t
+  run_in (step ∷ steps) t = run_in steps (if is_node settings step.point then did_in step.what step.point t else t)
+
+  one-is : (step : Step) (b : Bool) (t : Four) → (if b then did settings step.what step.point (network_of t) else network_of t) ≡ network_of (if b then did_in step.what step.point t else t)
+  one-is step true t = did-is step.what step.point t
+  one-is step false t = refl
+
+  pub run-in-is : (steps : List Step) (t : Four) → after_steps settings steps (network_of t) ≡ network_of (run_in steps t)
+  run-in-is [] t = refl
+  run-in-is (step ∷ steps) t =
+      ap (after_steps settings steps) (one-is step (is_node settings step.point) t) ∙ run-in-is steps (if is_node settings step.point then did_in step.what step.point t else t)
+
+  -- ---- changes
+
+  abbrev if_in : Bool → (point : ℕ) → (NetworkNode → NetworkNode) → Four → Four
+  if_in true point f t = changed_at point f t
+  if_in false point f t = t
+
+  abbrev change_in : Change → Four → Four
+  change_in (Does step) t = if is_node settings step.point then did_in step.what step.point t else t
+  change_in (Restarts point) t = changed_at point (restarted (settings point)) t
+  change_in (GivesUp point link) t = changed_at point (given_up link) t
+  change_in (OpensOutside point link) t = if_in (leads_out settings point link) point (be_led link) t
+  change_in (ComesOutside point link text) t = if_in (leads_out settings point link) point (put_in settings point link text (read_frame text)) t
+
+  if-is : (b : Bool) (point : ℕ) (f : NetworkNode → NetworkNode) (t : Four) → (if b then changed point f (network_of t) else network_of t) ≡ network_of (if_in b point f t)
+  if-is true point f t = changed-is f t point
+  if-is false point f t = refl
+
+  change-is : (change : Change) (t : Four) → after_change settings change (network_of t) ≡ network_of (change_in change t)
+  change-is (Does step) t = one-is step (is_node settings step.point) t
+  change-is (Restarts point) t = changed-is (restarted (settings point)) t point
+  change-is (GivesUp point link) t = changed-is (given_up link) t point
+  change-is (OpensOutside point link) t = if-is (leads_out settings point link) point (be_led link) t
+  change-is (ComesOutside point link text) t = if-is (leads_out settings point link) point (put_in settings point link text (read_frame text)) t
+
+  abbrev pub changes_in : List Change → Four → Four
+  changes_in [] t = t
+  changes_in (change ∷ changes) t = changes_in changes (change_in change t)
+
+  pub changes-in-is : (changes : List Change) (t : Four) → after_changes settings changes (network_of t) ≡ network_of (changes_in changes t)
+  changes-in-is [] t = refl
+  changes-in-is (change ∷ changes) t = ap (after_changes settings changes) (change-is change t) ∙ changes-in-is changes (change_in change t)
+
+-- of the mated pair
 
 abbrev pub run : List Step → Four → Four
-run [] t = t
-run (step ∷ steps) t = run steps (if is_node mated step.point then did_in step.what step.point t else t)
-
-one-is : (step : Step) (b : Bool) (t : Four) → (if b then did mated step.what step.point (network_of t) else network_of t) ≡ network_of (if b then did_in step.what step.point t else t)
-one-is step true t = did-is step.what step.point t
-one-is step false t = refl
+run steps t = run_in mated steps t
 
 pub run-is : (steps : List Step) (t : Four) → after_steps mated steps (network_of t) ≡ network_of (run steps t)
-run-is [] t = refl
-run-is (step ∷ steps) t =
-    ap (after_steps mated steps) (one-is step (is_node mated step.point) t) ∙ run-is steps (if is_node mated step.point then did_in step.what step.point t else t)
+run-is = run-in-is mated

@@ -28,6 +28,7 @@ pub mod Steps
 pub mod Coming
 pub mod Data
 pub mod Handing
+pub mod Malformed
 pub mod BothEnds
 pub mod Opening
 pub mod Outgoing
@@ -64,3 +65,6 @@ pub mod NetworkAnew
 pub mod EachFate
 pub mod HopRun
 pub mod AnewRun
+pub mod Beside
+pub mod OutsideRun
+pub mod NetworkAnewRun

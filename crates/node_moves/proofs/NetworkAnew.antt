@@ -7,7 +7,7 @@ use Rattle.node_moves.proofs.Grown.{same-grown}
 use Rattle.node_moves.proofs.Reading.{says_of}
 use Rattle.node_moves.proofs.Shown.{Shows, IsBooked}
 use Rattle.node_moves.proofs.World.{Shown, rests}
-use Rattle.node_moves.proofs.Running.{all_points, are-all, all-led, all-steps, first-shown}
+use Rattle.node_moves.proofs.Running.{all_points, are-all, all-outside, all-led, all-steps, first-shown}
 use Rattle.node_moves.proofs.Steps.{Reaches}
 use Rattle.node_moves.proofs.Ending.{ends, placed}
 use Rattle.node_moves.proofs.EndToEnd.{across, accounted, end-to-end, are-joined, all-nodes, no-node, sum-nowhere}
@@ -120,7 +120,7 @@ module _ (settings : (point : ℕ) → Configuration) (before : List Change) (st
   at-first x fx = record { lasts = lasts-first all_points says_of; led = all-led (settings x) }
 
   abbrev reached : Comes settings t all_points are-all nobody no-nodes (first_network settings) quiet.first_network start
-  reached = (all-changes settings t all_points are-all nobody no-nodes before (spares-nobody before) (first_network settings)).goes quiet.first_network at-first (first-shown settings t all_points are-all)
+  reached = (all-changes settings t all_points are-all nobody no-nodes (all-outside settings) before (spares-nobody before) (first_network settings)).goes quiet.first_network at-first (first-shown settings t all_points are-all)
 
   abbrev p : Network
   p = last_of quiet.first_network reached.networks

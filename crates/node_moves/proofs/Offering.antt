@@ -30,47 +30,54 @@ mate = transfer_settings 2 1
 abbrev pub offered : Message → Configuration → (from : Option ℕ) → (waiting : Bool) → Node WholeQueues → Done WholeQueues
 offered m c from waiting n = offer whole c (no_room_for whole c m n) waiting (link_of c n.parts (flow_of m)) from m n
 
--- it goes on at the first, and at both, whatever these are doing
-pub record GoesOut (m : Message) : Type 0 where
-  pub handles : (n : Node WholeQueues) → handle_event whole near (Submitted m) n ≡ offered m near None (waits near n.parts.holds m) n
-  pub submits : (n : Node WholeQueues) → apply whole near (Submitted m) n ≡ settled whole near (offered m near None (waits near n.parts.holds m) n)
-  pub enters : (o : Outcome) (n : Node WholeQueues) → brought_to (whither_goes near m) o near m n ≡ taken_in o m
+-- it goes out at a node that made it, whatever that is doing
+pub record GoesOutAt (c : Configuration) (m : Message) : Type 0 where
+  pub handles : (n : Node WholeQueues) → handle_event whole c (Submitted m) n ≡ offered m c None (waits c n.parts.holds m) n
+  pub submits : (n : Node WholeQueues) → apply whole c (Submitted m) n ≡ settled whole c (offered m c None (waits c n.parts.holds m) n)
+  pub enters : (o : Outcome) (n : Node WholeQueues) → brought_to (whither_goes c m) o c m n ≡ taken_in o m
+
+-- at the first, and it goes on at both
+abbrev pub GoesOut : Message → Type 0
+GoesOut m = GoesOutAt near m
 
 pub record GoesOn (m : Message) : Type 0 where
   pub goes_out : GoesOut m
   pub comes : (o : Outcome) (n : Node WholeQueues) → brought_to (whither_goes mate m) o mate m n ≡ taken_in o m
   pub offers : (n : Node WholeQueues) → deliver whole mate 2 m n ≡ note_refusal 2 (offered m mate (Some 2) (waits mate n.parts.holds m) n)
 
--- ---- at point 1 it is submitted
+-- ---- where it is submitted
 
 -- this is left of the exchange, and this is accepted
-abbrev entered_as : Message → Done WholeQueues → (brought lost : List Message) → NetworkNode → NetworkNode
-entered_as m d brought lost x = record x {
+abbrev entered_as : Configuration → Message → Done WholeQueues → (brought lost : List Message) → NetworkNode → NetworkNode
+entered_as c m d brought lost x = record x {
   node = d.left;
   submitted = x.submitted ++ record { message = m; outcome = d.outcome } ∷ [];
   accepted = x.accepted ++ brought;
-  made = x.made ++ made_of near (Some m) brought;
+  made = x.made ++ made_of c (Some m) brought;
   named = x.named ++ lost;
 }
 
 -- by what its release finds
-abbrev lost_after : Done WholeQueues → List Message
-lost_after d = (gone_by_release near d.left).lost
+abbrev lost_after : Configuration → Done WholeQueues → List Message
+lost_after c d = (gone_by_release c d.left).lost
 
-abbrev queued_as : Message → Done WholeQueues → (lost : List Message) → NetworkNode → NetworkNode
-queued_as m d lost x = entered_as m d (taken_in d.outcome m) lost x
+abbrev queued_as : Configuration → Message → Done WholeQueues → (lost : List Message) → NetworkNode → NetworkNode
+queued_as c m d lost x = entered_as c m d (taken_in d.outcome m) lost x
+
+abbrev pub queued_at : Configuration → Message → NetworkNode → NetworkNode
+queued_at c m x = queued_as c m (settled whole c (offered m c None false x.node)) (lost_after c (offered m c None false x.node)) x
+
+module _ (c : Configuration) (m : Message) (on : GoesOutAt c m) where
+  pub is-queued : (x : NetworkNode) → waits c x.node.parts.holds m ≡ false → did_here (Submits m) c x ≡ queued_at c m x
+  is-queued x f =
+      let d : Done WholeQueues = apply whole c (Submitted m) x.node in
+      ap (λ (ms : List Message). entered_as c m d ms (named_by c (Submitted m) x) x) (on.enters d.outcome x.node)
+      ∙ ap (λ (k : Done WholeQueues). queued_as c m d (lost_after c k) x) (on.handles x.node ∙ ap (λ (b : Bool). offered m c None b x.node) f)
+      ∙ ap (λ (k : Done WholeQueues). queued_as c m k (lost_after c (offered m c None false x.node)) x)
+      (on.submits x.node ∙ ap (λ (b : Bool). settled whole c (offered m c None b x.node)) f)
 
 abbrev pub queued : Message → NetworkNode → NetworkNode
-queued m x = queued_as m (settled whole near (offered m near None false x.node)) (lost_after (offered m near None false x.node)) x
-
-module _ (m : Message) (on : GoesOut m) where
-  pub is-queued : (x : NetworkNode) → waits near x.node.parts.holds m ≡ false → did_here (Submits m) near x ≡ queued m x
-  is-queued x f =
-      let d : Done WholeQueues = apply whole near (Submitted m) x.node in
-      ap (λ (ms : List Message). entered_as m d ms (named_by near (Submitted m) x) x) (on.enters d.outcome x.node)
-      ∙ ap (λ (k : Done WholeQueues). queued_as m d (lost_after k) x) (on.handles x.node ∙ ap (λ (b : Bool). offered m near None b x.node) f)
-      ∙ ap (λ (k : Done WholeQueues). queued_as m k (lost_after (offered m near None false x.node)) x)
-      (on.submits x.node ∙ ap (λ (b : Bool). settled whole near (offered m near None b x.node)) f)
+queued m x = queued_at near m x
 
 -- ---- a frame comes to a node
 
@@ -199,7 +206,7 @@ module _ (w : NetworkState) (t : Four) (same : w ≡ network_of t) where
       → after_steps mated (record { point = 1; what = Submits m } ∷ steps) w ≡ network_of (run steps (submitting m t))
   submits-on m on f steps =
       ap (after_steps mated (record { point = 1; what = Submits m } ∷ steps)) same
-      ∙ ap (after_steps mated steps) (placing 1 (did_here (Submits m) near) (queued m t.one) t (is-queued m on t.one f))
+      ∙ ap (after_steps mated steps) (placing 1 (did_here (Submits m) near) (queued m t.one) t (is-queued near m on t.one f))
       ∙ run-is steps (submitting m t)
 
   pub passes-on : (m : Message) → GoesOn m → ComesOn m (next_text 2 t.two) (next_accepted t.two) t.two → (steps : List Step)

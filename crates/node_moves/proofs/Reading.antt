@@ -2,7 +2,8 @@
 -- code, whatever other nodes there are.
 use Rattle.node_moves.proofs.Basics.{◌≡◌, ◌≢◌, ℕ, Bool, true, false, ◌+◌, ◌*◌, ◌^◌, ◌<◌, ◌≤◌, length, Result, Ok, Err, nat_eq, nat_lt, refl, ap, ◌∙◌, arith, nat_tests}
 use Rattle.node_moves.proofs.Machine.{Near, Far, opposite, Saying, UserMessage, Order, Answer, Other, is_user_message, Shape, Place, point_at}
-use Rattle.node_moves.proofs.Definitions.{Message, is_management, dpc_of, opc_of, service_indicator, SIF_OCTETS, testing, Management, MgmtFault, read_management}
+use Rattle.node_moves.proofs.Definitions.{Configuration, Message, is_management, dpc_of, opc_of, service_indicator, SIF_OCTETS, testing, Management, MgmtFault, read_management}
+use Rattle.node_moves.specs.Networks.{is_node}
 use Rattle.mtp3_codec.specs.declared.management.Management.TheVariants as says
 
 -- ---- places
@@ -20,6 +21,10 @@ pub record IsShape (shape : Shape) : Type 0 where
   pub nodes : (point : ℕ) → point < 2 ^ 14 → point < shape.nodes
   pub links : (own other slc : ℕ) → own < 2 ^ 14 → other < 2 ^ 14 → slc < 2 ^ 4 → (place_of own other slc).link < shape.links
   pub points : (own other slc : ℕ) → own < 2 ^ 14 → other < 2 ^ 14 → slc < 2 ^ 4 → point_at shape (place_of own other slc) ≡ own
+
+-- where there is no node a point is outside
+pub record KnowsOutside (settings : (point : ℕ) → Configuration) (shape : Shape) : Type 0 where
+  pub each : (point : ℕ) → is_node settings point ≡ false → shape.outside point ≡ true
 
 same-link : (first second : Bool) (own one other slc code : ℕ) → nat_lt own one ≡ first → nat_lt own other ≡ second → own < 2 ^ 14 → one < 2 ^ 14 → other < 2 ^ 14 → slc < 2 ^ 4 → code < 2 ^ 4
     → (place_by first own one slc).link ≡ (place_by second own other code).link → (one ≡ other) × (slc ≡ code)

@@ -2,7 +2,7 @@
 use Rattle.node_moves.proofs.Basics.{◌≡◌, ◌≢◌, ℕ, Bool, true, false, not, ◌/◌, ◌%◌, ◌^◌, ◌<◌, List, [], ◌∷◌, ◌++◌, length, drop, take, Option, Some, None, nat_lt, slice_get, refl, ap, sym, subst, ◌∙◌, arith, nat_tests, if◌then◌else◌, length-replicate, ⊎_elim, cases_eq}
 use Rattle.node_moves.proofs.Machine.{Side, Near, Far, LinkEnd, Network, Shape, seen, last_of, Sound}
 use Rattle.node_moves.proofs.Definitions.{Configuration, Node, WholeQueues, whole, answer, refuse, is_link, link_at, changeover_of, first_queue, Link, down_link, Standing, no_changeover, is_down, is_in_service}
-use Rattle.node_moves.proofs.Reading.{IsShape, says_of, place_by}
+use Rattle.node_moves.proofs.Reading.{IsShape, KnowsOutside, says_of, place_by}
 use Rattle.node_moves.proofs.Shown.{no_books, IsShown, IsSilent, is_heard}
 use Rattle.node_moves.proofs.Grown.{Grown, same-grown, both-grown, unraised-first, unraised-then, never-raised}
 use Rattle.node_moves.proofs.Going.{IsLed, goes-none, last-append, moves-append}
@@ -41,7 +41,7 @@ point_by Near link = link / 2 ^ 18
 point_by Far link = link / 2 ^ 4 % 2 ^ 14
 
 unfoldable pub all_points : Shape
-all_points = record { nodes = 2 ^ 14; links = 2 ^ 32; point = λ link side. point_by side link; leads = λ link side m. true }
+all_points = record { nodes = 2 ^ 14; links = 2 ^ 32; point = λ link side. point_by side link; leads = λ link side m. true; outside = λ point. true }
 
 line-within : (first : Bool) (own other slc : ℕ) → own < 2 ^ 14 → other < 2 ^ 14 → slc < 2 ^ 4 → (place_by first own other slc).link < 2 ^ 32
 line-within true own other slc a b d = omega (arith, a, b, d)
@@ -63,6 +63,11 @@ are-all = record {
   links = λ own other slc a b d. line-within (nat_lt own other) own other slc a b d;
   points = λ own other slc a b d. point-back (nat_lt own other) own other slc a b d;
 }
+
+-- and any point may be outside
+pub all-outside : (settings : (point : ℕ) → Configuration) → KnowsOutside settings all_points
+unfolding all_points
+all-outside settings = record { each = λ point none. refl }
 
 -- ---- the next text in flight
 

@@ -19,8 +19,7 @@ use Rattle.node_moves.specs.Outside.{ArePlaced, leads_out, put_in}
 -- ---- nodes that start again
 
 -- what is done to a network: a step; a node starts again; a node that may follow the other end of a link gives that up;
--- or, on a link of a node that leads out, the other end opens, and the node may follow, or a frame is in flight to the
--- node
+-- or, on a link of a node that leads out, the other end opens, and the node may follow, or something comes to the node
 pub data Change : Type 0 where
   Does : (step : Step) → Change
   Restarts : (point : ℕ) → Change
@@ -53,7 +52,7 @@ module _ (settings : (point : ℕ) → Configuration) where
       if leads_out settings point link then changed point (be_led link) w else w
   after_change (ComesOutside point link text) w =
       if leads_out settings point link
-      then changed point (put_in (settings point) link text (read_frame text)) w
+      then changed point (put_in settings point link text (read_frame text)) w
       else w
 
   abbrev pub after_changes : List Change → NetworkState → NetworkState

@@ -90,8 +90,8 @@ pub record AreTheirs (settings : (point : ℕ) → Configuration) : Type 0 where
   pub joined : (point link : ℕ) → IsNode settings point → link < length (settings point).links →
       is_some (other_end settings point link) ≡ true
 
-abbrev pub each_message_ends_once : Type 0
-each_message_ends_once =
+abbrev pub each_message_of_a_node_ends_once : Type 0
+each_message_of_a_node_ends_once =
     (settings : (point : ℕ) → Configuration) (steps : List Step) (point : ℕ) → AreTheirs settings →
     IsNode settings point → IsUnbroken settings (after_steps settings steps (first_network settings)) →
     EndsOnce settings (after_steps settings steps (first_network settings)) point

@@ -13,4 +13,6 @@ pub mod Outside
 pub mod Anew
 pub mod EachFate
 pub mod AnewRun
+pub mod OutsideRun
 pub mod NetworkAnew
+pub mod NetworkAnewRun

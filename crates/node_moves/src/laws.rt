@@ -13,7 +13,7 @@ ghost use Rattle.node_moves.specs.EachFate.{each_message_has_its_fate};
 ghost use Rattle.node_moves.specs.EndToEnd.{each_message_is_accounted_for, messages_come_from_end_to_end};
 ghost use Rattle.node_moves.specs.HopRun.{MatesAreAHop};
 ghost use Rattle.node_moves.specs.Hops.{messages_come_over_a_hop, nothing_is_lost_over_a_hop};
-ghost use Rattle.node_moves.specs.Laws.{each_message_ends_once};
+ghost use Rattle.node_moves.specs.Laws.{each_message_of_a_node_ends_once};
 ghost use Rattle.node_moves.specs.LossRun.{NamesWhatIsLost};
 ghost use Rattle.node_moves.specs.Lossless.{flags_tell_of_each_loss, nodes_lose_nothing};
 ghost use Rattle.node_moves.specs.Lossless.{nothing_is_lost_from_end_to_end};
@@ -21,14 +21,16 @@ ghost use Rattle.node_moves.specs.MatedRun.{ComesByTheMate};
 ghost use Rattle.node_moves.specs.NetworkAnew.{ends_begin_anew, first_networks_are_quiet, nodes_begin_anew};
 ghost use Rattle.node_moves.specs.NetworkAnew.{nodes_lose_nothing_anew, nothing_is_lost_from_end_to_end_anew};
 ghost use Rattle.node_moves.specs.NetworkAnew.{sums_begin_anew};
-ghost use Rattle.node_moves.specs.Possible.{links_may_fail, statuses_may_be_harmed};
+ghost use Rattle.node_moves.specs.NetworkAnewRun.{NetworkBeginsAnew};
+ghost use Rattle.node_moves.specs.OutsideRun.{ComesByAnotherLink};
+ghost use Rattle.node_moves.specs.Possible.{links_may_fail, outside_may_say_anything_else, statuses_may_be_harmed};
 
 /// The node law. While no node is broken: of user messages, by any test, those that came from a node to its neighbours
 /// and those that wait there, in Held or on a link, are together no more than it accepted. So a message that it
 /// accepted once comes to one neighbour at most, once at most, and doesn't wait there if it came. The rest, which
 /// neither came nor wait, are gone: by any test, no more than the node named as lost; nor than `messages_lost` counts.
 pub fn each_message_of_a_node_ends_once()
-    ensures { each_message_ends_once }
+    ensures { each_message_of_a_node_ends_once }
 {}
 
 /// What comes to a node it accepts, unless it ends there. So the node laws of neighbours are joined. This asks nothing
@@ -97,8 +99,9 @@ pub fn messages_come_over_a_hop()
 /// neither of the two counts a possible loss, each that it accepted came or waits, and none twice. It is so in both
 /// directions. At first nothing is left between any two nodes. `messages_come_over_a_hop` is the law from there on,
 /// where no node starts again and no link leads out. Links may lead out of the network, to points without a node
-/// (`specs/Outside.antt`): then any frame may come by them whose order or answer, if it has one, is about that link and
-/// from its other end.
+/// (`specs/Outside.antt`): then any frame may come by them, also one that can't be read, unless its message has more
+/// than 272 octets, or is a changeover order or acknowledgement from a node to a node, or an emergency one. So a
+/// neighbour outside may send its own by another link of the set, about one that failed (Q.704 §5.4).
 pub fn hops_begin_anew()
     ensures once { hops_begin_anew }
     ensures flags { nothing_is_lost_anew }
@@ -154,10 +157,29 @@ pub fn a_message_comes_anew()
     ensures { BeginsAnew }
 {}
 
-/// The laws ask this little of links. On a link of a node the next link status in flight may be lost, or come twice.
-/// The association of a link may be lost at any moment, and a tick may pass; the exchange of the node then does what
-/// the rules say.
+/// Nor are those of whole networks anew. Of the same four nodes, each starts again while a message waits at one of them.
+/// It is gone, and nobody names it. Then nothing is left at any node: all links open again, and the next message comes,
+/// once. No node counts a break or a possible loss since.
+pub fn a_network_begins_anew()
+    ensures { NetworkBeginsAnew }
+{}
+
+/// What comes from outside doesn't end the law of hops. Of two nodes that are a hop, a set of two links leads from the one to a point
+/// without a node. One of these fails, and the node awaits the answer to its order. The order and the answer of the
+/// point outside come by the other link (Q.704 §5.4); so the changeover is complete, and the link may open again.
+/// Neither node counts a break or a possible loss, and a message from the one to the other comes, once.
+pub fn an_order_comes_by_another_link()
+    ensures { ComesByAnotherLink }
+{}
+
+/// The laws ask this little of links, and of points outside. On a link of a node the next link status in flight may be
+/// lost, or come twice. The association of a link may be lost at any moment, and a tick may pass; the exchange of the
+/// node then does what the rules say. A link that leads out may open at its other end at any moment, and the node may
+/// follow. Any link status may come by it, any User Data, and what can't be read; but no message of more than 272
+/// octets, no changeover order or acknowledgement from a node to a node or with a number of more than 24 bits, and no
+/// emergency one.
 pub fn the_worst_may_happen()
     ensures statuses { statuses_may_be_harmed }
     ensures links { links_may_fail }
+    ensures outside { outside_may_say_anything_else }
 {}

@@ -58,8 +58,12 @@ impl Network {
         ensures linked { (w : NetworkState) → AreLinked w → (move : Move) → AreLinked (after_move move w) }
     {}
 
-    /// What holds since the books began anew, between any two calls, whatever the routes, where each link has its other
-    /// end in the network, if it was quiet then, until a node starts again or gives up following.
+    /// What holds since the books began anew, between any two calls, whatever the routes.
+    ///
+    /// Whatever was left, lost or broken, and however often nodes start again: what a node accepted since, and what it
+    /// refused since of the messages for other points, is what entered there since, and what came since for other
+    /// points. The rest is said where each link has its other end in the network, if it was quiet when the books began,
+    /// until a node starts again or gives up following.
     ///
     /// While no node counts one break more: at each node, as many user messages as it accepted since came from it to
     /// its neighbours, wait, or are gone, and no more are gone than it counted as lost since; and as many as entered
@@ -67,6 +71,8 @@ impl Network {
     /// if all have its network indicator. While none counts a possible loss more, none is gone (laws of `node_law`).
     /// This says so by its contract, and does nothing.
     pub fn node_laws_since(&self)
+        ensures taken { (from : NetworkState) (changes : List Change) → RunsSince self.now from changes →
+            (point : ℕ) → TakesOrRefuses (since from changes) point }
         ensures ends { HoldsLinkedSince self.now (SinceQuiet NoneBrokenSince
             (λ points from w. (point : ℕ) → is_listed points point ≡ true → EndsOnceSince from w point)
             (points_of self.now)) }

@@ -5,8 +5,12 @@ use Rattle.node_law.specs.Anew.{EndsOnceSince, NoneBrokenSince, SinceQuiet}
 use Rattle.node_law.specs.Ends.{EndsWhole}
 use Rattle.node_law.specs.Sums.{AreAccountedFor, ComeToNode, ComeWhole, IsWhole, ToEach}
 use Rattle.node_law.proofs.AnewNetworks as anew
+use Rattle.node_law.proofs.PassedOn.{all-taken-anew}
 use Rattle.network_world.proofs.NodeLawsSince.{always-since, linked-before, linked-since}
 use Rattle.network_world.proofs.network.Network.node_laws_since.Goals as goal
+
+pub returns-clause-taken : goal.returns-clause-taken
+returns-clause-taken c = λ from changes s point. all-taken-anew from changes point
 
 pub returns-clause-ends : goal.returns-clause-ends
 returns-clause-ends c = λ from changes s linked.
