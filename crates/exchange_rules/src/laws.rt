@@ -303,13 +303,14 @@ pub fn user_messages_are_conserved()
     ensures always { all_that_came_adds_up }
 {}
 
-/// Flags rise only for their reasons, and each reason is named. Of every event:
+/// Flags rise only for their reasons, and each reason is named, but a completion without a reasonable number. Of every
+/// event:
 ///
 /// - the notices that name a user message as lost (Lost) are those of what it loses, in order: what its completions
 ///   leave in doubt, then what its release finds without a route;
 /// - those of management sent in vain (Unsent) are those of what it sends so, in order: orders to change over and their
 ///   answers, what a completion queues again, acknowledgements of changeback declarations, answers to route set tests
-///   and link tests, route set tests, UPU, TFP about a message without a route, and what adjacent points are owed;
+///   and link tests, route set tests, TFP about a message without a route, and what adjacent points are owed;
 /// - those of T2 are of each T2 that runs out, and of each bar that the operator ends: Unbarred where links are barred
 ///   and the changeover was complete, else Expired;
 /// - those of lateness (Late) are of each T3 and each T4 that runs out, and so ends holds.
@@ -323,7 +324,8 @@ pub fn user_messages_are_conserved()
 /// Management is sent in three ways: on the link of its flow, on a given link, and, queued anew, on the link of its
 /// flow without a look at room. In each it goes to the end of that link's queue; or it finds no room or no link, and is
 /// given up, with why. A changeback declaration and a link test of this node's own are sent in none of them: where
-/// one finds no room it isn't made (`flows_return_by_the_procedures_of_their_links`).
+/// one finds no room it isn't made (`flows_return_by_the_procedures_of_their_links`). Nor is UPU, which isn't made where
+/// it finds no room or no link (`absent_user_parts_are_told_once_in_eight`).
 pub fn what_is_lost_is_named()
     ensures event { events_account_for_losses }
     ensures management { management_is_named }
