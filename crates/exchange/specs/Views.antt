@@ -6,7 +6,7 @@ use Rattle.link.specs.declared.alignment.Alignment.TheVariants as alignment
 use Rattle.routes.specs.declared.route.Route.{Route}
 use Rattle.routes.specs.declared.route.RouteStatus.{RouteStatus}
 use Rattle.routes.specs.declared.route.RouteStatus.TheVariants.{Prohibited}
-use Rattle.routes.specs.Routes.{chosen_routes, sets_of}
+use Rattle.routes.specs.Routes.{chosen_routes, sets_of, status_of}
 use Rattle.exchange.specs.declared.view.LinkStanding.{LinkStanding}
 use Rattle.exchange.specs.declared.view.LinkStanding.TheVariants as standing
 use Rattle.exchange.specs.declared.view.LinkView.{LinkView}
@@ -90,3 +90,7 @@ abbrev pub route_view : {Q : Type 0} → State Q → ℕ → Option RouteView
 route_view s destination =
     option_map (λ row. route_shown row.point (chosen_routes (facts s.settings s.node.parts) destination))
     (slice_get s.settings.destinations destination)
+
+-- the status of the route to a destination over a set, if there is one
+abbrev pub route_status : {Q : Type 0} → State Q → (destination set : ℕ) → Option RouteStatus
+route_status s destination set = status_of (facts s.settings s.node.parts) destination set

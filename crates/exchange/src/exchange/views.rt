@@ -9,13 +9,14 @@ ghost use Rattle.exchange.specs.KeptQueues.{kept};
 ghost use Rattle.exchange_rules.specs.Queues.{whole};
 ghost use Rattle.exchange_rules.specs.Places.{HasPlacesFor};
 ghost use Rattle.sccp_relay.specs.Rows.{IsOrdered};
-ghost use Rattle.exchange.specs.Views.{link_view, obstacle_at, route_view};
+ghost use Rattle.exchange.specs.Views.{link_view, obstacle_at, route_status, route_view};
 
 use super::Exchange;
 use crate::view::{LinkStanding, LinkView, NewNotices, Obstacle, RouteView, status_shown};
 use circular_buffer::HeapCircularBuffer;
+use routes::RouteStatus;
 use sccp_relay::Titles;
-use settings::{LinkId, Notice, Settings, TitleRow};
+use settings::{LinkId, Notice, SetId, Settings, TitleRow};
 
 impl Exchange {
     /// The settings that the exchange was booted with.
@@ -178,6 +179,15 @@ impl Exchange {
             sets: self.links.facts().sets_of(destination),
             status: status_shown(&self.links.facts().routes_of(destination)),
         })
+    }
+
+    /// The status of the route over a set to a destination, by its number in the order of the settings; `None` if no
+    /// such route is there. It takes a step for each set that leads to the destination.
+    pub fn route_status(&self, destination: usize, set: SetId) -> Option<RouteStatus>
+        ensures status { (a : Abstract) → StandsFor self.now a → result ≡ route_status a destination set }
+        ensures kept_status { result ≡ route_status self.now destination set }
+    {
+        self.links.facts().status_of(destination, set)
     }
 
     /// A translation row, by its number in the order of the rows: by translation type, plan, nature, then digit by
