@@ -14,6 +14,21 @@ pub record TellsUtc : Type 0 where
   pub last : utc_text 253_402_300_799_999 ≡ codes "9999-12-31T23:59:59.999Z"
   pub behind : utc_text 253_402_300_800_000 ≡ codes "9999-12-31T23:59:59.999Z"
 
+-- the first of each month of a year
+pub record TellsMonths : Type 0 where
+  pub january : utc_text 1_798_761_600_000 ≡ codes "2027-01-01T00:00:00.000Z"
+  pub february : utc_text 1_801_440_000_000 ≡ codes "2027-02-01T00:00:00.000Z"
+  pub march : utc_text 1_803_859_200_000 ≡ codes "2027-03-01T00:00:00.000Z"
+  pub april : utc_text 1_806_537_600_000 ≡ codes "2027-04-01T00:00:00.000Z"
+  pub may : utc_text 1_809_129_600_000 ≡ codes "2027-05-01T00:00:00.000Z"
+  pub june : utc_text 1_811_808_000_000 ≡ codes "2027-06-01T00:00:00.000Z"
+  pub july : utc_text 1_814_400_000_000 ≡ codes "2027-07-01T00:00:00.000Z"
+  pub august : utc_text 1_817_078_400_000 ≡ codes "2027-08-01T00:00:00.000Z"
+  pub september : utc_text 1_819_756_800_000 ≡ codes "2027-09-01T00:00:00.000Z"
+  pub october : utc_text 1_822_348_800_000 ≡ codes "2027-10-01T00:00:00.000Z"
+  pub november : utc_text 1_825_027_200_000 ≡ codes "2027-11-01T00:00:00.000Z"
+  pub december : utc_text 1_827_619_200_000 ≡ codes "2027-12-01T00:00:00.000Z"
+
 -- an octet that ends no string: neither a control character nor a quotation mark
 abbrev pub is_within_string : (octet : ℕ) → Bool
 is_within_string octet = not (nat_lt octet 32 || nat_eq octet 34)

@@ -34,6 +34,7 @@ warns text = begins (codes "alarm ") text || begins (codes "flag ") text || begi
 abbrev pub tells_a_change : (text : List ℕ) → Bool
 tells_a_change text =
     begins (codes "link ") text || begins (codes "set ") text || begins (codes "destination ") text
+    || begins (codes "clear ") text
 
 -- what was ordered, and what else an operator may want to know
 abbrev pub tells_news : (text : List ℕ) → Bool

@@ -9,9 +9,9 @@ ghost use Rattle.served_link.specs.Severities.{tells_a_change, tells_news, warns
 pub enum Severity {
     /// An alarm, a flag, or lines that were missed.
     Warning,
-    /// A change of a link, a set or a destination, an order, a notice.
+    /// A change of a link, a set or a destination, that an alarm is cleared, an order, a notice.
     Notice,
-    /// What became of a socket, and that an alarm is cleared.
+    /// What became of a socket.
     Info,
     /// That a client came or went.
     Debug,
@@ -76,7 +76,10 @@ fn warns(text: &[u8]) -> bool
 fn tells_a_change(text: &[u8]) -> bool
     ensures { result ≡ tells_a_change text.now }
 {
-    begins(text, b"link ") || begins(text, b"set ") || begins(text, b"destination ")
+    begins(text, b"link ")
+        || begins(text, b"set ")
+        || begins(text, b"destination ")
+        || begins(text, b"clear ")
 }
 
 /// Whether a text says what was ordered, or what else an operator may want to know.
