@@ -57,14 +57,14 @@ link states s k (Some row) (Some view) =
 link states s k (Some row) None = nothing-none
 link states s k None view = nothing-none
 
-route : (points : PointFormat) (c : Configuration) (row : Option DestinationEntry) (view : Option RouteView) → AllNone (text.row_of_route points c row view)
-route points c (Some row) (Some view) =
+route : (points : PointFormat) (s : Kept) (k : ℕ) (row : Option DestinationEntry) (view : Option RouteView) → AllNone (text.row_of_route points s k row view)
+route points s k (Some row) (Some view) =
     line-none
-    (cell 11 (point_text points view.point) ++ cell 10 (status_name view.status) ++ cell 24 (sets_text c view.sets.items)
-    ++ codes " " ++ text.each_set c row.sets)
+    (cell 11 (point_text points view.point) ++ cell 10 (status_name view.status) ++ cell 24 (sets_text s.settings view.sets.items)
+    ++ codes " " ++ text.each_route s k row.sets)
     refl
-route points c (Some row) None = nothing-none
-route points c None view = nothing-none
+route points s k (Some row) None = nothing-none
+route points s k None view = nothing-none
 
 -- ---- facts about a link
 
@@ -111,14 +111,14 @@ head listing.Links = record {
   whole = refl;
   none = (refl, tt);
 }
-head listing.Routes = record { lines = codes "  DESTINATION  STATUS      SETS TAKEN                ALL SETS" ∷ []; whole = refl; none = (refl, tt) }
+head listing.Routes = record { lines = codes "  DESTINATION  STATUS      SETS TAKEN                ROUTES" ∷ []; whole = refl; none = (refl, tt) }
 head (listing.Link k) = nothing-none
 
 entry : (points : PointFormat) (tick_ms : ℕ) (states : List StateSince) (s : Kept) (l : Listing) (k : ℕ) → AllNone (text.entry_of points tick_ms states s l k)
 entry points tick_ms states s listing.Timers k = timer tick_ms (slice_get (keyed_timers s.settings.timers) k)
 entry points tick_ms states s listing.Sets k = set points s k (slice_get s.settings.sets k)
 entry points tick_ms states s listing.Links k = link states s k (slice_get s.settings.links k) (link_view kept s k)
-entry points tick_ms states s listing.Routes k = route points s.settings (slice_get s.settings.destinations k) (route_view s k)
+entry points tick_ms states s listing.Routes k = route points s k (slice_get s.settings.destinations k) (route_view s k)
 entry points tick_ms states s (listing.Link named) k = link-fact points states s named (slice_get LINK_FACTS.now k)
 
 pub listings : (points : PointFormat) (tick_ms : ℕ) (states : List StateSince) (s : Kept) (l : Listing) → AllNone (text.listing_text points tick_ms states s l)

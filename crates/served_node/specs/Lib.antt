@@ -6,6 +6,7 @@ pub mod Captured
 pub mod Lines
 pub mod LineLimits
 pub mod Listening
+pub mod ListingLaws
 pub mod Listings
 pub mod Tables
 pub mod Logging

@@ -7,10 +7,11 @@ use Rattle.settings.specs.Points.{point_text}
 use Rattle.settings.specs.declared.point.PointFormat.{PointFormat}
 use Rattle.exchange.specs.Calls.{Kept}
 use Rattle.exchange.specs.KeptQueues.{kept}
-use Rattle.exchange.specs.Views.{is_barred_at, link_view, route_view, standing_name}
+use Rattle.exchange.specs.Views.{is_barred_at, link_view, route_status, route_view, standing_name}
 use Rattle.exchange.specs.declared.view.LinkView.{LinkView}
 use Rattle.exchange.specs.declared.view.RouteView.{RouteView}
 use Rattle.routes.specs.Routes.{status_name}
+use Rattle.routes.specs.declared.route.RouteStatus.{RouteStatus}
 use Rattle.console.specs.Names.{set_name_in}
 use Rattle.console.specs.Texts.{given_text, sets_text}
 use Rattle.console.specs.TimerKeys.{KeyedTimer, keyed_timers}
@@ -121,23 +122,29 @@ row_of_link states s link None view = []
 -- ---- destinations
 
 abbrev pub routes_head : List ℕ
-routes_head = codes "  DESTINATION  STATUS      SETS TAKEN                ALL SETS\n"
+routes_head = codes "  DESTINATION  STATUS      SETS TAKEN                ROUTES\n"
 
--- the names of some sets, each behind a blank
-abbrev pub each_set : Configuration → List ℕ → List ℕ
-each_set c [] = []
-each_set c (set ∷ sets) = codes " " ++ set_name_in c set ++ each_set c sets
+abbrev pub status_words : Option RouteStatus → List ℕ
+status_words (Some status) = status_name status
+status_words None = codes "-"
 
--- the status of the routes that messages take, and the sets that these lead over; then all sets that routes lead over
-abbrev pub route_row : PointFormat → Configuration → (sets : List ℕ) → RouteView → List ℕ
-route_row points c sets view =
-    cell 11 (point_text points view.point) ++ cell 10 (status_name view.status) ++ cell 24 (sets_text c view.sets.items)
-    ++ codes " " ++ each_set c sets ++ codes "\n"
+-- some sets that lead to a destination, each behind a blank, and the status of the route over it behind a colon
+abbrev pub each_route : Kept → (destination : ℕ) → (sets : List ℕ) → List ℕ
+each_route s destination [] = []
+each_route s destination (set ∷ sets) =
+    codes " " ++ set_name_in s.settings set ++ codes ":" ++ status_words (route_status s destination set)
+    ++ each_route s destination sets
 
-abbrev pub row_of_route : PointFormat → Configuration → Option DestinationEntry → Option RouteView → List ℕ
-row_of_route points c (Some row) (Some view) = route_row points c row.sets view
-row_of_route points c (Some row) None = []
-row_of_route points c None view = []
+-- the status of the routes that messages take, and the sets that these lead over; then all routes
+abbrev pub route_row : PointFormat → Kept → (destination : ℕ) → (sets : List ℕ) → RouteView → List ℕ
+route_row points s destination sets view =
+    cell 11 (point_text points view.point) ++ cell 10 (status_name view.status)
+    ++ cell 24 (sets_text s.settings view.sets.items) ++ codes " " ++ each_route s destination sets ++ codes "\n"
+
+abbrev pub row_of_route : PointFormat → Kept → (destination : ℕ) → Option DestinationEntry → Option RouteView → List ℕ
+row_of_route points s destination (Some row) (Some view) = route_row points s destination row.sets view
+row_of_route points s destination (Some row) None = []
+row_of_route points s destination None view = []
 
 -- ---- a link, a fact a line
 
@@ -206,7 +213,7 @@ entry_of points tick_ms states s listing.Sets k = row_of_set points s k (slice_g
 entry_of points tick_ms states s listing.Links k =
     row_of_link states s k (slice_get s.settings.links k) (link_view kept s k)
 entry_of points tick_ms states s listing.Routes k =
-    row_of_route points s.settings (slice_get s.settings.destinations k) (route_view s k)
+    row_of_route points s k (slice_get s.settings.destinations k) (route_view s k)
 entry_of points tick_ms states s (listing.Link link) k = link_fact points states s link (slice_get LINK_FACTS.now k)
 
 abbrev pub length_of : Kept → Listing → ℕ

@@ -19,6 +19,7 @@ mod journal;
 mod line_kind;
 pub mod line_limits;
 pub mod listener;
+pub mod listing_laws;
 pub mod log;
 mod log_output;
 mod missed_notices;

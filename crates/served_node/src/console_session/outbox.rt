@@ -8,8 +8,9 @@ use script::{Sink, WriteFailed};
 use std::alloc::Global;
 use std::marker::Model;
 
-/// Octets that wait for one client, at most. The longest answer, of 65,535 translation rows, fits in it.
-pub const OUTBOX_OCTETS: usize = 8_388_608;
+/// Octets that wait for one client, at most. The longest answer, the settings of the largest node, fits in it: 65,535
+/// translation rows of 243 octets, 4,096 destinations of 460, and less than a million octets besides.
+pub const OUTBOX_OCTETS: usize = 20_971_520;
 
 /// Octets that are to be written to a client. A write for which there is no room fails, and nothing of it is kept.
 #[derive(Drop)]
