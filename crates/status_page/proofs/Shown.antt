@@ -1,6 +1,7 @@
 -- What was shown.
 use Rattle.std.proofs.Common.{◌≡◌, ◌∙◌, ◌++◌, ℕ, Bool, true, false, true≢false, List, Option, Some, None, Result, ap, sym, refl, subst}
 use Rattle.console.specs.Texts.{Shows}
+use Rattle.exchange.specs.Calls.{Kept}
 use Rattle.exchange.specs.declared.view.RouteView.{RouteView}
 use Rattle.json.specs.Written.{Written}
 use Rattle.settings.specs.declared.point.PointFormat.{PointFormat}
@@ -17,13 +18,14 @@ line_missing (Some l) shown text text_new h f = absurd (true≢false (sym h.0 �
 line_missing None shown text text_new h f = refl
 
 -- a destination that is there
-pub route_put : {E : Type 0} (points : PointFormat) (c d : Configuration) (ways sets : List ℕ) (shown : Option RouteView) (v : RouteView)
-    (r : Result (Unit {0}) E) (old new : Written)
-    → Some v ≡ shown → c ≡ d → ways ≡ sets → Adds r old new (route_object points c ways v) → Adds r old new (shown_route points d sets shown)
-route_put points c d ways sets shown v r old new e f g h =
-    subst (λ (x : Option RouteView). Adds r old new (shown_route points d sets x)) e
-    (subst (λ (x : Configuration). Adds r old new (route_object points x sets v)) f
-    (subst (λ (x : List ℕ). Adds r old new (route_object points c x v)) g h))
+pub route_put : {E : Type 0} (points : PointFormat) (c d : Configuration) (s : Kept) (destination : ℕ) (ways sets : List ℕ)
+    (shown : Option RouteView) (v : RouteView) (r : Result (Unit {0}) E) (old new : Written)
+    → Some v ≡ shown → c ≡ d → ways ≡ sets → Adds r old new (route_object points c s destination ways v)
+    → Adds r old new (shown_route points d s destination sets shown)
+route_put points c d s destination ways sets shown v r old new e f g h =
+    subst (λ (x : Option RouteView). Adds r old new (shown_route points d s destination sets x)) e
+    (subst (λ (x : Configuration). Adds r old new (route_object points x s destination sets v)) f
+    (subst (λ (x : List ℕ). Adds r old new (route_object points c s destination x v)) g h))
 
 -- what is shown of these settings is shown of the node's, which they are
 pub place_put : (points : PointFormat) (c d : Configuration) (old new : Written) → c ≡ d

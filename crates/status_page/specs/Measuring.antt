@@ -29,7 +29,9 @@ use Rattle.exchange_rules.specs.State.{QueueKind, State, lost_any, late_any}
 use Rattle.exchange.specs.declared.view.LinkStanding.{LinkStanding}
 use Rattle.exchange.specs.declared.view.LinkStanding.TheVariants.{Down, NotAligned, Aligned, Proving}
 use Rattle.exchange.specs.declared.view.LinkStanding.TheVariants.{AlignedReady, InService}
-use Rattle.exchange.specs.Views.{link_view, may_restart_at, is_barred_at, route_view}
+use Rattle.exchange.specs.declared.view.Obstacle.{Obstacle}
+use Rattle.exchange.specs.declared.view.Obstacle.TheVariants.{Untested, PeerOutage, PeerBusy}
+use Rattle.exchange.specs.Views.{link_view, may_restart_at, is_barred_at, obstacle_at, route_view}
 use Rattle.status_page.specs.declared.metric.NodeMetric.{NodeMetric}
 use Rattle.status_page.specs.declared.metric.NodeMetric.TheVariants as of_node
 use Rattle.status_page.specs.declared.metric.LinkMetric.{LinkMetric}
@@ -72,8 +74,17 @@ is_down Proving = false
 is_down AlignedReady = false
 is_down InService = false
 
+-- what keeps user messages off a link in service (Q.704 §3.2): its first test hasn't passed, or the peer's processor is
+-- out; a busy peer leaves it available
+abbrev pub keeps_off : Option Obstacle → Bool
+keeps_off None = false
+keeps_off (Some Untested) = true
+keeps_off (Some PeerOutage) = true
+keeps_off (Some PeerBusy) = false
+
 abbrev pub is_in_service : {Q : Type 0} → QueueKind Q → State Q → ℕ → Bool
-is_in_service q s link = unwrap_or (option_map (λ v. is_service v.standing) (link_view q s link)) false
+is_in_service q s link =
+    unwrap_or (option_map (λ v. is_service v.standing) (link_view q s link)) false && not (keeps_off (obstacle_at s link))
 
 -- whether it is down, and its changeover isn't complete or an acknowledgement of its changeover order is awaited
 abbrev pub is_changing_over : {Q : Type 0} → QueueKind Q → State Q → ℕ → Bool

@@ -7,10 +7,11 @@ use Rattle.settings.specs.Configuration.{Configuration, SetEntry}
 use Rattle.settings.specs.Points.{point_text}
 use Rattle.settings.specs.declared.point.PointFormat.{PointFormat}
 use Rattle.routes.specs.Routes.{status_name}
+use Rattle.routes.specs.declared.route.RouteStatus.{RouteStatus}
 use Rattle.exchange_rules.specs.State.{QueueKind, State}
 use Rattle.exchange.specs.declared.view.LinkView.{LinkView}
 use Rattle.exchange.specs.declared.view.RouteView.{RouteView}
-use Rattle.exchange.specs.Views.{link_view, is_barred_at, route_view, standing_name}
+use Rattle.exchange.specs.Views.{link_view, is_barred_at, route_status, route_view, standing_name}
 use Rattle.console.specs.Names.{name_in, set_name_in}
 use Rattle.console.specs.Texts.{notice_line}
 use Rattle.served_link.specs.declared.counter.Counter.{Counter}
@@ -117,20 +118,33 @@ set_tokens points set =
 abbrev pub set_names : Configuration → List ℕ → List Token
 set_names c sets = flat_map (λ set. string (set_name_in c set) ∷ []) sets
 
--- a destination, the sets that messages take to it, all that lead there, and the status of those that messages take
-abbrev pub route_object : PointFormat → Configuration → (ways : List ℕ) → RouteView → List Token
-route_object points c ways v =
+-- a status in words; - if there is no such route
+abbrev pub way_status : Option RouteStatus → List ℕ
+way_status (Some status) = status_name status
+way_status None = codes "-"
+
+-- the statuses of the routes over these sets
+unfoldable pub way_statuses : {Q : Type 0} → State Q → (destination : ℕ) → List ℕ → List Token
+way_statuses s destination ways = flat_map (λ way. string (way_status (route_status s destination way)) ∷ []) ways
+
+-- a destination, the sets that messages take to it, all that lead there, the statuses of the routes over these, and the
+-- status of those that messages take
+abbrev pub route_object :
+    {Q : Type 0} → PointFormat → Configuration → State Q → (destination : ℕ) → (ways : List ℕ) → RouteView → List Token
+route_object points c s destination ways v =
     object (text_member (codes "point") (point_text points v.point)
     ++ array_member (codes "sets") (set_names c v.sets.items)
     ++ array_member (codes "ways") (set_names c ways)
+    ++ array_member (codes "way_statuses") (way_statuses s destination ways)
     ++ text_member (codes "status") (status_name v.status))
 
-abbrev pub shown_route : PointFormat → Configuration → (ways : List ℕ) → Option RouteView → List Token
-shown_route points c ways None = []
-shown_route points c ways (Some v) = route_object points c ways v
+abbrev pub shown_route :
+    {Q : Type 0} → PointFormat → Configuration → State Q → (destination : ℕ) → (ways : List ℕ) → Option RouteView → List Token
+shown_route points c s destination ways None = []
+shown_route points c s destination ways (Some v) = route_object points c s destination ways v
 
 unfoldable pub route_tokens : {Q : Type 0} → PointFormat → State Q → ℕ → List Token
-route_tokens points s k = shown_route points s.settings (sets_to s.settings k) (route_view s k)
+route_tokens points s k = shown_route points s.settings s k (sets_to s.settings k) (route_view s k)
 
 -- ---- notices
 

@@ -3,7 +3,7 @@
 ghost use Rattle.std.specs.Prelude.{◌≡◌, slice_get};
 ghost use Rattle.exchange.specs.KeptQueues.{kept};
 ghost use Rattle.status_page.specs.Facts.{facts_of};
-ghost use Rattle.status_page.specs.Measuring.{association_of, count_if, is_changing_over, is_in_service};
+ghost use Rattle.status_page.specs.Measuring.{association_of, count_if, is_changing_over, is_in_service, keeps_off};
 ghost use Rattle.status_page.specs.Measuring.{is_shown_at_zero, is_watched, link_value, messages_of, round_trip_of};
 ghost use Rattle.status_page.specs.Measuring.{seen_of, unavailabilities, unavailable_ms, waiting_on};
 
@@ -11,7 +11,7 @@ use crate::counted::counters_of;
 use crate::facts::Facts;
 use crate::measuring::bit;
 use crate::metric::LinkMetric;
-use exchange::{Exchange, LinkStanding};
+use exchange::{Exchange, LinkStanding, Obstacle};
 use served_link::{
     AssociationStatus, Counter, Counters, LinkMessages, ServiceStates, StateSince, UnavailableTimes,
 };
@@ -139,14 +139,23 @@ pub(crate) fn unavailabilities(times: &UnavailableTimes, number: usize) -> u64
     }
 }
 
-/// Whether a link is in service.
+/// Whether a link is in service, and user messages may take it (Q.704 §3.2).
 pub(crate) fn is_in_service(exchange: &Exchange, link: LinkId) -> bool
     ensures { result ≡ is_in_service kept exchange.now link }
 {
     match exchange.link(link) {
-        Some(view) => matches!(view.standing, LinkStanding::InService),
+        Some(view) => {
+            matches!(view.standing, LinkStanding::InService) && !keeps_off(exchange.obstacle(link))
+        }
         None => false,
     }
+}
+
+/// Whether this keeps user messages off a link that is in service.
+fn keeps_off(obstacle: Option<Obstacle>) -> bool
+    ensures { result ≡ keeps_off obstacle }
+{
+    matches!(obstacle, Some(Obstacle::Untested | Obstacle::PeerOutage))
 }
 
 /// Whether a link is down, and its changeover isn't complete or an acknowledgement of its changeover order is awaited.

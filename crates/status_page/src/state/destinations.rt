@@ -3,11 +3,11 @@
 ghost use Rattle.std.specs.Prelude.{◌≡◌, codes, length};
 ghost use Rattle.status_page.specs.Each.{each};
 ghost use Rattle.status_page.specs.Members.{Adds, array_member};
-ghost use Rattle.status_page.specs.States.{route_object, route_tokens, set_names};
+ghost use Rattle.status_page.specs.States.{route_object, route_tokens, set_names, way_status, way_statuses};
 
 use crate::members::put_text;
 use crate::places::{set_name, sets_to};
-use exchange::{Exchange, RouteView};
+use exchange::{Exchange, RouteStatus, RouteView};
 use json::Writer;
 use settings::{PointFormat, Settings, point_text};
 use signalling_types::SetId;
@@ -56,6 +56,8 @@ fn put_route(
     match exchange.route(destination) {
         Some(view) => put_shown_route(
             exchange.settings(),
+            exchange,
+            destination,
             sets_to(exchange.settings(), destination),
             &view,
             points,
@@ -65,20 +67,23 @@ fn put_route(
     }
 }
 
-/// Appends the object of a destination that is shown like this, to which these sets lead.
+/// Appends the object of a destination of these settings that is shown like this, to which these sets lead.
 fn put_shown_route(
     settings: &Settings,
+    exchange: &Exchange,
+    destination: usize,
     ways: &[SetId],
     view: &RouteView,
     points: PointFormat,
     out: &mut Writer,
 ) -> Result<(), AllocError>
-    ensures { Adds result out.old out.new (route_object points settings.now ways.now view.now) }
+    ensures { Adds result out.old out.new (route_object points settings.now exchange.now destination ways.now view.now) }
 {
     out.begin_object()?;
     put_text(out, "point", point_text(view.point, points).as_str())?;
     put_set_names(settings, "sets", &view.sets, out)?;
     put_set_names(settings, "ways", ways, out)?;
+    put_way_statuses(exchange, destination, ways, out)?;
     put_text(out, "status", view.status.name())?;
     out.end_object()
 }
@@ -107,4 +112,46 @@ fn put_each_name(settings: &Settings, sets: &[SetId], out: &mut Writer) -> Resul
         out.string(set_name(settings, *set))?;
     }
     Ok(())
+}
+
+/// Appends the array of the statuses of the routes to a destination over these sets.
+fn put_way_statuses(
+    exchange: &Exchange,
+    destination: usize,
+    ways: &[SetId],
+    out: &mut Writer,
+) -> Result<(), AllocError>
+    ensures { Adds result out.old out.new
+        (array_member (codes "way_statuses") (way_statuses exchange.now destination ways.now)) }
+{
+    out.key("way_statuses")?;
+    out.begin_array()?;
+    put_each_status(exchange, destination, ways, out)?;
+    out.end_array()
+}
+
+/// Appends the statuses of the routes to a destination over these sets.
+#[tactic(auto, unfolding(crate::specs::States::way_statuses))]
+fn put_each_status(
+    exchange: &Exchange,
+    destination: usize,
+    ways: &[SetId],
+    out: &mut Writer,
+) -> Result<(), AllocError>
+    ensures { Adds result out.old out.new (way_statuses exchange.now destination ways.now) }
+{
+    for way in ways {
+        out.string(way_status(exchange.route_status(destination, *way)))?;
+    }
+    Ok(())
+}
+
+/// The status of a route in words; `-` if there is none.
+fn way_status(status: Option<RouteStatus>) -> &'static str
+    ensures { result.now ≡ way_status status }
+{
+    match status {
+        Some(status) => status.name(),
+        None => "-",
+    }
 }

@@ -92,11 +92,14 @@ function showLinks(state) {
   });
 }
 
-// A set that leads to a destination: whether its messages take it, and whether it has a link in service.
-function wayOf(state, route, name) {
-  if (route.sets.includes(name)) return ['good', '● ' + name];
-  const isUp = state.links.some(link => link.set === name && link.state === 'InService');
-  return isUp ? ['quiet', '○ ' + name] : ['bad', '○ ' + name + ' (down)'];
+// A set that leads to a destination: whether its messages take it, the status of the route over it if it isn't allowed,
+// and whether it has a link in service.
+function wayOf(state, route, name, i) {
+  const status = route.way_statuses[i], told = status === 'allowed' ? '' : ' (' + status + ')';
+  if (route.sets.includes(name)) return ['good', '● ' + name + told];
+  const isUp = state.links.some(link => link.set === name && link.service === 'in service');
+  if (!isUp) return ['bad', '○ ' + name + ' (down)'];
+  return [told ? 'bad' : 'quiet', '○ ' + name + told];
 }
 
 function showWays(cell, ways) {
@@ -116,7 +119,7 @@ function showRoutes(state) {
   shown.forEach((route, i) => {
     const [point, sets, status] = body.children[i].children, [kind, text] = STATUSES[route.status];
     setText(point, route.point);
-    showWays(sets, route.ways.map(name => wayOf(state, route, name)));
+    showWays(sets, route.ways.map((name, i) => wayOf(state, route, name, i)));
     status.className = kind;
     setText(status, text);
   });

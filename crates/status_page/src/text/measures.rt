@@ -83,7 +83,7 @@ const rounded = n => n >= 100 || n === 0 ? count(Math.round(n)) : n.toFixed(1);
 // Each tile: its name, what it counts, its value, and how good that is.
 function glance(state) {
   const raised = n => n ? '⚠ ' + count(n) + (n === 1 ? ' time' : ' times') : 'none';
-  const up = state.links.filter(link => link.state === 'InService').length;
+  const up = state.links.filter(link => link.service === 'in service').length;
   const open = state.routes.filter(route => route.status !== 'prohibited').length;
   const over = state.links.filter(link => link.service === 'changing over').length;
   const done = state.links.reduce((sum, link) => sum + link.changeovers, 0);
