@@ -13,8 +13,8 @@ LOST = 100
 LINE_OCTETS = 8300
 QUESTIONS = 6000
 HELP_LINES = 35
-ROUTES = ["  DESTINATION  STATUS      SETS TAKEN                ALL SETS",
-          f"  {FAR}            allowed     to-{FAR}                      to-{FAR}"]
+ROUTES = ["  DESTINATION  STATUS      SETS TAKEN                ROUTES",
+          f"  {FAR}            allowed     to-{FAR}                      to-{FAR}:allowed"]
 FLAGS = ["flag lost_any 0", "flag late_any 0"]
 
 # What a web page may have a browser write to any port, without the body.
@@ -124,7 +124,8 @@ class Callers(NodeTest):
         self.assertEqual(head.split(), ["LINK", "SET", "STATE", "SINCE", "ALIGNMENT", "WAITING", "FSN", "BSN"])
         self.assertEqual(len(shown), 3)
         for number, line in enumerate(shown):
-            self.assertRegex(line, rf"^  e{number} {{12}}to-{FAR} {{10}}[a-z ]{{18}}  [\d.]+ +InService {{5}}0 {{8}}\d+ +\d+$")
+            row = rf"^  e{number} {{12}}to-{FAR} {{10}}[a-z ]{{18}}  [\d.]+ +InService {{5}}0 {{8}}(-|\d+) +\d+$"
+            self.assertRegex(line, row)
         self.assertEqual(self.near.ask("show routes"), ROUTES)
         self.assertEqual(len(self.near.ask("show counters")), 3 * 54 + 3)
         self.assertEqual(len(self.near.ask("help")), HELP_LINES)

@@ -8,7 +8,7 @@ from harness import HOST, Link, Node, NodeTest, free_port, run, wait_until
 from traffic import FAR, NEAR, Pair
 
 REFUSED = 1
-ALONE, UNKNOWN_POINT = 9, 77
+ALONE, UNKNOWN_POINT, MATE = 9, 77, 3
 
 # A node with each key of settings, and no number twice. Two rows have a backup, and two change titles.
 NODE = """\
@@ -120,6 +120,8 @@ backup = "2-017-5"
 route = "title"
 remove = 32
 """
+ROUTES_HEAD = "  DESTINATION  STATUS      SETS TAKEN                ROUTES"
+FLAGS = re.findall("^(\\w+) = (?:true|false)$", NODE.split("users")[0], re.M)
 REMARK = "# This node's settings, without [serve] and the places of its links."
 TICK_MS = 70
 MUST_SHOW_LINK = "malformed: must be show link LINK"
@@ -180,6 +182,15 @@ class Texts(NodeTest):
         other = self.of(told.stdout, "other")
         self.assertEqual(other.ask("show settings"), told.stdout.splitlines())
 
+    def test_each_flag(self) -> None:
+        """Each key that is true or false is shown as it was read, and not as another one."""
+        self.assertEqual(len(FLAGS), 6)
+        for bit in range(3):
+            text = NODE
+            for number, key in enumerate(FLAGS, 1):
+                text = re.sub(rf"^{key} = \w+$", f"{key} = {str(bool(number >> bit & 1)).lower()}", text, flags=re.M)
+            self.assertEqual(self.of(text, f"node-{bit}").ask("show settings"), [REMARK, *text.splitlines()])
+
     def test_timers(self) -> None:
         node = self.of(NODE, "node")
         timers = dict(re.findall(r"^([lst]\w+) = (\d+)$", NODE.split("[timers]")[1].split("[[")[0], re.M))
@@ -200,6 +211,22 @@ class Texts(NodeTest):
         self.assertEqual(node.ask("show version"), ["stp 0.1.0"])
         for line, answer in MISTAKES.items():
             self.assertEqual(node.ask(line), [answer], line)
+
+
+class Backups(NodeTest):
+    def test_a_prohibited_backup(self) -> None:
+        """A neighbour that has no way to a destination says so (TFP), and the route over its set is prohibited."""
+        ports = {FAR: free_port(), MATE: free_port()}
+        near = self.node(NEAR, [Link(f"e{point}", point, 0, port, True) for point, port in ports.items()])
+        with open(near.folder / "node.toml", "a", encoding="utf-8") as text:
+            text.write(f'[[destination]]\npoint = {ALONE}\nsets = ["to-{MATE}", "to-{FAR}"]\njoined = false\n')
+        lone = Link("lone", ALONE, 0, free_port(), True)
+        far = self.node(FAR, [Link("e1", NEAR, 0, ports[FAR], False), lone])
+        mate = self.node(MATE, [Link("e1", NEAR, 0, ports[MATE], False)])
+        for node in (near, far, mate):
+            node.start()
+        row = f"  {ALONE}            allowed     to-{MATE}                      to-{MATE}:allowed to-{FAR}:prohibited"
+        wait_until(lambda: near.ask("show routes")[-1] == row, "the backup is prohibited")
 
 
 class Links(NodeTest):
@@ -238,12 +265,11 @@ class Links(NodeTest):
 
     def test_routes(self) -> None:
         near = self.near
-        head = "  DESTINATION  STATUS      SETS TAKEN                ALL SETS"
-        rows = [f"  {FAR}            allowed     to-{FAR}                      to-{FAR}",
-                f"  {ALONE}            prohibited  none                      to-{ALONE}"]
-        self.assertEqual(near.ask("show routes"), [head, *rows])
+        rows = [f"  {FAR}            allowed     to-{FAR}                      to-{FAR}:allowed",
+                f"  {ALONE}            prohibited  none                      to-{ALONE}:allowed"]
+        self.assertEqual(near.ask("show routes"), [ROUTES_HEAD, *rows])
         told = run("tell", "node.toml", "show", "routes", folder=near.folder)
-        self.assertEqual((told.returncode, told.stdout.splitlines()), (0, [head, *rows]))
+        self.assertEqual((told.returncode, told.stdout.splitlines()), (0, [ROUTES_HEAD, *rows]))
 
     def test_alarms(self) -> None:
         """Those that are raised, since the times of their lines in the log."""

@@ -31,6 +31,8 @@ SLOW_TICK_MS = 1000
 TESTS = {"slt1": 20, "slt2": 200}
 
 SECONDS = r"\d+\.\d{3}"
+# what a sentence about the settings begins with
+SETTINGS = "node.toml: "
 
 # A time in UTC (RFC 3339), and how it is read.
 UTC, UTC_FORM = r"\d{4}-\d\d-\d\dT\d\d:\d\d:\d\d\.\d{3}Z", "%Y-%m-%dT%H:%M:%S.%fZ"
@@ -254,7 +256,7 @@ class NodeLog(NodeTest):
         environment = {**os.environ, "JOURNAL_STREAM": f"{there.st_dev}:{there.st_ino}"}
         node.start(env=environment)
         for line in (rf"<5>{SECONDS} start 3 links", rf"<6>{SECONDS} console ", rf"<4>{SECONDS} alarm link e0$",
-                     rf"<5>{SECONDS} link e0 in service ", rf"<6>{SECONDS} clear link e0 "):
+                     rf"<5>{SECONDS} link e0 in service ", rf"<5>{SECONDS} clear link e0 "):
             wait_until(lambda: any(re.match(line, it) for it in node.log()), line)
         for line in node.log():
             self.assertRegex(line, rf"^<[4-7]>{SECONDS} ")
@@ -273,6 +275,13 @@ class FormedLog(NodeTest):
         self.await_line(node, f"alarm destination {FAR}")
         return node
 
+    def lines(self, text: str) -> list[str]:
+        """The lines of the log in what a node wrote, which begins with what its settings are warned of."""
+        return [line for line in text.splitlines() if not line.startswith(SETTINGS)]
+
+    def log_of(self, node: Node) -> list[str]:
+        return self.lines((node.folder / "log").read_text())
+
     def await_line(self, node: Node, text: str) -> None:
         wait_until(lambda: any(text in line for line in node.log()), text)
 
@@ -283,9 +292,9 @@ class LogTimes(FormedLog):
         before = datetime.now(timezone.utc)
         node = self.logging(times="utc")
         after = datetime.now(timezone.utc)
-        for line in node.log():
+        for line in self.log_of(node):
             self.assertRegex(line, rf"^{UTC} \w")
-        told = [datetime.strptime(line.split()[0], UTC_FORM).replace(tzinfo=timezone.utc) for line in node.log()]
+        told = [datetime.strptime(line.split()[0], UTC_FORM).replace(tzinfo=timezone.utc) for line in self.log_of(node)]
         self.assertEqual(told, sorted(told))
         self.assertLess(before - MILLISECOND, told[0])
         self.assertLessEqual(told[-1], after)
@@ -295,19 +304,19 @@ class LogTimes(FormedLog):
         node = self.logging(times="utc")
         node.operator.write("capture stop\n" * 200)
         node.operator.read_lines(200)
-        wait_until(lambda: any(re.match(rf"{UTC} missed \d+ lines$", line) for line in node.log()), "missed lines")
+        wait_until(lambda: any(re.match(rf"{UTC} missed \d+ lines$", line) for line in self.log_of(node)), "missed lines")
 
     def test_seconds(self) -> None:
         """As without the key."""
         node = self.logging(times="seconds")
-        for line in node.log():
+        for line in self.log_of(node):
             self.assertRegex(line, rf"^{SECONDS} \w")
 
 
 class LogLeast(FormedLog):
     def told(self, node: Node) -> set[str]:
         """The first words of all lines."""
-        return {line.split()[1] for line in node.log()}
+        return {line.split()[1] for line in self.log_of(node)}
 
     def test_warnings(self) -> None:
         """Nothing else has a line, nor is it counted among the lines that are missed."""
@@ -344,7 +353,7 @@ class LogForm(FormedLog):
         node = self.node(NEAR, links, capture=name, log={"form": "json", "times": "utc"})
         node.start()
         self.await_line(node, f"alarm destination {FAR}")
-        told = [json.loads(line) for line in node.log()]
+        told = [json.loads(line) for line in self.log_of(node)]
         for line in told:
             self.assertEqual([*line], ["time", "severity", "text"])
             self.assertRegex(line["time"], f"^{UTC}$")
@@ -356,7 +365,7 @@ class LogForm(FormedLog):
     def test_seconds(self) -> None:
         """An object tells the seconds since the start, if no key says otherwise."""
         node = self.logging(form="json")
-        for line in node.log():
+        for line in self.log_of(node):
             self.assertRegex(json.loads(line)["time"], f"^{SECONDS}$")
 
     def test_the_journal(self) -> None:
@@ -367,6 +376,6 @@ class LogForm(FormedLog):
             node.start(stdout=log, env={**os.environ, "JOURNAL_STREAM": f"{there.st_dev}:{there.st_ino}"})
         journal = node.folder / "journal"
         wait_until(lambda: f"alarm destination {FAR}" in journal.read_text(), "an alarm")
-        for line in journal.read_text().splitlines():
+        for line in self.lines(journal.read_text()):
             self.assertEqual(line[:4], "<4>{")
             self.assertEqual(json.loads(line[3:])["severity"], "warning")

@@ -217,9 +217,10 @@ class Page(PageTest):
         columns = ("LINK", "ALIGNMENT", "WAITING", "FSN", "BSN")
         self.assertEqual(links, [[row[column] for column in columns] for row in self.near.table("links")])
         routes = [{"DESTINATION": str(it["point"]), "STATUS": it["status"], "SETS TAKEN": "+".join(it["sets"]),
-                   "ALL SETS": " ".join(it["ways"])} for it in state["routes"]]
+                   "ROUTES": " ".join(f"{way}:{status}" for way, status in zip(it["ways"], it["way_statuses"]))}
+                  for it in state["routes"]]
         self.assertEqual(routes, self.near.table("routes"))
-        self.assertEqual([it["ways"] for it in state["routes"]], [[SET["set"]]])
+        self.assertEqual([(it["ways"], it["way_statuses"]) for it in state["routes"]], [([SET["set"]], ["allowed"])])
         flags = [f"flag lost_any {state['times_lost']}", f"flag late_any {state['times_late']}"]
         self.assertEqual(flags, self.near.ask("show flags"))
         losses = [f"loss messages_lost {state['messages_lost']}", f"loss times_broken {state['times_broken']}"]
