@@ -538,6 +538,7 @@ class PageOfFailures(PageTest):
         self.pair.exchange(MESSAGES)
         wait_until(lambda: self.near.is_at_rest(), "nothing is under way")
         name = self.pair.names[0]
+        self.near.await_log(f"link {name} in service after ")
         self.pair.far.signal(signal.SIGSTOP)
         try:
             self.near.ask(f"deactivate {name}")
