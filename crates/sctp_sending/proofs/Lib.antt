@@ -1,6 +1,7 @@
 pub mod Windows
 pub mod Tallying
 pub mod Leaving
+pub mod Retransmitting
 pub mod Timing
 pub mod Naming
 pub mod Rooms

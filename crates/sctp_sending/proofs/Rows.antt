@@ -159,3 +159,27 @@ timed_out_measures_nothing = refl
 pub retransmitted_measures_nothing : rows.retransmitted_measures_nothing
 unfolding given lost_from next_place gone_again gone_first confirmation confirmed settled named_below passed_below acknowledged after_t3
 retransmitted_measures_nothing = refl
+
+pub first_transmissions_count_nothing : rows.first_transmissions_count_nothing
+unfolding given lost_from next_place gone_again gone_first confirmation confirmed settled named_below passed_below acknowledged after_t3
+first_transmissions_count_nothing = refl
+
+pub losses_count_nothing : rows.losses_count_nothing
+unfolding given lost_from next_place gone_again gone_first confirmation confirmed settled named_below passed_below acknowledged after_t3
+losses_count_nothing = refl
+
+pub retransmission_by_t3_counts : rows.retransmission_by_t3_counts
+unfolding given lost_from next_place gone_again gone_first confirmation confirmed settled named_below passed_below acknowledged after_t3
+retransmission_by_t3_counts = refl
+
+pub fast_retransmission_counts : rows.fast_retransmission_counts
+unfolding given lost_from next_place gone_again gone_first confirmation confirmed settled named_below passed_below acknowledged after_t3
+fast_retransmission_counts = refl
+
+pub each_retransmission_counts : rows.each_retransmission_counts
+unfolding given lost_from next_place gone_again gone_first confirmation confirmed settled named_below passed_below acknowledged after_t3
+each_retransmission_counts = refl
+
+pub confirmation_leaves_the_count : rows.confirmation_leaves_the_count
+unfolding given lost_from next_place gone_again gone_first confirmation confirmed settled named_below passed_below acknowledged after_t3
+confirmation_leaves_the_count = refl

@@ -15,6 +15,7 @@ sending_in s = record {
   round_trips = s.round_trips;
   timed = s.timed;
   t3 = s.t3;
+  retransmissions = s.retransmissions;
 }
 
 pub record IsSending (s : Inside) : Type 0 where

@@ -251,6 +251,30 @@ outstanding_is_lost = map lost_of timed_out.out ≡ true ∷ true ∷ true ∷ t
 abbrev pub t3_starts_again : Type 0
 t3_starts_again = (goes_out 1010 timed_out).t3 ≡ Some 3010
 
+-- ---- retransmissions are counted (§6.3.3, §7.2.4)
+
+-- messages that go out for the first time count nothing, and nor does a message that is lost, until it goes out again
+abbrev pub first_transmissions_count_nothing : Type 0
+first_transmissions_count_nothing = (sent 2 0 five).retransmissions ≡ 0
+
+abbrev pub losses_count_nothing : Type 0
+losses_count_nothing = timed_out.retransmissions ≡ 0
+
+-- by T3: TSN 13 goes out again
+abbrev pub retransmission_by_t3_counts : Type 0
+retransmission_by_t3_counts = (goes_out 1010 timed_out).retransmissions ≡ 1
+
+-- fast: TSN 13 goes out again, and then TSN 15
+abbrev pub fast_retransmission_counts : Type 0
+fast_retransmission_counts = retransmitted.retransmissions ≡ 1
+
+abbrev pub each_retransmission_counts : Type 0
+each_retransmission_counts = (goes_out 450 reported_again).retransmissions ≡ 2
+
+-- a SACK that confirms it leaves the count
+abbrev pub confirmation_leaves_the_count : Type 0
+confirmation_leaves_the_count = (hears 1100 65536 17 [] (goes_out 1010 timed_out)).retransmissions ≡ 1
+
 -- ---- Karn's rule (§6.3.1 C5): what went out twice measures nothing
 
 abbrev pub one_round_trip_is_measured : Type 0

@@ -1,7 +1,7 @@
 -- The sender's half of an association, and what each call makes of it (RFC 9260 §6.1, §6.2.1, §6.3, §7.2).
 use Rattle.std.specs.Prelude.{ℕ, zero, suc, ◌+◌, ◌-◌, ◌*◌, ◌/◌, ◌%◌, ◌^◌, Bool, true, false, not, ◌&&◌, ◌||◌, List, [], ◌∷◌}
 use Rattle.std.specs.Prelude.{◌++◌, length, take, drop, map, sum_by, nat_lt, nat_le, ◌==◌, if◌then◌else◌, Option, Some}
-use Rattle.std.specs.Prelude.{None, is_some, slice_index, slice_set}
+use Rattle.std.specs.Prelude.{None, is_some, min, slice_index, slice_set}
 use Rattle.sctp_sending.specs.declared.confirmation.Confirmation.{Confirmation}
 use Rattle.sctp_sending.specs.declared.confirmation.Confirmation.TheVariants.{Old, Beyond, Of}
 use Rattle.sctp_sending.specs.declared.bounds.Bounds.{Bounds}
@@ -28,6 +28,8 @@ pub record Sending : Type 0 where
   pub timed : Option Timed
   -- when T3 runs out, in milliseconds of the endpoint's clock; it runs while something is under way
   pub t3 : Option ℕ
+  -- how many messages went out again, up to the largest number of 64 bits
+  pub retransmissions : ℕ
 
 -- an association begins: the TSN of the first message, and the octets that the peer takes
 abbrev pub first_sending : Bounds → (first peer_window : ℕ) → Sending
@@ -42,6 +44,7 @@ first_sending bounds first peer_window = record {
   round_trips = first_round_trips bounds;
   timed = None;
   t3 = None;
+  retransmissions = 0;
 }
 
 -- how many messages an end keeps
@@ -130,7 +133,11 @@ running (Some t) moment = Some t
 abbrev pub running_anew : Option ℕ → (place moment : ℕ) → Option ℕ
 running_anew timer place moment = if place == 0 then Some moment else running timer moment
 
--- a lost message goes out again
+-- one retransmission more, if that is still counted
+abbrev pub one_retransmission_more : ℕ → ℕ
+one_retransmission_more count = min (count + 1) (2 ^ 64 - 1)
+
+-- a lost message goes out again: it is retransmitted
 unfoldable pub gone_again : Sending → (place now : ℕ) → Sending
 gone_again s place now = record s {
   out = slice_set s.out place (gone_out true (outgoing_at s.out place));
@@ -138,6 +145,7 @@ gone_again s place now = record s {
   burst = burst_left s.burst (chunk_octets (octets_of (outgoing_at s.out place)));
   timed = timed_without s.timed place;
   t3 = running_anew s.t3 place (now + s.round_trips.timeout);
+  retransmissions = one_retransmission_more s.retransmissions;
 }
 
 -- the first new one goes out

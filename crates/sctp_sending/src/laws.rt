@@ -7,6 +7,7 @@ ghost use Rattle.sctp_sending.specs.Outgoing.{Message};
 ghost use Rattle.sctp_sending.specs.Sending.{
   Sending,
   given,
+  gone,
   gone_next,
   after_cumulative,
   after_sack,
@@ -19,6 +20,7 @@ ghost use Rattle.sctp_sending.specs.Sending.{
   most_octets,
   has_room,
   next_place,
+  one_retransmission_more,
 };
 ghost use Rattle.sctp_sending.specs.Waiting.{waiting_octets, has_room_behind, after_going};
 
@@ -67,4 +69,19 @@ pub fn t3_waits_for_the_earliest()
         → (acknowledged s now window count names).t3 ≡ None }
     ensures other { (s : Sending) (now window : ℕ) (names : ℕ → Bool) → 0 < s.went
         → (acknowledged s now window 0 names).t3 ≡ s.t3 }
+{}
+
+/// A message that went out before counts as a retransmission each time that it goes out (RFC 9260 §6.3.3, §7.2.4). One
+/// that goes out for the first time doesn't, and nothing else that happens changes the count.
+pub fn retransmissions_count_what_goes_out_again()
+    ensures again { (s : Sending) (place now : ℕ) → place < s.went
+        → (gone s place now).retransmissions ≡ one_retransmission_more s.retransmissions }
+    ensures first { (s : Sending) (place now : ℕ) → s.went ≤ place
+        → (gone s place now).retransmissions ≡ s.retransmissions }
+    ensures given { (s : Sending) (m : Message) → (given s m).retransmissions ≡ s.retransmissions }
+    ensures t3 { (s : Sending) (now : ℕ) → (after_t3 s now).retransmissions ≡ s.retransmissions }
+    ensures cumulative { (s : Sending) (now : ℕ) (c : Confirmation)
+        → (after_cumulative s now c).retransmissions ≡ s.retransmissions }
+    ensures sack { (s : Sending) (now window : ℕ) (names : ℕ → Bool) (c : Confirmation)
+        → (after_sack s now window names c).retransmissions ≡ s.retransmissions }
 {}

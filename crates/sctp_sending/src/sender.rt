@@ -48,6 +48,7 @@ pub struct Sender {
     round_trips: RoundTrips,
     timed: Option<Timed>,
     t3: Option<u64>,
+    retransmissions: u64,
 }
 
 impl Model for Sender {
@@ -80,6 +81,7 @@ impl Sender {
             round_trips: RoundTrips::new(bounds),
             timed: None,
             t3: None,
+            retransmissions: 0,
         })
     }
 
@@ -100,6 +102,7 @@ impl Sender {
         self.round_trips = RoundTrips::new(bounds);
         self.timed = None;
         self.t3 = None;
+        self.retransmissions = 0;
     }
 
     /// Whether a message that is sent now goes out now.
@@ -206,6 +209,14 @@ impl Sender {
         ensures { result ≡ self.now.congestion.window }
     {
         self.congestion.window()
+    }
+
+    /// How many messages went out again since the association began, by T3-rtx or by fast retransmission (RFC 9260
+    /// §6.3.3, §7.2.4). It stays at 2^64 - 1 once it is there.
+    pub fn retransmissions(&self) -> u64
+        ensures { result ≡ self.now.retransmissions }
+    {
+        self.retransmissions
     }
 
     /// Forgets what was measured: the timeout is the first one again.

@@ -108,6 +108,7 @@ impl Sender {
         self.burst = burst_left(self.burst, chunk_octets(octets));
         self.timed = timed_without(self.timed, place);
         self.t3 = running_anew(self.t3, place, now + u64::from(self.round_trips.timeout()));
+        self.retransmissions = self.retransmissions.saturating_add(1);
     }
 
     /// The first new message goes out.
