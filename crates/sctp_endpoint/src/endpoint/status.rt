@@ -26,4 +26,12 @@ impl Endpoint {
     {
         self.sender.congestion_window()
     }
+
+    /// How many DATA chunks the association sent again since it began, by T3-rtx or by fast retransmission (RFC 9260
+    /// §6.3.3, §7.2.4). It stays at 2^64 - 1 once it is there.
+    pub fn retransmissions(&self) -> u64
+        ensures { result ≡ self.now.state.association.sender.retransmissions }
+    {
+        self.sender.retransmissions()
+    }
 }

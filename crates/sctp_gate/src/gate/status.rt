@@ -26,4 +26,11 @@ impl Gate {
     {
         self.endpoint.congestion_window()
     }
+
+    /// How many DATA chunks the association sent again since it began: 0 while there is none.
+    pub fn retransmissions(&self) -> u64
+        ensures { result ≡ self.now.endpoint.state.association.sender.retransmissions }
+    {
+        self.endpoint.retransmissions()
+    }
 }
