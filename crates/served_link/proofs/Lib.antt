@@ -3,6 +3,7 @@ pub mod Dates
 pub mod Handing
 pub mod InOrder
 pub mod LineTexts
+pub mod NamedTimers
 pub mod OneRead
 pub mod Rows
 pub mod Standing

@@ -8,14 +8,14 @@ use Rattle.signalling_types.specs.declared.cause.Cause.TheVariants.{WrongNetwork
 use Rattle.signalling_types.specs.declared.notice.FailureReason.{FailureReason}
 use Rattle.signalling_types.specs.declared.notice.FailureReason.TheVariants.{Association}
 use Rattle.signalling_types.specs.declared.outcome.Outcome.TheVariants.{Queued, Held, Local, Refused}
-use Rattle.served_link.specs.Counting.{Counted, FrameCame, FrameWent, Failure, Retry, WasSetBack, reason_number, setback_number, saturated, no_counts, one_more_at, counted, row_counted_at, row_at, value_of}
+use Rattle.served_link.specs.Counting.{Counted, FrameCame, FrameWent, Failure, Retry, WasSetBack, WentAgain, reason_number, setback_number, saturated, no_counts, one_more_at, counted, row_counted_at, row_at, value_of}
 use Rattle.served_link.specs.Laws.{one_if, frame_adds, adds, counted_each, counted_all, adds_of}
 use Rattle.served_link.specs.declared.counter.TheConstants.{CAUSES, REASONS}
 use Rattle.served_link.specs.declared.setback.TheConstants.{SETBACKS}
 use Rattle.served_link.specs.declared.setback.Setback.{Setback}
 use Rattle.served_link.specs.declared.setback.Setback.TheVariants.{OtherPort}
 use Rattle.served_link.specs.declared.counter.Counter.{Counter}
-use Rattle.served_link.specs.declared.counter.Counter.TheVariants.{FramesIn, OctetsIn, FramesOut, OctetsOut, Forwarded, Delivered, Refused as RefusedBy, Failed, Retries, Setbacks}
+use Rattle.served_link.specs.declared.counter.Counter.TheVariants.{FramesIn, OctetsIn, FramesOut, OctetsOut, Forwarded, Delivered, Refused as RefusedBy, Failed, Retries, Setbacks, Retransmissions}
 use Rattle.served_link.specs.declared.row.LinkCounters.{LinkCounters}
 
 -- ---- numbers
@@ -78,6 +78,7 @@ row-kept (FrameWent octets) row h = record { refused = h.refused; failed = h.fai
 row-kept (Failure reason) row h = record { refused = h.refused; failed = length-set row.failed _ _ ∙ h.failed; setbacks = h.setbacks }
 row-kept Retry row h = record { refused = h.refused; failed = h.failed; setbacks = h.setbacks }
 row-kept (WasSetBack setback) row h = record { refused = h.refused; failed = h.failed; setbacks = length-set row.setbacks _ _ ∙ h.setbacks }
+row-kept (WentAgain chunks) row h = record { refused = h.refused; failed = h.failed; setbacks = h.setbacks }
 
 frame-adds : (counter : Counter) (octets : ℕ) (user : Bool) (outcome : Outcome) (row : LinkCounters) (s : ℕ) → IsRow row → value_of counter row ≡ saturated s
     → value_of counter (counted (FrameCame octets user outcome) row) ≡ saturated (s + frame_adds counter octets user outcome)
@@ -106,6 +107,8 @@ frame-adds Retries octets user (Queued link) row s h e = stays row.retries s e
 frame-adds Retries octets user outcome row s h e = stays row.retries s e
 frame-adds (Setbacks setback) octets user (Queued link) row s h e = stays (slice_index row.setbacks (setback_number setback)) s e
 frame-adds (Setbacks setback) octets user outcome row s h e = stays (slice_index row.setbacks (setback_number setback)) s e
+frame-adds Retransmissions octets user (Queued link) row s h e = stays row.retransmissions s e
+frame-adds Retransmissions octets user outcome row s h e = stays row.retransmissions s e
 
 one-adds : (counter : Counter) (what : Counted) (row : LinkCounters) (s : ℕ) → IsRow row → value_of counter row ≡ saturated s
     → value_of counter (counted what row) ≡ saturated (s + adds counter what)
@@ -123,6 +126,8 @@ one-adds (Setbacks setback) (WasSetBack other) row s h e =
     at-place row.setbacks (setback_number other) (setback_number setback) s (setback_number other == setback_number setback) (eqb_tells (setback_number other) (setback_number setback))
     (omega (arith, h.setbacks, setback-fits other)) e
 one-adds counter (WasSetBack other) row s h e = stays (value_of counter row) s e
+one-adds Retransmissions (WentAgain chunks) row s h e = more row.retransmissions s chunks e
+one-adds counter (WentAgain chunks) row s h e = stays (value_of counter row) s e
 
 -- ---- of one link
 

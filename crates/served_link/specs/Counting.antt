@@ -13,7 +13,7 @@ use Rattle.served_link.specs.declared.counter.TheConstants.{CAUSES, REASONS}
 use Rattle.served_link.specs.declared.counter.Counter.{Counter}
 use Rattle.served_link.specs.declared.counter.Counter.TheVariants.{FramesIn, OctetsIn, FramesOut, OctetsOut}
 use Rattle.served_link.specs.declared.counter.Counter.TheVariants.{Forwarded, Delivered, Refused as RefusedBy}
-use Rattle.served_link.specs.declared.counter.Counter.TheVariants.{Failed, Retries, Setbacks}
+use Rattle.served_link.specs.declared.counter.Counter.TheVariants.{Failed, Retries, Setbacks, Retransmissions}
 use Rattle.served_link.specs.declared.row.LinkCounters.{LinkCounters}
 use Rattle.served_link.specs.declared.setback.TheConstants.{SETBACKS}
 use Rattle.served_link.specs.declared.setback.Setback.{Setback}
@@ -38,6 +38,8 @@ pub data Counted : Type 0 where
   Retry : Counted
   -- its association over SCTP didn't open
   WasSetBack : (setback : Setback) → Counted
+  -- its association over SCTP sent this many chunks again
+  WentAgain : (chunks : ℕ) → Counted
 
 -- a message is a user's unless it is of network management or of link tests (Q.704 §14.2.1)
 abbrev pub is_users : Option Message → Bool
@@ -96,6 +98,7 @@ no_counts = record {
   failed = replicate REASONS 0;
   retries = 0;
   setbacks = replicate SETBACKS 0;
+  retransmissions = 0;
 }
 
 -- a message was queued or held; if it is a user's, it is forwarded
@@ -125,6 +128,7 @@ counted (FrameWent octets) row =
 counted (Failure reason) row = record row { failed = one_more_at (reason_number reason) row.failed }
 counted Retry row = record row { retries = saturated (row.retries + 1) }
 counted (WasSetBack setback) row = record row { setbacks = one_more_at (setback_number setback) row.setbacks }
+counted (WentAgain chunks) row = record row { retransmissions = saturated (row.retransmissions + chunks) }
 
 -- the counters of a link, in the counters of all
 abbrev pub row_at : List LinkCounters → ℕ → LinkCounters
@@ -199,3 +203,4 @@ value_of (RefusedBy cause) row = slice_index row.refused (cause_number cause - 1
 value_of (Failed reason) row = slice_index row.failed (reason_number reason)
 value_of Retries row = row.retries
 value_of (Setbacks setback) row = slice_index row.setbacks (setback_number setback)
+value_of Retransmissions row = row.retransmissions

@@ -4,13 +4,13 @@ use Rattle.signalling_types.specs.Causes.{cause_number}
 use Rattle.signalling_types.specs.declared.cause.Cause.{Cause}
 use Rattle.signalling_types.specs.declared.outcome.Outcome.{Outcome}
 use Rattle.signalling_types.specs.declared.outcome.Outcome.TheVariants.{Queued, Held, Local, Refused}
-use Rattle.served_link.specs.Counting.{Counted, FrameCame, FrameWent, Failure, Retry, WasSetBack}
+use Rattle.served_link.specs.Counting.{Counted, FrameCame, FrameWent, Failure, Retry, WasSetBack, WentAgain}
 use Rattle.served_link.specs.Counting.{reason_number, setback_number, saturated}
 use Rattle.served_link.specs.Counting.{no_counts, counted, row_counted_at, row_at, value_of}
 use Rattle.served_link.specs.declared.counter.Counter.{Counter}
 use Rattle.served_link.specs.declared.counter.Counter.TheVariants.{FramesIn, OctetsIn, FramesOut, OctetsOut}
 use Rattle.served_link.specs.declared.counter.Counter.TheVariants.{Forwarded, Delivered, Refused as RefusedBy, Failed}
-use Rattle.served_link.specs.declared.counter.Counter.TheVariants.{Retries, Setbacks}
+use Rattle.served_link.specs.declared.counter.Counter.TheVariants.{Retries, Setbacks, Retransmissions}
 use Rattle.served_link.specs.declared.row.LinkCounters.{LinkCounters}
 
 -- ---- how much is added
@@ -56,6 +56,8 @@ adds Retries Retry = 1
 adds counter Retry = 0
 adds (Setbacks setback) (WasSetBack other) = one_if (setback_number other == setback_number setback)
 adds counter (WasSetBack other) = 0
+adds Retransmissions (WentAgain chunks) = chunks
+adds counter (WentAgain chunks) = 0
 
 -- ---- of many
 

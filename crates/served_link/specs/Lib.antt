@@ -16,6 +16,8 @@ pub mod DestinationStates
 pub mod LineForms
 pub mod LogLaws
 pub mod LogLines
+pub mod LinkFailures
+pub mod NamedTimers
 pub mod PoolLevel
 pub mod ServiceStates
 pub mod Severities

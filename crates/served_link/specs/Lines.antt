@@ -6,7 +6,7 @@ use Rattle.served_link.specs.declared.datagrams.DatagramCounters.{DatagramCounte
 use Rattle.served_link.specs.declared.counter.Counter.{Counter}
 use Rattle.served_link.specs.declared.counter.Counter.TheVariants.{FramesIn, OctetsIn, FramesOut, OctetsOut}
 use Rattle.served_link.specs.declared.counter.Counter.TheVariants.{Forwarded, Delivered, Refused, Failed, Retries}
-use Rattle.served_link.specs.declared.counter.Counter.TheVariants.{Setbacks}
+use Rattle.served_link.specs.declared.counter.Counter.TheVariants.{Setbacks, Retransmissions}
 use Rattle.served_link.specs.declared.setback.Setback.{Setback}
 use Rattle.served_link.specs.declared.setback.Setback.TheVariants.{OtherPort, TooMany, WithoutTag, HostName}
 use Rattle.served_link.specs.declared.setback.Setback.TheVariants.{FewStreams, Unwanted, NoTagLeft, ShuttingDown}
@@ -57,6 +57,7 @@ counter_name (Refused cause) = codes "refused_" ++ cause_name cause
 counter_name (Failed reason) = codes "failed_" ++ failure_name reason
 counter_name Retries = codes "retries"
 counter_name (Setbacks setback) = setback_kind setback ++ setback_name setback
+counter_name Retransmissions = codes "retransmissions"
 
 abbrev pub counter_line : Counter → (link : List ℕ) → (value : ℕ) → List ℕ
 counter_line counter link value =

@@ -1,6 +1,16 @@
--- Rows worked by hand: the changeovers of a link that are counted by looks at it (Q.704 §5).
-use Rattle.std.specs.Prelude.{◌≡◌, ℕ, ◌-◌, ◌^◌, true, List, [], ◌∷◌}
-use Rattle.served_link.specs.ServiceStates.{at_start, seen_after}
+-- Rows worked by hand: the changeovers of a link that are counted by looks at it (Q.704 §5), and which timer failed it
+-- (Q.703 §12.3).
+use Rattle.std.specs.Prelude.{◌≡◌, ℕ, ◌-◌, ◌^◌, true, List, [], ◌∷◌, ◌++◌, codes, Option, None, Some}
+use Rattle.signalling_types.specs.Notices.{failure_name}
+use Rattle.signalling_types.specs.declared.notice.FailureReason.{FailureReason}
+use Rattle.signalling_types.specs.declared.notice.FailureReason.TheVariants.{Association, Timer, Test}
+use Rattle.exchange.specs.declared.view.LinkStanding.{LinkStanding}
+use Rattle.exchange.specs.declared.view.LinkStanding.TheVariants as standing
+use Rattle.exchange.specs.declared.view.Obstacle.{Obstacle}
+use Rattle.exchange.specs.declared.view.Obstacle.TheVariants.{PeerBusy, PeerOutage, Untested}
+use Rattle.served_link.specs.LinkFailures.{failing_by, failure_text, timer_suffix}
+use Rattle.served_link.specs.declared.link_failure.FailingTimer.TheVariants.{L7}
+use Rattle.served_link.specs.ServiceStates.{after_failure, at_start, seen_after, timed, timer_of}
 use Rattle.served_link.specs.declared.service_states.ServiceState.{ServiceState}
 use Rattle.served_link.specs.declared.service_states.ServiceState.TheVariants as state
 use Rattle.served_link.specs.declared.service_states.StateSince.{StateSince}
@@ -37,5 +47,53 @@ link_that_never_served_has_none =
 abbrev pub greatest_count_stays : Type 0
 greatest_count_stays =
     counted_by_each (state.Closing ∷ [])
-    (record { state = state.ChangingOver; since_ms = 0; was_available = true; changeovers = 2 ^ 64 - 1 })
+    (record at_start { state = state.ChangingOver; was_available = true; changeovers = 2 ^ 64 - 1 })
     ≡ (2 ^ 64 - 1) ∷ []
+
+-- ---- which timer failed a link
+
+-- what the log tells, behind its name, of a link that stood so as a tick began, and fails for this reason
+abbrev pub told_as : LinkStanding → Option Obstacle → FailureReason → List ℕ
+told_as standing obstacle reason =
+    failure_name reason ++ timer_suffix (timer_of reason (Some (timed (failing_by standing obstacle) at_start)))
+
+-- T2: the peer doesn't align. T3: it is aligned, and doesn't prove. T1: this end is ready, and the peer isn't
+abbrev pub peer_that_does_not_align : Type 0
+peer_that_does_not_align = told_as standing.NotAligned None Timer ≡ codes "timer L2"
+
+abbrev pub peer_that_does_not_prove : Type 0
+peer_that_does_not_prove = told_as standing.Aligned None Timer ≡ codes "timer L3"
+
+abbrev pub peer_that_is_not_ready : Type 0
+peer_that_is_not_ready = told_as standing.AlignedReady None Timer ≡ codes "timer L1"
+
+-- T6: the peer stays busy, or its processor out. T7: it takes messages, and confirms none
+abbrev pub peer_that_stays_busy : Type 0
+peer_that_stays_busy = told_as standing.InService (Some PeerBusy) Timer ≡ codes "timer L6"
+
+abbrev pub processor_that_stays_out : Type 0
+processor_that_stays_out = told_as standing.InService (Some PeerOutage) Timer ≡ codes "timer L6"
+
+abbrev pub peer_that_confirms_nothing : Type 0
+peer_that_confirms_nothing = told_as standing.InService None Timer ≡ codes "timer L7"
+
+abbrev pub link_under_test : Type 0
+link_under_test = told_as standing.InService (Some Untested) Timer ≡ codes "timer L6 or L7"
+
+-- two tests in a row that aren't answered (Q.707 §2.2) are a reason of their own, and no timer of Q.703
+abbrev pub tests_that_are_not_answered : Type 0
+tests_that_are_not_answered = told_as standing.InService None Test ≡ codes "test"
+
+-- nor is one told of a link that fails in another way, or hasn't failed
+abbrev pub association_that_is_lost : Type 0
+association_that_is_lost = told_as standing.InService None Association ≡ codes "association"
+
+abbrev pub link_that_never_failed : Type 0
+link_that_never_failed = failure_text at_start.failure ≡ codes "-"
+
+-- and the failure is shown until the next one, whatever state the link is in then
+abbrev pub failure_lasts : Type 0
+failure_lasts =
+    (seen_after state.Aligning 13000 (seen_after state.Closing 12400
+    (after_failure Timer 12345 (timed (Some L7) at_start)))).failure
+    ≡ Some (record { reason = Timer; timer = Some L7; at_ms = 12345 })

@@ -1,6 +1,9 @@
 -- The states of links as an operator sees them, and what a look changes.
 use Rattle.std.specs.Prelude.{ℕ, ◌+◌, Bool, true, false, ◌&&◌, ◌||◌, not, List, codes, replicate, slice_index_or, slice_set, if◌then◌else◌, Option, None, Some, nat_eq}
+use Rattle.signalling_types.specs.declared.notice.FailureReason.{FailureReason}
+use Rattle.served_link.specs.LinkFailures.{ran_out}
 use Rattle.served_link.specs.Saturating.{saturated}
+use Rattle.served_link.specs.declared.link_failure.FailingTimer.{FailingTimer}
 use Rattle.served_link.specs.declared.service_states.ServiceState.{ServiceState}
 use Rattle.served_link.specs.declared.service_states.ServiceState.TheVariants as state
 use Rattle.served_link.specs.declared.service_states.StateChange.{StateChange}
@@ -71,9 +74,17 @@ is_changing_over state.NotYetInService = false
 is_changing_over state.Failed = false
 is_changing_over state.Deactivated = false
 
--- as a node starts its links are out of service, wait for an association, were never available, and changed over never
+-- as a node starts its links are out of service, wait for an association, were never available, and neither changed
+-- over nor failed
 abbrev pub at_start : StateSince
-at_start = record { state = state.NotYetInService; since_ms = 0; was_available = false; changeovers = 0 }
+at_start = record {
+  state = state.NotYetInService;
+  since_ms = 0;
+  was_available = false;
+  changeovers = 0;
+  timer = None;
+  failure = None;
+}
 
 abbrev pub first_links : ℕ → List StateSince
 first_links links = replicate links at_start
@@ -125,7 +136,7 @@ changeovers_by change =
 -- how it is seen after the look: since then, if it wasn't seen so before
 abbrev pub after_change : Option StateChange → (found : ServiceState) → (now : ℕ) → StateSince → StateSince
 after_change None found now link = link
-after_change (Some change) found now link = record {
+after_change (Some change) found now link = record link {
   state = change.state;
   since_ms = now;
   was_available = link.was_available || is_available found;
@@ -138,3 +149,25 @@ seen_after found now link = after_change (change_of found link) found now link
 -- the links after a look at one of them
 abbrev pub links_after : (link : ℕ) → (found : ServiceState) → (now : ℕ) → List StateSince → List StateSince
 links_after link found now links = slice_set links link (seen_after found now (slice_index_or links link at_start))
+
+-- ---- failures
+
+-- a link, of which this timer may run out next
+abbrev pub timed : Option FailingTimer → StateSince → StateSince
+timed timer link = record link { timer = timer }
+
+abbrev pub timed_at : (link : ℕ) → Option FailingTimer → List StateSince → List StateSince
+timed_at link timer links = slice_set links link (timed timer (slice_index_or links link at_start))
+
+-- a link that failed for this reason: a timer ran out if that is the reason
+abbrev pub after_failure : FailureReason → (now : ℕ) → StateSince → StateSince
+after_failure reason now link =
+    record link { failure = Some (record { reason = reason; timer = ran_out reason link.timer; at_ms = now }) }
+
+abbrev pub failed_at : (link : ℕ) → FailureReason → (now : ℕ) → List StateSince → List StateSince
+failed_at link reason now links =
+    slice_set links link (after_failure reason now (slice_index_or links link at_start))
+
+abbrev pub timer_of : FailureReason → Option StateSince → Option FailingTimer
+timer_of reason None = None
+timer_of reason (Some link) = ran_out reason link.timer

@@ -30,11 +30,13 @@ pub enum Counter {
     Retries,
     /// INITs that were refused, and tries that failed, for this reason.
     Setbacks(Setback),
+    /// DATA chunks that the link's association over SCTP sent again (RFC 9260 §6.3.3, §7.2.4).
+    Retransmissions,
 }
 
 impl Counter {
     /// All counters, in the order in which they are shown.
-    pub const ALL: [Counter; 54] = [
+    pub const ALL: [Counter; 55] = [
         Counter::FramesIn,
         Counter::OctetsIn,
         Counter::FramesOut,
@@ -89,6 +91,7 @@ impl Counter {
         Counter::Setbacks(Setback::Unanswered),
         Counter::Setbacks(Setback::BadAnswer),
         Counter::Setbacks(Setback::EndedByNode),
+        Counter::Retransmissions,
     ];
 }
 

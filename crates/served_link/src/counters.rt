@@ -3,7 +3,7 @@
 ghost use Rattle.std.specs.Prelude.{◌≡◌, IfOk, Some, slice_get};
 ghost use Rattle.std.specs.Option.{option_copied};
 ghost use Rattle.served_link.specs.Counting.{DatagramCame, DatagramWent, StrangerCame, counted_datagram};
-ghost use Rattle.served_link.specs.Counting.{Failure, Retry, WasSetBack, came, counted_at, first_counters};
+ghost use Rattle.served_link.specs.Counting.{Failure, Retry, WasSetBack, WentAgain, came, counted_at, first_counters};
 ghost use Rattle.served_link.specs.Counting.{frame_came, frame_went, went};
 ghost use Rattle.served_link.specs.Messages.{heard_at, sent_at};
 ghost use Rattle.signalling_types.specs.Message.{lent};
@@ -166,6 +166,15 @@ impl Counters {
     {
         if let Some(row) = self.rows.get_mut(link.index()) {
             row.count_setback(setback);
+        }
+    }
+
+    /// The association of a link over SCTP sent this many chunks again.
+    pub fn count_retransmissions(&mut self, link: LinkId, chunks: u64)
+        ensures { self.new ≡ counted_at link (WentAgain chunks) self.old }
+    {
+        if let Some(row) = self.rows.get_mut(link.index()) {
+            row.count_retransmissions(chunks);
         }
     }
 

@@ -9,6 +9,7 @@ ghost use Rattle.served_link.specs.ManyReads.{broken_stays_broken, cuts_do_not_m
 ghost use Rattle.served_link.specs.ManyReads.{reads_are_one};
 ghost use Rattle.served_link.specs.Sending.{Call, GoesOutInOrder, sent_by, taken_frames_go_behind};
 ghost use Rattle.served_link.specs.Laws.{counters_are_sums, counters_of_links_are_sums};
+ghost use Rattle.served_link.specs.NamedTimers.{failing_timers_are_named};
 
 use crate::watch::Watch;
 
@@ -56,9 +57,15 @@ pub fn broken_stays_broken<W: Watch>()
     ensures kept { broken_stays_broken W.sees kept }
 {}
 
-/// Each counter is the sum of what the frames, failures and retries of its link add to it; 2^64 - 1 if the sum is above
-/// that.
+/// Each counter is the sum of what the frames, failures, retries and retransmissions of its link add to it; 2^64 - 1 if
+/// the sum is above that.
 pub fn counters_are_sums_of_what_was_counted()
     ensures row { counters_are_sums }
     ensures rows { counters_of_links_are_sums }
+{}
+
+/// Where a timer runs out by which a link may fail, that is the one that was named for the link before the tick: in
+/// each state that an exchange reaches.
+pub fn failing_timers_are_named()
+    ensures { failing_timers_are_named }
 {}

@@ -19,6 +19,7 @@ mod frame;
 pub mod laws;
 pub mod line;
 pub mod line_form;
+pub mod link_failure;
 pub mod log_laws;
 pub mod log_lines;
 pub mod management_kind;
@@ -49,6 +50,7 @@ pub use datagrams::{DATAGRAMS_OCTETS, DatagramCounters};
 pub use destination_states::{Access, DestinationState, DestinationStates};
 pub use line::{LINE_OCTETS, write_counter};
 pub use line_form::{FORMED_OCTETS, FormedLine, LineForm};
+pub use link_failure::{FailingTimer, LinkFailure, failure_text, timer_suffix};
 pub use log_lines::{
     CHANGE_OCTETS, ChangeLine, alarm_change_line, destination_change_line, link_change_line,
     set_change_line,
@@ -62,7 +64,7 @@ pub use row::LinkCounters;
 pub use service_states::{ServiceState, ServiceStates, StateChange, StateSince};
 pub use setback::Setback;
 pub use severity::Severity;
-pub use shown_states::{destination_state, service_state};
+pub use shown_states::{destination_state, failing_timer, service_state};
 pub use ticking::{MOST_TICKS, TickClock};
 pub use unavailable::{Unavailable, UnavailableTimes};
 pub use watch::{Unwatched, Watch};

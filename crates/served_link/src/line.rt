@@ -13,7 +13,7 @@ pub const LINE_OCTETS: usize = 96;
 
 /// Writes the line of a counter: `counter NAME LINK VALUE`, without a line feed. NAME is `frames_in`, `octets_in`,
 /// `frames_out`, `octets_out`, `forwarded`, `delivered`, `refused_` and the cause's name, `failed_` and the reason's
-/// name, `retries`, or `inits_` or `tries_` and the name of a setback.
+/// name, `retries`, `inits_` or `tries_` and the name of a setback, or `retransmissions`.
 pub fn write_counter(counter: Counter, link: &str, value: u64, out: &mut ArrayString<LINE_OCTETS>)
     requires { length link.now ≤ Limits.NAME_OCTETS }
     ensures { out.new.bytes ≡ counter_line counter link.now value }
@@ -54,5 +54,6 @@ fn push_name(counter: Counter, out: &mut ArrayString<LINE_OCTETS>)
             out.push_str(setback.kind());
             out.push_str(setback.name());
         }
+        Counter::Retransmissions => out.push_str("retransmissions"),
     }
 }

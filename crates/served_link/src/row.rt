@@ -1,8 +1,8 @@
 //! The counters of one link.
 
 ghost use Rattle.std.specs.Prelude.{◌≡◌, ◌<◌, length};
-ghost use Rattle.served_link.specs.Counting.{FrameCame, FrameWent, Failure, Retry, WasSetBack, counted, no_counts};
-ghost use Rattle.served_link.specs.Counting.{one_more_at, value_of};
+ghost use Rattle.served_link.specs.Counting.{FrameCame, FrameWent, Failure, Retry, WasSetBack, WentAgain, counted};
+ghost use Rattle.served_link.specs.Counting.{no_counts, one_more_at, value_of};
 
 use crate::counter::{CAUSES, Counter, REASONS, cause_place, reason_place};
 use crate::setback::{SETBACKS, Setback};
@@ -31,6 +31,8 @@ pub struct LinkCounters {
     pub retries: u64,
     /// INITs that were refused, and tries that failed: by reason, in the order of `Setback`.
     pub setbacks: [u64; SETBACKS],
+    /// DATA chunks that its association over SCTP sent again.
+    pub retransmissions: u64,
 }
 
 impl LinkCounters {
@@ -49,6 +51,7 @@ impl LinkCounters {
             failed: [0; REASONS],
             retries: 0,
             setbacks: [0; SETBACKS],
+            retransmissions: 0,
         }
     }
 
@@ -67,6 +70,7 @@ impl LinkCounters {
             Counter::Failed(reason) => self.failed[reason_place(reason)],
             Counter::Retries => self.retries,
             Counter::Setbacks(setback) => self.setbacks[setback.place()],
+            Counter::Retransmissions => self.retransmissions,
         }
     }
 
@@ -113,6 +117,13 @@ impl LinkCounters {
         ensures { self.new ≡ counted (WasSetBack setback) self.old }
     {
         count_one(&mut self.setbacks, setback.place());
+    }
+
+    /// The link's association over SCTP sent this many chunks again.
+    pub fn count_retransmissions(&mut self, chunks: u64)
+        ensures { self.new ≡ counted (WentAgain chunks) self.old }
+    {
+        self.retransmissions = self.retransmissions.saturating_add(chunks);
     }
 }
 

@@ -4,9 +4,11 @@ ghost use Rattle.std.specs.Prelude.{◌≡◌, ◌≤◌, IfOk, length, slice_ge
 ghost use Rattle.std.specs.Option.{option_copied};
 ghost use Rattle.served_link.specs.ServiceStates.{at_start, change_at, change_of, changeovers_by, first_links};
 ghost use Rattle.served_link.specs.ServiceStates.{is_available, is_changing_over, is_in_service, links_after};
-ghost use Rattle.served_link.specs.ServiceStates.{seen_after, seen_as, state_words};
+ghost use Rattle.served_link.specs.ServiceStates.{failed_at, seen_after, seen_as, state_words, timed_at};
+ghost use Rattle.served_link.specs.ServiceStates.{timer_of};
 
-use signalling_types::LinkId;
+use crate::link_failure::{FailingTimer, LinkFailure, ran_out};
+use signalling_types::{FailureReason, LinkId};
 use std::alloc::{AllocError, Global};
 use std::marker::Model;
 
@@ -111,6 +113,10 @@ pub struct StateSince {
     pub was_available: bool,
     /// How many changeovers of it ended since the start; it stays at 2^64 - 1 (Q.704 §5).
     pub changeovers: u64,
+    /// The timer that fails it if it runs out by the tick that began last.
+    pub timer: Option<FailingTimer>,
+    /// Its last failure.
+    pub failure: Option<LinkFailure>,
 }
 
 /// A change of a link's state.
@@ -148,6 +154,8 @@ impl StateSince {
             since_ms: 0,
             was_available: false,
             changeovers: 0,
+            timer: None,
+            failure: None,
         }
     }
 
@@ -176,6 +184,8 @@ impl StateSince {
                 since_ms: now_ms,
                 was_available: self.was_available || found.is_available(),
                 changeovers: change.changeovers(),
+                timer: self.timer,
+                failure: self.failure,
             },
             None => self,
         }
@@ -223,5 +233,34 @@ impl ServiceStates {
         let former = *row;
         *row = former.after(found, now_ms);
         former.change(found)
+    }
+
+    /// A tick begins: this timer fails a link if it runs out.
+    pub fn note_timer(&mut self, link: LinkId, timer: Option<FailingTimer>)
+        ensures { self.new ≡ timed_at link timer self.old }
+    {
+        if let Some(row) = self.rows.get_mut(link.index()) {
+            row.timer = timer;
+        }
+    }
+
+    /// A link failed for this reason, so many milliseconds after the start. Returns the timer that ran out, if one did.
+    pub fn note_failure(
+        &mut self,
+        link: LinkId,
+        reason: FailureReason,
+        now_ms: u64,
+    ) -> Option<FailingTimer>
+        ensures timer { result ≡ timer_of reason (slice_get self.old link) }
+        ensures links { self.new ≡ failed_at link reason now_ms self.old }
+    {
+        let row = self.rows.get_mut(link.index())?;
+        let timer = ran_out(reason, row.timer);
+        row.failure = Some(LinkFailure {
+            reason,
+            timer,
+            at_ms: now_ms,
+        });
+        timer
     }
 }

@@ -1,10 +1,12 @@
 //! What is seen of the links and the destinations of a node.
 
 ghost use Rattle.std.specs.Prelude.{◌≡◌};
+ghost use Rattle.served_link.specs.LinkFailures.{failing_by, failing_timer, timer_in_service};
 ghost use Rattle.served_link.specs.ShownStates.{access_by, destination_state_in, down_state, served_state, service_state_in};
 ghost use Rattle.served_link.specs.ShownStates.{state_by};
 
 use crate::destination_states::{Access, DestinationState};
+use crate::link_failure::FailingTimer;
 use crate::service_states::ServiceState;
 use exchange::{Exchange, LinkStanding, Obstacle, RouteStatus, Wants};
 use signalling_types::LinkId;
@@ -60,6 +62,41 @@ fn served_state(obstacle: Option<Obstacle>) -> ServiceState
         Some(Obstacle::Untested) => ServiceState::UnderTest,
         Some(Obstacle::PeerOutage) => ServiceState::ProcessorOutage,
         Some(Obstacle::PeerBusy) | None => ServiceState::InService,
+    }
+}
+
+/// The timer that fails a link if it runs out next, by where the link stands; None if none does, or if no link has this
+/// number.
+pub fn failing_timer(exchange: &Exchange, link: LinkId) -> Option<FailingTimer>
+    ensures { result ≡ failing_timer exchange.now link }
+{
+    match exchange.link(link) {
+        Some(view) => failing_by(view.standing, exchange.obstacle(link)),
+        None => None,
+    }
+}
+
+/// The same of a link that stands so, with this that keeps messages off it.
+fn failing_by(standing: LinkStanding, obstacle: Option<Obstacle>) -> Option<FailingTimer>
+    ensures { result ≡ failing_by standing obstacle }
+{
+    match standing {
+        LinkStanding::Down | LinkStanding::Proving => None,
+        LinkStanding::NotAligned => Some(FailingTimer::L2),
+        LinkStanding::Aligned => Some(FailingTimer::L3),
+        LinkStanding::AlignedReady => Some(FailingTimer::L1),
+        LinkStanding::InService => Some(timer_in_service(obstacle)),
+    }
+}
+
+/// The same of a link in service.
+fn timer_in_service(obstacle: Option<Obstacle>) -> FailingTimer
+    ensures { result ≡ timer_in_service obstacle }
+{
+    match obstacle {
+        Some(Obstacle::PeerBusy | Obstacle::PeerOutage) => FailingTimer::L6,
+        Some(Obstacle::Untested) => FailingTimer::L6OrL7,
+        None => FailingTimer::L7,
     }
 }
 
