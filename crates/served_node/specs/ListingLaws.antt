@@ -14,7 +14,7 @@ use Rattle.served_node.specs.declared.console_session.link_facts.TheConstants.{L
 abbrev pub every_fact : List LinkFact
 every_fact =
     fact.Name ∷ fact.Set ∷ fact.Code ∷ fact.Adjacent ∷ fact.State ∷ fact.Waiting ∷ fact.LastSent ∷ fact.LastAccepted
-    ∷ fact.Barred ∷ fact.Share ∷ []
+    ∷ fact.Barred ∷ fact.Share ∷ fact.LastFailure ∷ fact.Retransmissions ∷ []
 
 -- the parts of a settings file
 abbrev pub every_part : List SettingsPart

@@ -20,8 +20,10 @@ use Rattle.console.specs.declared.settings_part.SettingsPart.{SettingsPart}
 use Rattle.console.specs.declared.settings_part.TheConstants.{SETTINGS_PARTS}
 use Rattle.console.specs.declared.timer_keys.TheConstants.{TIMERS}
 use Rattle.served_link.specs.AlarmTexts.{seconds_text}
+use Rattle.served_link.specs.LinkFailures.{failure_text}
 use Rattle.served_link.specs.ServiceStates.{is_available, state_words}
 use Rattle.served_link.specs.ShownStates.{service_state_in}
+use Rattle.served_link.specs.declared.row.LinkCounters.{LinkCounters}
 use Rattle.served_link.specs.declared.service_states.ServiceState.{ServiceState}
 use Rattle.served_link.specs.declared.service_states.StateSince.{StateSince}
 use Rattle.served_node.specs.Counters.{first_texts}
@@ -167,35 +169,50 @@ abbrev pub state_fact : Option StateSince → List ℕ
 state_fact (Some seen) = codes "state " ++ state_words seen.state ++ codes " since " ++ seconds_text seen.since_ms ++ codes "\n"
 state_fact None = []
 
+-- its last failure: why, which timer ran out, if one did, and when that was, in seconds after the start
+abbrev pub failure_fact : Option StateSince → List ℕ
+failure_fact (Some seen) = codes "last failure " ++ failure_text seen.failure ++ codes "\n"
+failure_fact None = []
+
+-- how many chunks its associations over SCTP sent again since the start
+abbrev pub retransmissions_fact : Option LinkCounters → List ℕ
+retransmissions_fact (Some row) = number_fact (codes "retransmissions ") row.retransmissions
+retransmissions_fact None = []
+
 abbrev pub barred_fact : (is_barred : Bool) → List ℕ
 barred_fact true = codes "barred yes\n"
 barred_fact false = codes "barred no\n"
 
 abbrev pub fact_text :
-    PointFormat → List StateSince → Kept → (link : ℕ) → LinkEntry → LinkView → LinkFact → List ℕ
-fact_text points states s link row view fact.Name = name_fact (codes "link ") row.name
-fact_text points states s link row view fact.Set = name_fact (codes "set ") (set_name_in s.settings row.set)
-fact_text points states s link row view fact.Code = number_fact (codes "code ") row.slc
-fact_text points states s link row view fact.Adjacent = adjacent_fact points (slice_get s.settings.sets row.set)
-fact_text points states s link row view fact.State = state_fact (slice_get states link)
-fact_text points states s link row view fact.Waiting = number_fact (codes "waiting ") view.waiting
-fact_text points states s link row view fact.LastSent = given_fact (codes "last sent ") (some_number view.last_sent)
-fact_text points states s link row view fact.LastAccepted =
+    PointFormat → List StateSince → List LinkCounters → Kept → (link : ℕ) → LinkEntry → LinkView → LinkFact → List ℕ
+fact_text points states counts s link row view fact.Name = name_fact (codes "link ") row.name
+fact_text points states counts s link row view fact.Set = name_fact (codes "set ") (set_name_in s.settings row.set)
+fact_text points states counts s link row view fact.Code = number_fact (codes "code ") row.slc
+fact_text points states counts s link row view fact.Adjacent = adjacent_fact points (slice_get s.settings.sets row.set)
+fact_text points states counts s link row view fact.State = state_fact (slice_get states link)
+fact_text points states counts s link row view fact.Waiting = number_fact (codes "waiting ") view.waiting
+fact_text points states counts s link row view fact.LastSent =
+    given_fact (codes "last sent ") (some_number view.last_sent)
+fact_text points states counts s link row view fact.LastAccepted =
     given_fact (codes "last accepted ") (some_number view.last_accepted)
-fact_text points states s link row view fact.Barred = barred_fact (is_barred_at s link)
-fact_text points states s link row view fact.Share = given_fact (codes "share ") row.share
+fact_text points states counts s link row view fact.Barred = barred_fact (is_barred_at s link)
+fact_text points states counts s link row view fact.Share = given_fact (codes "share ") row.share
+fact_text points states counts s link row view fact.LastFailure = failure_fact (slice_get states link)
+fact_text points states counts s link row view fact.Retransmissions = retransmissions_fact (slice_get counts link)
 
 -- a link that is there
 abbrev pub fact_of :
-    PointFormat → List StateSince → Kept → (link : ℕ) → Option LinkEntry → Option LinkView → LinkFact → List ℕ
-fact_of points states s link (Some row) (Some view) fact = fact_text points states s link row view fact
-fact_of points states s link (Some row) None fact = []
-fact_of points states s link None view fact = []
+    PointFormat → List StateSince → List LinkCounters → Kept → (link : ℕ) → Option LinkEntry → Option LinkView →
+    LinkFact → List ℕ
+fact_of points states counts s link (Some row) (Some view) fact = fact_text points states counts s link row view fact
+fact_of points states counts s link (Some row) None fact = []
+fact_of points states counts s link None view fact = []
 
-abbrev pub link_fact : PointFormat → List StateSince → Kept → (link : ℕ) → Option LinkFact → List ℕ
-link_fact points states s link (Some fact) =
-    fact_of points states s link (slice_get s.settings.links link) (link_view kept s link) fact
-link_fact points states s link None = []
+abbrev pub link_fact :
+    PointFormat → List StateSince → List LinkCounters → Kept → (link : ℕ) → Option LinkFact → List ℕ
+link_fact points states counts s link (Some fact) =
+    fact_of points states counts s link (slice_get s.settings.links link) (link_view kept s link) fact
+link_fact points states counts s link None = []
 
 -- ---- a whole text
 
@@ -207,14 +224,17 @@ head_of listing.Routes = routes_head
 head_of (listing.Link link) = []
 
 -- the row of entry k of a table, or line k about a link
-abbrev pub entry_of : PointFormat → (tick_ms : ℕ) → List StateSince → Kept → Listing → ℕ → List ℕ
-entry_of points tick_ms states s listing.Timers k = row_of_timer tick_ms (slice_get (keyed_timers s.settings.timers) k)
-entry_of points tick_ms states s listing.Sets k = row_of_set points s k (slice_get s.settings.sets k)
-entry_of points tick_ms states s listing.Links k =
+abbrev pub entry_of :
+    PointFormat → (tick_ms : ℕ) → List StateSince → List LinkCounters → Kept → Listing → ℕ → List ℕ
+entry_of points tick_ms states counts s listing.Timers k =
+    row_of_timer tick_ms (slice_get (keyed_timers s.settings.timers) k)
+entry_of points tick_ms states counts s listing.Sets k = row_of_set points s k (slice_get s.settings.sets k)
+entry_of points tick_ms states counts s listing.Links k =
     row_of_link states s k (slice_get s.settings.links k) (link_view kept s k)
-entry_of points tick_ms states s listing.Routes k =
+entry_of points tick_ms states counts s listing.Routes k =
     row_of_route points s k (slice_get s.settings.destinations k) (route_view s k)
-entry_of points tick_ms states s (listing.Link link) k = link_fact points states s link (slice_get LINK_FACTS.now k)
+entry_of points tick_ms states counts s (listing.Link link) k =
+    link_fact points states counts s link (slice_get LINK_FACTS.now k)
 
 abbrev pub length_of : Kept → Listing → ℕ
 length_of s listing.Timers = TIMERS
@@ -223,12 +243,15 @@ length_of s listing.Links = length s.settings.links
 length_of s listing.Routes = length s.settings.destinations
 length_of s (listing.Link link) = length LINK_FACTS.now
 
-abbrev pub entries_text : PointFormat → (tick_ms : ℕ) → List StateSince → Kept → Listing → List ℕ
-entries_text points tick_ms states s listing =
-    first_texts (entry_of points tick_ms states s listing) (length_of s listing)
+abbrev pub entries_text :
+    PointFormat → (tick_ms : ℕ) → List StateSince → List LinkCounters → Kept → Listing → List ℕ
+entries_text points tick_ms states counts s listing =
+    first_texts (entry_of points tick_ms states counts s listing) (length_of s listing)
 
-abbrev pub listing_text : PointFormat → (tick_ms : ℕ) → List StateSince → Kept → Listing → List ℕ
-listing_text points tick_ms states s listing = head_of listing ++ entries_text points tick_ms states s listing
+abbrev pub listing_text :
+    PointFormat → (tick_ms : ℕ) → List StateSince → List LinkCounters → Kept → Listing → List ℕ
+listing_text points tick_ms states counts s listing =
+    head_of listing ++ entries_text points tick_ms states counts s listing
 
 -- the settings as they are now, part by part
 abbrev pub rows_text : PointFormat → Kept → SettingsPart → List ℕ

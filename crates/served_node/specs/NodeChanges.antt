@@ -1,14 +1,17 @@
 -- What the log is told of what is found at a node.
-use Rattle.std.specs.Prelude.{◌≡◌, ℕ, Bool, true, false, not, List, [], ◌∷◌, Option, None, Some, is_some, slice_get, slice_set, unwrap_or}
+use Rattle.std.specs.Prelude.{◌≡◌, ℕ, zero, suc, Bool, true, false, not, List, [], ◌∷◌, Option, None, Some, is_some}
+use Rattle.std.specs.Prelude.{slice_get, slice_set, unwrap_or}
 use Rattle.std.specs.Option.{option_map}
 use Rattle.std.specs.declared.time.Duration.{Duration}
 use Rattle.settings.specs.Configuration.{Configuration}
 use Rattle.settings.specs.declared.point.PointFormat.{PointFormat}
+use Rattle.exchange.specs.Calls.{Kept}
 use Rattle.script.specs.Streams.{Output}
 use Rattle.served_link.specs.Alarms.{change_at, noted, place_of}
 use Rattle.served_link.specs.DestinationStates.{is_changed, is_closed}
 use Rattle.served_link.specs.LogLines.{alarm_change_text, destination_change_text, link_change_text, set_change_text}
-use Rattle.served_link.specs.ServiceStates.{change_at as state_change_at, is_available, links_after}
+use Rattle.served_link.specs.LinkFailures.{failing_timer}
+use Rattle.served_link.specs.ServiceStates.{change_at as state_change_at, is_available, links_after, timed_at}
 use Rattle.served_link.specs.declared.alarm.Alarm.{Alarm}
 use Rattle.served_link.specs.declared.alarm.Alarm.TheVariants as alarm
 use Rattle.served_link.specs.declared.alarms.AlarmChange.{AlarmChange}
@@ -67,6 +70,11 @@ abbrev pub after_link : (link : ℕ) → (found : ServiceState) → (now : ℕ) 
 after_link link found now w =
     after_alarm (alarm.Link link) (not (is_available found)) now
     (record w { links = links_after link found now w.links })
+
+-- a tick begins: by which timer each of the first links fails if it runs out
+abbrev pub with_timers : Kept → (links : ℕ) → List StateSince → List StateSince
+with_timers s zero states = states
+with_timers s (suc link) states = timed_at link (failing_timer s link) (with_timers s link states)
 
 -- a line if its state changed, and these behind it
 abbrev pub link_texts_by :

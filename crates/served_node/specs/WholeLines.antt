@@ -24,6 +24,7 @@ use Rattle.served_node.specs.Captured.{Captured, after_order, answer_to, capture
 use Rattle.served_node.specs.declared.console_session.help.TheConstants.{HELP}
 use Rattle.served_node.specs.declared.console_session.client.TheConstants.{VERSION, WATCHING, STOPPING}
 use Rattle.served_link.specs.Counting.{NodeCounters}
+use Rattle.served_link.specs.declared.row.LinkCounters.{LinkCounters}
 use Rattle.settings.specs.declared.point.PointFormat.{PointFormat}
 use Rattle.served_node.specs.declared.console_session.client.Ending.{Ending}
 use Rattle.served_node.specs.declared.console_session.client.Ending.TheVariants.{Stays, Closes, Leaves, Stops}
@@ -115,11 +116,11 @@ shown points counters alarms links tick_ms = record {
 
 -- what is known of a link of this name is shown; if there is none, that is said, and which name is nearest, whether
 -- memory was refused for that or not
-abbrev pub IsLinkShown : Option ℕ → (name : List ℕ) → PointFormat → (tick_ms : ℕ) → List StateSince → Ending → Kept
-    → (old new : ClientState) → Type 0
-IsLinkShown (Some link) name points tick_ms links ending s old new =
-    IsShown (listing_text points tick_ms links s (Link link)) ending old new
-IsLinkShown None name points tick_ms links ending s old new =
+abbrev pub IsLinkShown : Option ℕ → (name : List ℕ) → PointFormat → (tick_ms : ℕ) → List StateSince → List LinkCounters
+    → Ending → Kept → (old new : ClientState) → Type 0
+IsLinkShown (Some link) name points tick_ms links counts ending s old new =
+    IsShown (listing_text points tick_ms links counts s (Link link)) ending old new
+IsLinkShown None name points tick_ms links counts ending s old new =
     (lacks_memory : Bool) × IsTold (no_link_text lacks_memory s.settings name) Stays ending old new
 
 -- what becomes of a title at a node
@@ -150,10 +151,12 @@ DoesHeard HearsAlarms is_first shown captured captured_after ending s after old 
     (after ≡ s) × (captured_after ≡ captured)
     × IsShown (alarms_text shown.points s.settings shown.alarms) ending old new
 DoesHeard (HearsListing listing) is_first shown captured captured_after ending s after old new =
-    (after ≡ s) × (captured_after ≡ captured) × IsShown (listing_text shown.points shown.tick_ms shown.links s listing) ending old new
+    (after ≡ s) × (captured_after ≡ captured)
+    × IsShown (listing_text shown.points shown.tick_ms shown.links shown.counters.links s listing) ending old new
 DoesHeard (HearsLink name) is_first shown captured captured_after ending s after old new =
     (after ≡ s) × (captured_after ≡ captured)
-    × IsLinkShown (link_place s.settings name) name shown.points shown.tick_ms shown.links ending s old new
+    × IsLinkShown (link_place s.settings name) name shown.points shown.tick_ms shown.links shown.counters.links ending s
+    old new
 DoesHeard HearsSettings is_first shown captured captured_after ending s after old new =
     (after ≡ s) × (captured_after ≡ captured) × IsShown (settings_text shown.points s) ending old new
 DoesHeard (HearsTitle name) is_first shown captured captured_after ending s after old new =

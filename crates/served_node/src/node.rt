@@ -84,6 +84,7 @@ impl Node {
     pub fn tick<W: Sink>(&mut self, log: &mut Log<'_, W>)
         ensures { self.new.exchange ≡ after_tests kept (after kept Ticked self.old.exchange) }
     {
+        self.observers.watch.note_timers(&self.exchange);
         self.exchange.step(&Event::Tick);
         self.exchange.test_subsystems();
         self.look(FailureReason::Timer, log);

@@ -7,6 +7,7 @@ ghost use Rattle.served_link.specs.Times.{millis_of};
 ghost use Rattle.served_node.specs.NodeChanges.{TellsEach, after_alarm, after_destination, after_link, alarm_change};
 ghost use Rattle.served_node.specs.NodeChanges.{alarm_texts, destination_texts, link_texts, set_texts};
 
+mod failures;
 mod times;
 
 use crate::changes::{tell_destination, tell_link};

@@ -2,7 +2,7 @@
 
 ghost use Rattle.std.specs.Prelude.{◌≡◌};
 ghost use Rattle.served_link.specs.Counting.{DatagramCame, DatagramWent, StrangerCame, counted_datagram};
-ghost use Rattle.served_link.specs.Counting.{WasSetBack, counted_at, frame_came, frame_went};
+ghost use Rattle.served_link.specs.Counting.{WasSetBack, WentAgain, counted_at, frame_came, frame_went};
 
 use crate::observers::{Observers, make_room};
 use served_link::Setback;
@@ -38,6 +38,13 @@ impl Observers {
         ensures { self.new.counters ≡ counted_at link (WasSetBack setback) self.old.counters }
     {
         self.counters.count_setback(link, setback);
+    }
+
+    /// The association of a link over SCTP sent this many chunks again: they are counted.
+    pub fn went_again(&mut self, link: LinkId, chunks: u64)
+        ensures { self.new.counters ≡ counted_at link (WentAgain chunks) self.old.counters }
+    {
+        self.counters.count_retransmissions(link, chunks);
     }
 
     /// A message came in as a frame and was handed in, with this outcome. It is counted, and the clients that asked for

@@ -1,5 +1,9 @@
 //! What is told of notices and flags: the log and the clients that watch them, and what is counted of failures.
 
+ghost use Rattle.std.specs.Prelude.{◌≡◌, slice_get};
+ghost use Rattle.served_link.specs.Counting.{Failure, counted_at};
+ghost use Rattle.served_link.specs.ServiceStates.{failed_at, timer_of};
+
 use crate::console_session::News;
 use crate::log::Log;
 use crate::noticing::newly_raised;
@@ -8,6 +12,8 @@ use arrayvec::ArrayString;
 use console::{LINE_OCTETS, show_notices};
 use exchange::Exchange;
 use script::Sink;
+use served_link::times::millis;
+use served_link::{FailingTimer, timer_suffix};
 use settings::{FailureReason, LinkId, Notice};
 use std::fmt::Write;
 
@@ -27,7 +33,7 @@ impl Observers {
         }
         self.tell_missed(log);
         self.tell_last(exchange, new.kept, log);
-        self.count_dropped_failures(exchange, new.kept, dropped);
+        self.note_dropped_failures(exchange, new.kept, dropped, millis(log.now));
         self.tell_flags(exchange, log);
     }
 
@@ -70,27 +76,55 @@ impl Observers {
         }
     }
 
-    /// Tells of the notice in this place.
+    /// Tells of the notice in this place. The log is also told which timer ran out, if a link failed by one.
     fn tell<W: Sink>(&mut self, exchange: &Exchange, k: usize, log: &mut Log<'_, W>) {
-        if let Some(Notice::Failed(link, reason)) = exchange.notices().get(k) {
-            self.counters.count_failure(*link, *reason);
-        }
+        let timer = match exchange.notices().get(k) {
+            Some(Notice::Failed(link, reason)) => {
+                self.note_failure(*link, *reason, millis(log.now))
+            }
+            _ => None,
+        };
         let mut line = ArrayString::<LINE_OCTETS>::new();
         if show_notices(exchange, k, self.points, &mut line) {
             self.clients.tell_line(News::Notice, line.as_bytes());
-            log.tell(&format_args!("notice {line}"));
+            let suffix = timer_suffix(timer);
+            log.tell(&format_args!("notice {line}{suffix}"));
         }
     }
 
-    /// Counts the failures of links whose notice isn't among the last `count`, since it was dropped for later ones.
+    /// A link failed for this reason, so many milliseconds after the start: that is counted, and shown as its last
+    /// failure. Returns the timer that ran out, if one did.
+    fn note_failure(
+        &mut self,
+        link: LinkId,
+        reason: FailureReason,
+        now_ms: u64,
+    ) -> Option<FailingTimer>
+        ensures timer { result ≡ timer_of reason (slice_get self.old.watch.links link) }
+        ensures counters { self.new.counters ≡ counted_at link (Failure reason) self.old.counters }
+        ensures watch { self.new.watch ≡ record self.old.watch {
+          links = failed_at link reason now_ms self.old.watch.links;
+        } }
+    {
+        self.counters.count_failure(link, reason);
+        self.watch.note_failure(link, reason, now_ms)
+    }
+
+    /// Notes the failures of links whose notice isn't among the last `count`, since it was dropped for later ones.
     /// More notices than are kept come between two looks if a changeover order loses many messages, or if the messages
     /// that a changeover held find no route.
-    fn count_dropped_failures(&mut self, exchange: &Exchange, count: usize, reason: FailureReason) {
+    fn note_dropped_failures(
+        &mut self,
+        exchange: &Exchange,
+        count: usize,
+        reason: FailureReason,
+        now_ms: u64,
+    ) {
         let first = exchange.notices().len().saturating_sub(count);
         for k in 0..exchange.settings().link_count() {
             let link = LinkId::new(u8::try_from(k).unwrap_or(u8::MAX));
             if self.seen.fell(link) && !is_failure_told(exchange, link, first) {
-                self.counters.count_failure(link, reason);
+                self.note_failure(link, reason, now_ms);
             }
         }
     }

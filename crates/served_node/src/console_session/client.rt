@@ -309,12 +309,13 @@ impl ConsoleClient {
     /// Shows a listing.
     fn list(&mut self, listing: Listing, context: &ConsoleContext<'_>) -> Result<(), WriteFailed>
         ensures { IsShown (listing_text context.now.points context.now.tick_ms context.now.links.now
-            context.now.exchange.now listing) (ending_by result) self.old self.new }
+            context.now.counters.now.links context.now.exchange.now listing) (ending_by result) self.old self.new }
     {
         print_listing(
             context.exchange,
             &listing,
             context.links,
+            context.counters,
             context.points,
             context.tick_ms,
             &mut self.outbox,
@@ -345,8 +346,8 @@ impl ConsoleClient {
     /// Shows what is known of the link of this name. If there is none, says so, and which name is nearest.
     fn show_link(&mut self, name: &[u8], context: &ConsoleContext<'_>) -> Result<(), WriteFailed>
         ensures { IsLinkShown (link_place context.now.exchange.now.settings name.now) name.now
-            context.now.points context.now.tick_ms context.now.links.now (ending_by result)
-            context.now.exchange.now self.old self.new }
+            context.now.points context.now.tick_ms context.now.links.now context.now.counters.now.links
+            (ending_by result) context.now.exchange.now self.old self.new }
     {
         let settings = context.exchange.settings();
         match settings.link_named(name) {

@@ -8,7 +8,7 @@ use super::table::some_number;
 use arrayvec::ArrayString;
 use console::{LINE_OCTETS, push_number, push_point, set_name};
 use exchange::{Exchange, LinkView};
-use served_link::{ServiceStates, StateSince, seconds_text};
+use served_link::{Counters, LinkCounters, ServiceStates, StateSince, failure_text, seconds_text};
 use settings::{Limits, LinkId, LinkRow, PointFormat, SetRow};
 
 /// Something that is known of a link.
@@ -34,6 +34,11 @@ pub enum LinkFact {
     Barred,
     /// `share N`: its share of the pool, or `-`.
     Share,
+    /// `last failure REASON at S`, with the timer that ran out behind the reason, if one did, and S in seconds after
+    /// the start; or `last failure -`.
+    LastFailure,
+    /// `retransmissions N`: how many chunks its associations over SCTP sent again since the start.
+    Retransmissions,
 }
 
 /// All that is known of a link, in the order in which it is shown.
@@ -48,6 +53,8 @@ pub const LINK_FACTS: &[LinkFact] = &[
     LinkFact::LastAccepted,
     LinkFact::Barred,
     LinkFact::Share,
+    LinkFact::LastFailure,
+    LinkFact::Retransmissions,
 ];
 
 /// A line.
@@ -65,11 +72,12 @@ pub(crate) fn fact_at(k: usize) -> Option<LinkFact>
 pub(crate) fn link_fact(
     exchange: &Exchange,
     links: &ServiceStates,
+    counters: &Counters,
     link: LinkId,
     fact: Option<LinkFact>,
     points: PointFormat,
 ) -> FactLine
-    ensures { result.bytes ≡ text.link_fact points links.now exchange.now link fact }
+    ensures { result.bytes ≡ text.link_fact points links.now counters.now.links exchange.now link fact }
 {
     let Some(fact) = fact else {
         return FactLine::new();
@@ -78,7 +86,7 @@ pub(crate) fn link_fact(
         return FactLine::new();
     };
     match exchange.link(link) {
-        Some(view) => fact_line(exchange, links, link, row, view, fact, points),
+        Some(view) => fact_line(exchange, links, counters, link, row, view, fact, points),
         None => FactLine::new(),
     }
 }
@@ -87,13 +95,14 @@ pub(crate) fn link_fact(
 fn fact_line(
     exchange: &Exchange,
     links: &ServiceStates,
+    counters: &Counters,
     link: LinkId,
     row: &LinkRow,
     view: LinkView,
     fact: LinkFact,
     points: PointFormat,
 ) -> FactLine
-    ensures { result.bytes ≡ text.fact_text points links.now exchange.now link row.now view fact }
+    ensures { result.bytes ≡ text.fact_text points links.now counters.now.links exchange.now link row.now view fact }
 {
     let settings = exchange.settings();
     match fact {
@@ -109,6 +118,8 @@ fn fact_line(
         }
         LinkFact::Barred => barred_fact(exchange.is_barred(link)),
         LinkFact::Share => given_fact("share ", share_of(row)),
+        LinkFact::LastFailure => failure_fact(links.link(link)),
+        LinkFact::Retransmissions => retransmissions_fact(counters.row(link)),
     }
 }
 
@@ -193,4 +204,27 @@ fn barred_fact(is_barred: bool) -> FactLine
         "barred no\n"
     });
     line
+}
+
+/// Why and when a link failed last.
+fn failure_fact(seen: Option<&StateSince>) -> FactLine
+    ensures { result.bytes ≡ text.failure_fact (option_copied seen.entry) }
+{
+    let mut line = FactLine::new();
+    if let Some(seen) = seen {
+        line.push_str("last failure ");
+        line.push_str(failure_text(seen.failure).as_str());
+        line.push_str("\n");
+    }
+    line
+}
+
+/// How many chunks the associations of a link sent again.
+fn retransmissions_fact(row: Option<&LinkCounters>) -> FactLine
+    ensures { result.bytes ≡ text.retransmissions_fact (option_copied row.entry) }
+{
+    match row {
+        Some(row) => number_fact("retransmissions ", row.retransmissions),
+        None => FactLine::new(),
+    }
 }

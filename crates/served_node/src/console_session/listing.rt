@@ -14,7 +14,7 @@ use super::timer_rows::{TIMERS_HEAD, timer_row};
 use console::TIMERS;
 use exchange::Exchange;
 use script::{Sink, WriteFailed};
-use served_link::ServiceStates;
+use served_link::{Counters, ServiceStates};
 use settings::{LinkId, PointFormat};
 
 /// A table, or the facts about a link.
@@ -32,24 +32,25 @@ pub enum Listing {
     Link(LinkId),
 }
 
-/// Prints a listing: the head line of a table, and then each entry. The links are those that were last seen, and a tick
-/// takes so many milliseconds.
+/// Prints a listing: the head line of a table, and then each entry. The links are those that were last seen, with what
+/// is counted for each, and a tick takes so many milliseconds.
 pub(crate) fn print_listing<W: Sink>(
     exchange: &Exchange,
     listing: &Listing,
     links: &ServiceStates,
+    counters: &Counters,
     points: PointFormat,
     tick_ms: u16,
     writer: &mut W,
 ) -> Result<(), WriteFailed>
     ensures all { OnOk result (Appends (W.output writer.old).written (W.output writer.new).written
-        (listing_text points tick_ms links.now exchange.now listing.now)) }
+        (listing_text points tick_ms links.now counters.now.links exchange.now listing.now)) }
     ensures first { OnErr result (AppendsFirst (W.output writer.old).written (W.output writer.new).written
-        (listing_text points tick_ms links.now exchange.now listing.now)) }
+        (listing_text points tick_ms links.now counters.now.links exchange.now listing.now)) }
     ensures counted { (W.output writer.new).failures ≡ failures_after (W.output writer.old).failures result }
 {
     writer.write(head_of(listing).as_bytes())?;
-    print_entries(exchange, listing, links, points, tick_ms, writer)
+    print_entries(exchange, listing, links, counters, points, tick_ms, writer)
 }
 
 /// The head line of a table.
@@ -71,18 +72,21 @@ fn print_entries<W: Sink>(
     exchange: &Exchange,
     listing: &Listing,
     links: &ServiceStates,
+    counters: &Counters,
     points: PointFormat,
     tick_ms: u16,
     writer: &mut W,
 ) -> Result<(), WriteFailed>
     ensures all { OnOk result (Appends (W.output writer.old).written (W.output writer.new).written
-        (entries_text points tick_ms links.now exchange.now listing.now)) }
+        (entries_text points tick_ms links.now counters.now.links exchange.now listing.now)) }
     ensures first { OnErr result (AppendsFirst (W.output writer.old).written (W.output writer.new).written
-        (entries_text points tick_ms links.now exchange.now listing.now)) }
+        (entries_text points tick_ms links.now counters.now.links exchange.now listing.now)) }
     ensures counted { (W.output writer.new).failures ≡ failures_after (W.output writer.old).failures result }
 {
     for k in 0..length_of(exchange, listing) {
-        print_entry(exchange, listing, k, links, points, tick_ms, writer)?;
+        print_entry(
+            exchange, listing, k, links, counters, points, tick_ms, writer,
+        )?;
     }
     Ok(())
 }
@@ -93,17 +97,18 @@ fn print_entry<W: Sink>(
     listing: &Listing,
     k: usize,
     links: &ServiceStates,
+    counters: &Counters,
     points: PointFormat,
     tick_ms: u16,
     writer: &mut W,
 ) -> Result<(), WriteFailed>
     ensures all { OnOk result (Appends (W.output writer.old).written (W.output writer.new).written
-        (entry_of points tick_ms links.now exchange.now listing.now k)) }
+        (entry_of points tick_ms links.now counters.now.links exchange.now listing.now k)) }
     ensures first { OnErr result (AppendsFirst (W.output writer.old).written (W.output writer.new).written
-        (entry_of points tick_ms links.now exchange.now listing.now k)) }
+        (entry_of points tick_ms links.now counters.now.links exchange.now listing.now k)) }
     ensures counted { (W.output writer.new).failures ≡ failures_after (W.output writer.old).failures result }
 {
-    writer.write(entry_of(exchange, listing, k, links, points, tick_ms).as_bytes())
+    writer.write(entry_of(exchange, listing, k, links, counters, points, tick_ms).as_bytes())
 }
 
 /// The row of entry `k` of a table, or line `k` about a link; nothing past the last.
@@ -112,17 +117,18 @@ fn entry_of(
     listing: &Listing,
     k: usize,
     links: &ServiceStates,
+    counters: &Counters,
     points: PointFormat,
     tick_ms: u16,
 ) -> Row
-    ensures { result.bytes ≡ entry_of points tick_ms links.now exchange.now listing.now k }
+    ensures { result.bytes ≡ entry_of points tick_ms links.now counters.now.links exchange.now listing.now k }
 {
     match listing {
         Listing::Timers => timer_row(exchange.settings().timers(), k, tick_ms),
         Listing::Sets => set_row(exchange, k, points),
         Listing::Links => link_row(exchange, links, k),
         Listing::Routes => route_row(exchange, k, points),
-        Listing::Link(link) => fact_row(exchange, links, *link, k, points),
+        Listing::Link(link) => fact_row(exchange, links, counters, *link, k, points),
     }
 }
 
@@ -130,14 +136,16 @@ fn entry_of(
 fn fact_row(
     exchange: &Exchange,
     links: &ServiceStates,
+    counters: &Counters,
     link: LinkId,
     k: usize,
     points: PointFormat,
 ) -> Row
-    ensures { result.bytes ≡ link_fact points links.now exchange.now link (slice_get LINK_FACTS.now k) }
+    ensures { result.bytes ≡ link_fact points links.now counters.now.links exchange.now link
+        (slice_get LINK_FACTS.now k) }
 {
     let mut row = Row::new();
-    row.push_str(link_fact(exchange, links, link, fact_at(k), points).as_str());
+    row.push_str(link_fact(exchange, links, counters, link, fact_at(k), points).as_str());
     row
 }
 

@@ -12,4 +12,4 @@ returns-in-Timers c =
     c.timer_row.ensures
     ∙ ap (λ (t : TimerTicks). row_of_timer c.args.tick_ms (slice_get (keyed_timers t) c.args.k))
     (c.timers.ensures.value ∙ ap (λ (s : Settings). s.timers) c.settings.ensures.kept_settings)
-    ∙ sym (ap (λ (l : Listing). entry_of c.args.points c.args.tick_ms c.args.links.now c.args.exchange.now l c.args.k) c.in-Timers.is)
+    ∙ sym (ap (λ (l : Listing). entry_of c.args.points c.args.tick_ms c.args.links.now c.args.counters.now.links c.args.exchange.now l c.args.k) c.in-Timers.is)

@@ -7,7 +7,7 @@ use Rattle.served_node.proofs.console_session.listing.print_entries.Goals as goa
 
 pub loop-k-preserved : goal.loop-k-preserved
 loop-k-preserved g c =
-    let text = entry_of c.args.points c.args.tick_ms c.args.links.now c.args.exchange.now c.args.listing.now in
+    let text = entry_of c.args.points c.args.tick_ms c.args.links.now c.args.counters.now.links c.args.exchange.now c.args.listing.now in
     let w0 = (g.W.Sink.output c.args.writer.now).written in
     let w1 = (g.W.Sink.output c.loop-k.writer).written in
     let w2 = (g.W.Sink.output c.print_entry.new.writer).written in
@@ -18,7 +18,7 @@ loop-k-preserved g c =
 
 pub returns-in_err-print_entry-clause-first : goal.returns-in_err-print_entry-clause-first
 returns-in_err-print_entry-clause-first g c =
-    let text = entry_of c.args.points c.args.tick_ms c.args.links.now c.args.exchange.now c.args.listing.now in
+    let text = entry_of c.args.points c.args.tick_ms c.args.links.now c.args.counters.now.links c.args.exchange.now c.args.listing.now in
     let w0 = (g.W.Sink.output c.args.writer.now).written in
     let w1 = (g.W.Sink.output c.loop-k.writer).written in
     let w2 = (g.W.Sink.output c.print_entry.new.writer).written in

@@ -9,6 +9,6 @@ abbrev pub invariant-loop-k : goal.invariant-loop-k
 invariant-loop-k g l = record {
   written :
       Appends (g.W.Sink.output l.fn.writer).written (g.W.Sink.output l.writer).written
-      (first_texts (entry_of l.fn.points l.fn.tick_ms l.fn.links l.fn.exchange l.fn.listing) l.k);
+      (first_texts (entry_of l.fn.points l.fn.tick_ms l.fn.links l.fn.counters.links l.fn.exchange l.fn.listing) l.k);
   failures : (g.W.Sink.output l.writer).failures ≡ (g.W.Sink.output l.fn.writer).failures;
 }

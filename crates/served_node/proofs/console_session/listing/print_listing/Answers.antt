@@ -11,7 +11,7 @@ use Rattle.served_node.proofs.console_session.listing.print_listing.Goals as goa
 pub returns-in_err-write-clause-first : goal.returns-in_err-write-clause-first
 returns-in_err-write-clause-first g c =
     let head = head_of c.args.listing.now in
-    let entries = entries_text c.args.points c.args.tick_ms c.args.links.now c.args.exchange.now c.args.listing.now in
+    let entries = entries_text c.args.points c.args.tick_ms c.args.links.now c.args.counters.now.links c.args.exchange.now c.args.listing.now in
     let w0 = (g.W.Sink.output c.args.writer.now).written in
     let w1 = (g.W.Sink.output c.write.new.self).written in
     on-error _ c.from_residual.result
@@ -20,7 +20,7 @@ returns-in_err-write-clause-first g c =
 pub returns-clause-all : goal.returns-clause-all
 returns-clause-all g c =
     let head = head_of c.args.listing.now in
-    let entries = entries_text c.args.points c.args.tick_ms c.args.links.now c.args.exchange.now c.args.listing.now in
+    let entries = entries_text c.args.points c.args.tick_ms c.args.links.now c.args.counters.now.links c.args.exchange.now c.args.listing.now in
     let w0 = (g.W.Sink.output c.args.writer.now).written in
     let w1 = (g.W.Sink.output c.write.new.self).written in
     let w2 = (g.W.Sink.output c.print_entries.new.writer).written in
@@ -30,7 +30,7 @@ returns-clause-all g c =
 pub returns-clause-first : goal.returns-clause-first
 returns-clause-first g c =
     let head = head_of c.args.listing.now in
-    let entries = entries_text c.args.points c.args.tick_ms c.args.links.now c.args.exchange.now c.args.listing.now in
+    let entries = entries_text c.args.points c.args.tick_ms c.args.links.now c.args.counters.now.links c.args.exchange.now c.args.listing.now in
     let w0 = (g.W.Sink.output c.args.writer.now).written in
     let w1 = (g.W.Sink.output c.write.new.self).written in
     let w2 = (g.W.Sink.output c.print_entries.new.writer).written in
