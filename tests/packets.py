@@ -3,6 +3,7 @@
 from __future__ import annotations
 
 import struct
+from collections.abc import Iterator
 from pathlib import Path
 
 # The polynomial of CRC32c, reflected (RFC 9260 appendix A).
@@ -43,14 +44,23 @@ def is_whole(octets: bytes) -> bool:
     return crc32c(octets[:8] + bytes(4) + octets[12:]) == struct.unpack_from("<I", octets, 8)[0]
 
 
-def kinds(octets: bytes) -> list[int]:
-    """The types of the chunks of a packet."""
-    found, at = [], 12
+def chunks_of(octets: bytes) -> Iterator[tuple[int, bytes]]:
+    """The type of each chunk of a packet, and its value."""
+    at = 12
     while at + 4 <= len(octets):
         kind, _, length = struct.unpack_from(">BBH", octets, at)
-        found.append(kind)
-        at += (length + 3) // 4 * 4
-    return found
+        yield kind, octets[at + 4 : at + length]
+        at += max(4, (length + 3) // 4 * 4)
+
+
+def kinds(octets: bytes) -> list[int]:
+    """The types of the chunks of a packet."""
+    return [kind for kind, _ in chunks_of(octets)]
+
+
+def tsns(octets: bytes) -> list[int]:
+    """The numbers of the DATA chunks of a packet (RFC 9260 3.3.1)."""
+    return [int.from_bytes(value[:4], "big") for kind, value in chunks_of(octets) if kind == DATA]
 
 
 def read_packets(file: Path) -> list[bytes]:

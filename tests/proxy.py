@@ -1,5 +1,6 @@
 """A proxy that stands on the links between two nodes, and cuts connections behind a given octet, holds up what passes,
-or has the far node meet nobody, or somebody who closes its connection."""
+or has the far node meet nobody, or somebody who closes its connection. And one for links over SCTP, which drops
+datagrams."""
 
 from __future__ import annotations
 
@@ -12,6 +13,7 @@ from dataclasses import dataclass, field
 from typing import Sequence
 
 from harness import HOST, PATIENCE
+from packets import DATA, kinds
 
 PIECE_OCTETS = 4096
 
@@ -213,3 +215,56 @@ class Proxy(threading.Thread):
         link.is_held = False
         link.near = link.far = None
         link.waiting.clear()
+
+
+class DatagramProxy(threading.Thread):
+    """Passes on the datagrams of two nodes, each of which takes it for the other, and drops some of the near one."""
+
+    def __init__(self, near_port: int, far_port: int) -> None:
+        super().__init__(daemon=True)
+        # Where the near node sends to, and where the far one does.
+        self.by_near, self.by_far = (socket.socket(socket.AF_INET, socket.SOCK_DGRAM) for _ in range(2))
+        self.ways = {self.by_near: (self.by_far, far_port), self.by_far: (self.by_near, near_port)}
+        self.selector = selectors.DefaultSelector()
+        for way in self.ways:
+            way.bind((HOST, 0))
+            self.selector.register(way, selectors.EVENT_READ)
+        self.near_sees, self.far_sees = (way.getsockname()[1] for way in (self.by_near, self.by_far))
+        self.lock, self.ends = threading.Lock(), False
+        # How many datagrams of the near node with DATA are still to be dropped.
+        self.to_drop = 0
+        self.has_dropped = threading.Event()
+        self.start()
+
+    def drop(self, count: int) -> None:
+        """Drops the next datagrams of the near node that have DATA, so many. `await_drops` waits for that."""
+        with self.lock:
+            self.has_dropped.clear()
+            self.to_drop = count
+
+    def await_drops(self) -> None:
+        assert self.has_dropped.wait(PATIENCE), "too few datagrams with DATA came to drop them"
+
+    def close(self) -> None:
+        self.ends = True
+        self.join()
+        for way in self.ways:
+            way.close()
+
+    def run(self) -> None:
+        while not self.ends:
+            for key, _ in self.selector.select(0.05):
+                octets = key.fileobj.recv(1 << 16)
+                if not self._is_dropped(key.fileobj, octets):
+                    way, port = self.ways[key.fileobj]
+                    with contextlib.suppress(ConnectionError):
+                        way.sendto(octets, (HOST, port))
+
+    def _is_dropped(self, came_by: socket.socket, octets: bytes) -> bool:
+        with self.lock:
+            if came_by is not self.by_near or self.to_drop == 0 or DATA not in kinds(octets):
+                return False
+            self.to_drop -= 1
+            if self.to_drop == 0:
+                self.has_dropped.set()
+            return True

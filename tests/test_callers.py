@@ -127,7 +127,7 @@ class Callers(NodeTest):
             row = rf"^  e{number} {{12}}to-{FAR} {{10}}[a-z ]{{18}}  [\d.]+ +InService {{5}}0 {{8}}(-|\d+) +\d+$"
             self.assertRegex(line, row)
         self.assertEqual(self.near.ask("show routes"), ROUTES)
-        self.assertEqual(len(self.near.ask("show counters")), 3 * 54 + 3)
+        self.assertEqual(len(self.near.ask("show counters")), 3 * 55 + 3)
         self.assertEqual(len(self.near.ask("help")), HELP_LINES)
         self.assertEqual(self.near.ask("# nothing\n"), [])
         caller = self.near.call()

@@ -306,11 +306,13 @@ class Links(NodeTest):
         self.assertEqual(shown[:4], ["link e1", f"set to-{FAR}", "code 1", f"adjacent {FAR}"])
         self.assertRegex(shown[4], r"^state in service since \d+\.\d{3}$")
         self.assertEqual(shown[5:8], [f"waiting {waiting}", f"last sent {sent}", f"last accepted {accepted}"])
-        self.assertEqual(shown[8:], ["barred no", "share -"])
+        self.assertEqual(shown[8:], ["barred no", "share -", "last failure -", "retransmissions 0"])
         near.ask("deactivate e1")
         self.await_state("e1", "deactivated")
+        self.assertRegex(self.fact("e1", "last failure"), r"^operator at \d+\.\d{3}$")
         lone = ["link lone", f"set to-{ALONE}", "code 3", f"adjacent {ALONE}", "state not in service yet since 0.000"]
         lone += ["waiting 0", "last sent -", "last accepted -", "barred no", "share -"]
+        lone += ["last failure -", "retransmissions 0"]
         self.assertEqual(near.ask("show link lone"), lone)
 
     def test_no_link(self) -> None:

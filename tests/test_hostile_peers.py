@@ -5,6 +5,7 @@ Whatever a peer does, the node and the other one go on exchanging messages, each
 
 import contextlib
 import random
+import re
 import resource
 import socket
 import time
@@ -84,6 +85,29 @@ class HostilePeers(NodeTest):
     def await_state(self, state: str) -> None:
         wait_until(lambda: self.near.links()["s0"][0] == state, f"s0 is {state}")
 
+    def await_failure(self, why: str) -> None:
+        """The link to the stranger fails for this reason, as the log and `show link` say."""
+        self.near.await_log(f"notice failed s0 {why}$")
+        pattern = re.compile(rf"last failure {why} at \d+\.\d{{3}}")
+        wait_until(lambda: any(map(pattern.fullmatch, self.near.ask("show link s0"))), f"s0 failed by {why}")
+
+    def test_a_peer_that_does_not_prove(self) -> None:
+        stranger = self.meet(l3=SHORT)
+        stranger.send(status_frame(Status.ALIGNMENT))
+        self.pair.exchange(MESSAGES)
+        stranger.await_end()
+        self.await_failure("timer L3")
+
+    def test_a_peer_that_stays_busy(self) -> None:
+        peer = self.meet(l6=SHORT)
+        peer.send(status_frame(Status.ALIGNMENT))
+        self.await_state("Aligned")
+        peer.send(status_frame(Status.PROVING_NORMAL) + status_frame(Status.READY))
+        self.await_state("InService")
+        peer.send(status_frame(Status.BUSY))
+        peer.await_end()
+        self.await_failure("timer L6")
+
     def test_an_octet_at_a_time(self) -> None:
         stranger = self.meet(l2=SHORT, l3=SHORT)
         for octet in status_frame(Status.ALIGNMENT):
@@ -93,7 +117,7 @@ class HostilePeers(NodeTest):
             self.pair.exchange(MESSAGES)
             time.sleep(PACE)
         stranger.await_end()
-        self.near.await_log("notice failed s0 timer$")
+        self.await_failure("timer L2")
         self.near.await_log("close s0 .* node$")
         self.pair.exchange(MESSAGES)
 
@@ -102,7 +126,7 @@ class HostilePeers(NodeTest):
         stranger.send(status_frame(Status.ALIGNMENT)[:-1])
         self.pair.exchange(MESSAGES)
         stranger.await_end()
-        self.near.await_log("notice failed s0 timer$")
+        self.await_failure("timer L2")
         self.pair.exchange(MESSAGES)
 
     def test_junk(self) -> None:
@@ -128,7 +152,7 @@ class HostilePeers(NodeTest):
         for _ in range(5):
             self.pair.back.exchange(MESSAGES)
         self.assertEqual(self.near.logged("notice failed "), 0, "the pool was full all the while")
-        self.near.await_log("notice failed s0 timer$")
+        self.await_failure("timer L7")
         peer.await_end()
         wait_until(lambda: self.near.links()["s0"] == ("Down", 0), "no message waits for the peer")
         self.near.await_log(f"notice lost 4 NoRoute {OTHER} ")

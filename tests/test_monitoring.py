@@ -144,6 +144,16 @@ class Monitoring(NodeTest):
         self.assertLessEqual(found[names[1], "e0"], most)
         self.assertGreaterEqual(found[names[2], "e0"], LEAST_WINDOW)
 
+    def test_retransmissions(self) -> None:
+        """Each link has how many chunks went out again, as the console counts them, whether its association is up."""
+        self.pair.near.ask("deactivate e0")
+        self.pair.near.await_log("link e0 deactivated after .* in service")
+        values, _ = parse_metrics(self.text())
+        found = {dict(pairs)["link"]: value for (family, pairs), value in values.items()
+                 if family == "stp_sctp_retransmissions_total"}
+        counted = self.pair.near.counters()
+        self.assertEqual(found, {name: counted[name]["retransmissions"] for name in self.pair.names})
+
     def test_changeovers(self) -> None:
         """The link that left service has changed over once. The other was deactivated before it was in service, and
         that is no changeover."""

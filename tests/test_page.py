@@ -595,7 +595,8 @@ class OpenPage(PageTest):
 
 def counted_of(link: dict) -> Iterator[tuple[str, int]]:
     """The counters of a link as the console names them."""
-    for name in ("frames_in", "octets_in", "frames_out", "octets_out", "forwarded", "delivered", "retries"):
+    for name in ("frames_in", "octets_in", "frames_out", "octets_out", "forwarded", "delivered", "retries",
+                 "retransmissions"):
         yield name, link[name]
     for group in ("refused", "failed", "inits", "tries"):
         for name, value in link[group].items():

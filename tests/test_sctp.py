@@ -9,7 +9,8 @@ import time
 from collections.abc import Sequence
 
 from harness import HOST, Link, Node, NodeTest, SctpLink, free_port, wait_until
-from packets import ABORT, DATA, INIT, INIT_ACK, chunk, crc32c, is_whole, kinds, packet, read_packets
+from packets import ABORT, DATA, INIT, INIT_ACK, chunk, crc32c, is_whole, kinds, packet, read_packets, tsns
+from proxy import DatagramProxy
 from traffic import FAR, NEAR, Flowing
 
 CAPTURE = "node.pcap"
@@ -29,16 +30,21 @@ NEAR_PORT, FAR_PORT = 3565, 4565
 
 
 class SctpPair:
-    """Two nodes with links over SCTP between them, of which both ends try to open each."""
+    """Two nodes with links over SCTP between them, of which both ends try to open each, by a proxy or without one."""
 
     def __init__(self, test: NodeTest, *, links: int = 3, is_begun: bool = True, is_port_fixed: bool = False,
-                 beside: Sequence[Link] = (), near_page: int | None = None, **more) -> None:
+                 is_proxied: bool = False, beside: Sequence[Link] = (), near_page: int | None = None, **more) -> None:
         self.near_udp, self.far_udp = free_port(), free_port()
+        to_far, to_near = self.far_udp, self.near_udp
+        if is_proxied:
+            self.proxy = DatagramProxy(self.near_udp, self.far_udp)
+            test.addCleanup(self.proxy.close)
+            to_far, to_near = self.proxy.near_sees, self.proxy.far_sees
         self.names = [f"e{number}" for number in range(links)]
         self.is_port_fixed = is_port_fixed
-        near_links = [*self.links_to(FAR, self.far_udp, NEAR_PORT, FAR_PORT), *beside]
+        near_links = [*self.links_to(FAR, to_far, NEAR_PORT, FAR_PORT), *beside]
         self.near = test.node(NEAR, near_links, udp=self.near_udp, page=near_page, **more)
-        self.far = test.node(FAR, self.links_to(NEAR, self.near_udp, FAR_PORT, NEAR_PORT), udp=self.far_udp, **more)
+        self.far = test.node(FAR, self.links_to(NEAR, to_near, FAR_PORT, NEAR_PORT), udp=self.far_udp, **more)
         if is_begun:
             self.near.start()
             self.far.start()
@@ -262,6 +268,49 @@ class Ends(NodeTest):
         for name in pair.names:
             self.assertEqual(pair.near.logged(f"close {name} {HOST}:{pair.far_udp} node$"), 1)
             pair.far.await_log(f"close {name} {HOST}:{pair.near_udp} peer$")
+
+
+class Retransmissions(NodeTest):
+    """What is lost on its way goes out again, and is counted."""
+
+    def test_they_are_counted(self) -> None:
+        """A chunk behind which nothing goes out waits for T3-rtx; of others the peer's SACKs tell. The count of the
+        link stays as its association ends, and is that of the capture."""
+        pair = SctpPair(self, links=1, is_proxied=True, capture=CAPTURE, **SOON)
+        pair.exchange(MESSAGES)
+        before = self.counted(pair)
+        for count in (1, MESSAGES):
+            pair.proxy.drop(1)
+            pair.forth.submit(count)
+            pair.proxy.await_drops()
+            pair.forth.settle()
+            self.assertGreater(self.counted(pair), before)
+            before = self.counted(pair)
+        pair.near.ask("deactivate e0")
+        pair.far.await_log("close e0 .* peer$")
+        self.assertGreaterEqual(self.counted(pair), before)
+        pair.near.ask("activate e0")
+        pair.await_service()
+        pair.exchange(MESSAGES)
+        pair.await_service()
+        counted = self.counted(pair)
+        self.assertIn(f"retransmissions {counted}", pair.near.ask("show link e0"))
+        pair.near.stop()
+        self.assertEqual(sent_again(read_packets(pair.near.folder / CAPTURE)), counted)
+
+    def counted(self, pair: SctpPair) -> int:
+        return pair.near.counters()["e0"]["retransmissions"]
+
+
+def sent_again(packets: Sequence[bytes]) -> int:
+    """How many DATA chunks of the near end of link e0 went out before, in the same association."""
+    seen, count = set(), 0
+    for octets in packets:
+        if int.from_bytes(octets[:2], "big") == NEAR_PORT:
+            for tsn in tsns(octets):
+                count += (octets[4:8], tsn) in seen
+                seen.add((octets[4:8], tsn))
+    return count
 
 
 class Captures(NodeTest):

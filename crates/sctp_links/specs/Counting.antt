@@ -1,5 +1,5 @@
 -- What passes the gate of a link, and what is refused or left out before it, counted.
-use Rattle.std.specs.Prelude.{ℕ, ◌||◌, List, [], ◌∷◌, map, Option, Some, None, if◌then◌else◌}
+use Rattle.std.specs.Prelude.{ℕ, ◌-◌, ◌||◌, List, [], ◌∷◌, map, Option, Some, None, if◌then◌else◌}
 use Rattle.std.specs.Option.{option_map}
 use Rattle.std.specs.declared.net.socket_addr.SocketAddr.{SocketAddr}
 use Rattle.sctp_codec.specs.Reading.{read_packet}
@@ -9,7 +9,8 @@ use Rattle.sctp_endpoint.specs.Refusing.{refusal}
 use Rattle.exchange_rules.specs.State.{QueueKind, State}
 use Rattle.sctp_gate.specs.Gates.{Gate, Did}
 use Rattle.sctp_gate.specs.Watching.{Sight, Rose, CameIn, Dropped, Fell, Failed, WentOut}
-use Rattle.served_link.specs.Counting.{NodeCounters, DatagramWent, WasSetBack, counted_at, counted_datagram, frame_came, frame_went}
+use Rattle.served_link.specs.Counting.{NodeCounters, DatagramWent, WasSetBack, WentAgain, counted_at, counted_datagram}
+use Rattle.served_link.specs.Counting.{frame_came, frame_went}
 use Rattle.served_link.specs.declared.setback.Setback.{Setback}
 use Rattle.served_link.specs.declared.setback.Setback.TheVariants as setback
 use Rattle.sctp_links.specs.declared.screening.Screened.{Screened}
@@ -51,6 +52,15 @@ counted_by link sent seen c = record {
 
 abbrev pub counted_did : {Q : Type 0} → (link : ℕ) → Did Q → NodeCounters → NodeCounters
 counted_did link did c = counted_by link (map sent_as did.sent) did.seen c
+
+-- how many chunks the association of a gate sent again since it began; 0 while there is none
+abbrev pub retransmissions_of : Gate → ℕ
+retransmissions_of g = g.endpoint.state.association.sender.retransmissions
+
+-- what a call gives, and how many chunks went out again by it: none by one that ends the association
+abbrev pub counted_call : {Q : Type 0} → Gate → Did Q → NodeCounters → NodeCounters
+counted_call g did c =
+    counted_at g.link (WentAgain (retransmissions_of did.gate - retransmissions_of g)) (counted_did g.link did c)
 
 -- ---- a datagram of a link
 

@@ -1,5 +1,6 @@
-//! A link over SCTP: its gate, and a call of it. `call`, `pass`, `perform`, `call_beside`, `call_through` and
-//! `make_call` are one call, parted for the prover: each has fewer things among its values than the one that calls it.
+//! A link over SCTP: its gate, and a call of it. `call`, `pass_counted`, `pass`, `perform`, `call_beside`,
+//! `call_through` and `make_call` are one call, parted for the prover: each has fewer things among its values than the
+//! one that calls it.
 
 ghost use Rattle.std.specs.Prelude.{◌≡◌, map};
 ghost use Rattle.exchange.specs.KeptQueues.{kept};
@@ -7,7 +8,7 @@ ghost use Rattle.sctp_bundling.specs.Watching.{sent_as};
 ghost use Rattle.served_link.specs.Counting.{NodeCounters};
 ghost use Rattle.sctp_gate.specs.Making.{Makes};
 ghost use Rattle.sctp_links.specs.Calls.{called};
-ghost use Rattle.sctp_links.specs.Counting.{counted_by, counted_did};
+ghost use Rattle.sctp_links.specs.Counting.{counted_by, counted_call, counted_did};
 ghost use Rattle.sctp_links.specs.Links.{new_link};
 ghost use Rattle.served_link.specs.Times.{millis_of};
 ghost use Rattle.sctp_gate.specs.Gates.{due};
@@ -113,7 +114,7 @@ impl SctpLink {
         ensures exchange { node.new.exchange
             ≡ (called kept what.entry (millis_of log.old.now) self.old.gate node.old.exchange).exchange }
     {
-        self.pass(what, node, datagrams, log, user);
+        self.pass_counted(what, node, datagrams, log, user);
         node.look(FailureReason::Association, log);
     }
 
@@ -142,6 +143,32 @@ impl SctpLink {
         if !was_up && self.gate.standing().is_up {
             node.note_up();
         }
+    }
+
+    /// The same, and how many chunks its association sent again is counted: those of a fill, since no other call sends
+    /// any.
+    fn pass_counted<D: Datagrams, W: Sink, U: Watch>(
+        &mut self,
+        what: GateCall<'_>,
+        node: &mut Node,
+        datagrams: &mut D,
+        log: &mut Log<'_, W>,
+        user: &mut U,
+    )
+        ensures gate { self.new ≡ record self.old {
+          gate = (called kept what.entry (millis_of log.old.now) self.old.gate node.old.exchange).gate;
+        } }
+        ensures exchange { node.new.exchange
+            ≡ (called kept what.entry (millis_of log.old.now) self.old.gate node.old.exchange).exchange }
+        ensures counters { node.new.observers.counters ≡ counted_call self.old.gate
+            (called kept what.entry (millis_of log.old.now) self.old.gate node.old.exchange)
+            node.old.observers.counters }
+    {
+        let link = self.gate.link();
+        let before = self.gate.retransmissions();
+        self.pass(what, node, datagrams, log, user);
+        let chunks = self.gate.retransmissions().saturating_sub(before);
+        node.observers.went_again(link, chunks);
     }
 
     /// If no association is up, the peer is where the settings say.

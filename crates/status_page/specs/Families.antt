@@ -17,6 +17,7 @@ use Rattle.status_page.specs.declared.family.Family.TheVariants.{OctetsReceived,
 use Rattle.status_page.specs.declared.family.Family.TheVariants.{MessagesReceived, MessagesSent, ManagementReceived, ManagementSent, Refused}
 use Rattle.status_page.specs.declared.family.Family.TheVariants.{Failures, Retries, InitsRefused, TriesFailed, RoundTrip}
 use Rattle.status_page.specs.declared.family.Family.TheVariants.{RetransmissionTimeout, CongestionWindow}
+use Rattle.status_page.specs.declared.family.Family.TheVariants.{Retransmissions}
 use Rattle.status_page.specs.declared.metric.Metric.{Metric}
 use Rattle.status_page.specs.declared.metric.Metric.TheVariants.{Alarm, Node, Link, Set, Destination, Route}
 use Rattle.status_page.specs.declared.metric.NodeMetric.TheVariants as of_node
@@ -33,7 +34,7 @@ families =
     LinkUnavailable ∷ LinkUnavailabilities ∷ LinkChangeovers ∷ Queue ∷ FramesReceived ∷ OctetsReceived ∷ FramesSent ∷
     OctetsSent ∷ Forwarded ∷ Delivered ∷ MessagesReceived ∷ MessagesSent ∷ ManagementReceived ∷
     ManagementSent ∷ Refused ∷ Failures ∷ Retries ∷ InitsRefused ∷ TriesFailed ∷ RoundTrip ∷
-    RetransmissionTimeout ∷ CongestionWindow ∷ []
+    RetransmissionTimeout ∷ CongestionWindow ∷ Retransmissions ∷ []
 
 -- the name: a counter ends in total, and a unit is in the name
 abbrev pub family_name : Family → List ℕ
@@ -85,6 +86,7 @@ family_name TriesFailed = codes "stp_tries_failed_total"
 family_name RoundTrip = codes "stp_sctp_round_trip_seconds"
 family_name RetransmissionTimeout = codes "stp_sctp_retransmission_timeout_seconds"
 family_name CongestionWindow = codes "stp_sctp_congestion_window_octets"
+family_name Retransmissions = codes "stp_sctp_retransmissions_total"
 
 -- what is said of it
 abbrev pub family_help : Family → List ℕ
@@ -136,6 +138,7 @@ family_help TriesFailed = codes "Tries to open the link's association over SCTP 
 family_help RoundTrip = codes "The smoothed round trip of the link's association over SCTP: SRTT."
 family_help RetransmissionTimeout = codes "The retransmission timeout of the link's association over SCTP: RTO."
 family_help CongestionWindow = codes "The congestion window of the link's association over SCTP: cwnd."
+family_help Retransmissions = codes "DATA chunks that the link's associations over SCTP sent again."
 
 -- whether it only grows
 abbrev pub kind_of : Family → Kind
@@ -187,6 +190,7 @@ kind_of TriesFailed = Growing
 kind_of RoundTrip = Gauge
 kind_of RetransmissionTimeout = Gauge
 kind_of CongestionWindow = Gauge
+kind_of Retransmissions = Growing
 
 -- what is behind each value: nothing, or the exponent of one that is in smaller units than its name says
 abbrev pub exponent_of : Family → List ℕ
@@ -238,6 +242,7 @@ exponent_of TriesFailed = []
 exponent_of RoundTrip = codes "e-3"
 exponent_of RetransmissionTimeout = codes "e-3"
 exponent_of CongestionWindow = []
+exponent_of Retransmissions = []
 
 abbrev pub type_name : Kind → List ℕ
 type_name Growing = codes "counter"
@@ -297,3 +302,4 @@ metrics_of TriesFailed = map (λ reason. counted (counting.Setbacks reason)) try
 metrics_of RoundTrip = Link of_link.RoundTrip ∷ []
 metrics_of RetransmissionTimeout = Link of_link.RetransmissionTimeout ∷ []
 metrics_of CongestionWindow = Link of_link.CongestionWindow ∷ []
+metrics_of Retransmissions = counted counting.Retransmissions ∷ []

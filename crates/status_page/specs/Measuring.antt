@@ -157,6 +157,7 @@ is_shown_at_zero (counting.Refused cause) = is_watched cause
 is_shown_at_zero (counting.Failed reason) = true
 is_shown_at_zero counting.Retries = true
 is_shown_at_zero (counting.Setbacks reason) = false
+is_shown_at_zero counting.Retransmissions = true
 
 -- a count, if it is shown
 abbrev pub count_if : (is_shown_at_zero : Bool) → ℕ → Option ℕ

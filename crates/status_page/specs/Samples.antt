@@ -5,7 +5,7 @@ use Rattle.signalling_types.specs.Notices.{failure_name}
 use Rattle.served_link.specs.declared.counter.Counter.{Counter}
 use Rattle.served_link.specs.declared.counter.Counter.TheVariants.{FramesIn, OctetsIn, FramesOut, OctetsOut}
 use Rattle.served_link.specs.declared.counter.Counter.TheVariants.{Forwarded, Delivered, Refused, Failed, Retries}
-use Rattle.served_link.specs.declared.counter.Counter.TheVariants.{Setbacks}
+use Rattle.served_link.specs.declared.counter.Counter.TheVariants.{Setbacks, Retransmissions}
 use Rattle.served_link.specs.Kinds.{kind_name}
 use Rattle.served_link.specs.Lines.{setback_name}
 use Rattle.served_link.specs.declared.management_kind.ManagementKind.{ManagementKind}
@@ -80,6 +80,7 @@ counter_labels (Refused cause) = codes ",cause=\"" ++ cause_name cause ++ codes 
 counter_labels (Failed reason) = codes ",reason=\"" ++ failure_name reason ++ codes "\""
 counter_labels Retries = []
 counter_labels (Setbacks reason) = codes ",reason=\"" ++ setback_name reason ++ codes "\""
+counter_labels Retransmissions = []
 
 abbrev pub service_label : (service : ℕ) → List ℕ
 service_label service = codes ",service=\"" ++ decimal service ++ codes "\""

@@ -17,7 +17,7 @@ use Rattle.console.specs.Texts.{notice_line}
 use Rattle.served_link.specs.declared.counter.Counter.{Counter}
 use Rattle.served_link.specs.declared.counter.Counter.TheVariants.{FramesIn, OctetsIn, FramesOut, OctetsOut}
 use Rattle.served_link.specs.declared.counter.Counter.TheVariants.{Forwarded, Delivered, Refused, Failed, Retries}
-use Rattle.served_link.specs.declared.counter.Counter.TheVariants.{Setbacks}
+use Rattle.served_link.specs.declared.counter.Counter.TheVariants.{Setbacks, Retransmissions}
 use Rattle.served_link.specs.Lines.{setback_name}
 use Rattle.served_link.specs.declared.row.LinkCounters.{LinkCounters}
 use Rattle.served_link.specs.Counting.{value_of}
@@ -53,6 +53,7 @@ counter_key (Refused cause) = cause_name cause
 counter_key (Failed reason) = failure_name reason
 counter_key Retries = codes "retries"
 counter_key (Setbacks reason) = setback_name reason
+counter_key Retransmissions = codes "retransmissions"
 
 abbrev pub counter_member : LinkCounters → Counter → List Token
 counter_member row counter = number_member (counter_key counter) (value_of counter row)
@@ -62,7 +63,8 @@ counter_members row counters = flat_map (counter_member row) counters
 
 -- what is counted for a link as a whole
 abbrev pub totals : List Counter
-totals = FramesIn ∷ OctetsIn ∷ FramesOut ∷ OctetsOut ∷ Forwarded ∷ Delivered ∷ Retries ∷ []
+totals =
+    FramesIn ∷ OctetsIn ∷ FramesOut ∷ OctetsOut ∷ Forwarded ∷ Delivered ∷ Retries ∷ Retransmissions ∷ []
 
 -- all counters of a link: refusals by their cause; failures, INITs that were refused and tries that failed by their
 -- reason

@@ -110,11 +110,13 @@ pub enum Family {
     RetransmissionTimeout,
     /// The congestion window of each link's association.
     CongestionWindow,
+    /// Chunks that each link's associations sent again.
+    Retransmissions,
 }
 
 impl Family {
     /// All families, in the order in which they are shown.
-    pub const ALL: [Family; 48] = [
+    pub const ALL: [Family; 49] = [
         Family::Build,
         Family::Uptime,
         Family::LongestTurn,
@@ -163,5 +165,6 @@ impl Family {
         Family::RoundTrip,
         Family::RetransmissionTimeout,
         Family::CongestionWindow,
+        Family::Retransmissions,
     ];
 }

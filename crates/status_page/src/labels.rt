@@ -225,6 +225,7 @@ fn push_reason(counter: Counter, labels: &mut ArrayString<LABELS_OCTETS>)
         | Counter::OctetsOut
         | Counter::Forwarded
         | Counter::Delivered
-        | Counter::Retries => {}
+        | Counter::Retries
+        | Counter::Retransmissions => {}
     }
 }

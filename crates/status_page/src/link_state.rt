@@ -21,7 +21,7 @@ use signalling_types::{Cause, FailureReason, LinkId};
 use std::alloc::AllocError;
 
 /// What is counted for a link as a whole.
-const TOTALS: [Counter; 7] = [
+const TOTALS: [Counter; 8] = [
     Counter::FramesIn,
     Counter::OctetsIn,
     Counter::FramesOut,
@@ -29,6 +29,7 @@ const TOTALS: [Counter; 7] = [
     Counter::Forwarded,
     Counter::Delivered,
     Counter::Retries,
+    Counter::Retransmissions,
 ];
 
 /// Refusals, by each cause.
@@ -209,5 +210,6 @@ fn key(counter: Counter) -> &'static str
         Counter::Failed(reason) => reason.name(),
         Counter::Retries => "retries",
         Counter::Setbacks(reason) => reason.name(),
+        Counter::Retransmissions => "retransmissions",
     }
 }

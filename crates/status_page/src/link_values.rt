@@ -192,7 +192,8 @@ fn is_shown_at_zero(counter: Counter) -> bool
         | Counter::Forwarded
         | Counter::Delivered
         | Counter::Failed(_)
-        | Counter::Retries => true,
+        | Counter::Retries
+        | Counter::Retransmissions => true,
     }
 }
 

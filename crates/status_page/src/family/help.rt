@@ -81,6 +81,9 @@ impl Family {
                 "The retransmission timeout of the link's association over SCTP: RTO.",
             Family::CongestionWindow =>
                 "The congestion window of the link's association over SCTP: cwnd.",
+            Family::Retransmissions => {
+                "DATA chunks that the link's associations over SCTP sent again."
+            }
         }
     }
 }

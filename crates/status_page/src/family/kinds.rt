@@ -59,7 +59,8 @@ impl Family {
             | Family::Failures
             | Family::Retries
             | Family::InitsRefused
-            | Family::TriesFailed => Kind::Counter,
+            | Family::TriesFailed
+            | Family::Retransmissions => Kind::Counter,
         }
     }
 
@@ -117,7 +118,8 @@ impl Family {
             | Family::Retries
             | Family::InitsRefused
             | Family::TriesFailed
-            | Family::CongestionWindow => "",
+            | Family::CongestionWindow
+            | Family::Retransmissions => "",
         }
     }
 }

@@ -69,6 +69,9 @@ impl Family {
             Family::RoundTrip => &[Metric::Link(LinkMetric::RoundTrip)],
             Family::RetransmissionTimeout => &[Metric::Link(LinkMetric::RetransmissionTimeout)],
             Family::CongestionWindow => &[Metric::Link(LinkMetric::CongestionWindow)],
+            Family::Retransmissions => {
+                &[Metric::Link(LinkMetric::Counted(Counter::Retransmissions))]
+            }
         }
     }
 }

@@ -60,6 +60,7 @@ impl Family {
             Family::RoundTrip => "stp_sctp_round_trip_seconds",
             Family::RetransmissionTimeout => "stp_sctp_retransmission_timeout_seconds",
             Family::CongestionWindow => "stp_sctp_congestion_window_octets",
+            Family::Retransmissions => "stp_sctp_retransmissions_total",
         }
     }
 }
