@@ -15,8 +15,10 @@ use Rattle.console.specs.Texts.{given_text, sets_text}
 use Rattle.console.specs.TimerKeys.{KeyedTimer, keyed_timers}
 use Rattle.served_link.specs.Alarms.{alarm_at}
 use Rattle.served_link.specs.AlarmTexts.{alarm_name, seconds_text}
+use Rattle.served_link.specs.LinkFailures.{failure_text}
 use Rattle.served_link.specs.ServiceStates.{state_words}
 use Rattle.served_link.specs.declared.alarm.Alarm.{Alarm}
+use Rattle.served_link.specs.declared.row.LinkCounters.{LinkCounters}
 use Rattle.served_link.specs.declared.service_states.StateSince.{StateSince}
 use Rattle.served_node.specs.Alarmed.{alarms_text, row_at, row_since}
 use Rattle.served_node.specs.Listings as text
@@ -76,30 +78,40 @@ state : (seen : Option StateSince) → AllNone (text.state_fact seen)
 state (Some seen) = line-none (codes "state " ++ state_words seen.state ++ codes " since " ++ seconds_text seen.since_ms) refl
 state None = nothing-none
 
+failure : (seen : Option StateSince) → AllNone (text.failure_fact seen)
+failure (Some seen) = line-none (codes "last failure " ++ failure_text seen.failure) refl
+failure None = nothing-none
+
+retransmissions : (row : Option LinkCounters) → AllNone (text.retransmissions_fact row)
+retransmissions (Some row) = line-none (codes "retransmissions " ++ decimal row.retransmissions) refl
+retransmissions None = nothing-none
+
 barred : (is_barred : Bool) → AllNone (text.barred_fact is_barred)
 barred true = line-none (codes "barred yes") refl
 barred false = line-none (codes "barred no") refl
 
-fact-text : (points : PointFormat) (states : List StateSince) (s : Kept) (k : ℕ) (row : LinkEntry) (v : LinkView) (f : LinkFact) → AllNone (text.fact_text points states s k row v f)
-fact-text points states s k row v fact.Name = line-none (codes "link " ++ row.name) refl
-fact-text points states s k row v fact.Set = line-none (codes "set " ++ set_name_in s.settings row.set) refl
-fact-text points states s k row v fact.Code = line-none (codes "code " ++ decimal row.slc) refl
-fact-text points states s k row v fact.Adjacent = adjacent points (slice_get s.settings.sets row.set)
-fact-text points states s k row v fact.State = state (slice_get states k)
-fact-text points states s k row v fact.Waiting = line-none (codes "waiting " ++ decimal v.waiting) refl
-fact-text points states s k row v fact.LastSent = line-none (codes "last sent " ++ given_text (some_number v.last_sent)) refl
-fact-text points states s k row v fact.LastAccepted = line-none (codes "last accepted " ++ given_text (some_number v.last_accepted)) refl
-fact-text points states s k row v fact.Barred = barred (is_barred_at s k)
-fact-text points states s k row v fact.Share = line-none (codes "share " ++ given_text row.share) refl
+fact-text : (points : PointFormat) (states : List StateSince) (counts : List LinkCounters) (s : Kept) (k : ℕ) (row : LinkEntry) (v : LinkView) (f : LinkFact) → AllNone (text.fact_text points states counts s k row v f)
+fact-text points states counts s k row v fact.Name = line-none (codes "link " ++ row.name) refl
+fact-text points states counts s k row v fact.Set = line-none (codes "set " ++ set_name_in s.settings row.set) refl
+fact-text points states counts s k row v fact.Code = line-none (codes "code " ++ decimal row.slc) refl
+fact-text points states counts s k row v fact.Adjacent = adjacent points (slice_get s.settings.sets row.set)
+fact-text points states counts s k row v fact.State = state (slice_get states k)
+fact-text points states counts s k row v fact.Waiting = line-none (codes "waiting " ++ decimal v.waiting) refl
+fact-text points states counts s k row v fact.LastSent = line-none (codes "last sent " ++ given_text (some_number v.last_sent)) refl
+fact-text points states counts s k row v fact.LastAccepted = line-none (codes "last accepted " ++ given_text (some_number v.last_accepted)) refl
+fact-text points states counts s k row v fact.Barred = barred (is_barred_at s k)
+fact-text points states counts s k row v fact.Share = line-none (codes "share " ++ given_text row.share) refl
+fact-text points states counts s k row v fact.LastFailure = failure (slice_get states k)
+fact-text points states counts s k row v fact.Retransmissions = retransmissions (slice_get counts k)
 
-fact-of : (points : PointFormat) (states : List StateSince) (s : Kept) (k : ℕ) (row : Option LinkEntry) (v : Option LinkView) (f : LinkFact) → AllNone (text.fact_of points states s k row v f)
-fact-of points states s k (Some row) (Some v) f = fact-text points states s k row v f
-fact-of points states s k (Some row) None f = nothing-none
-fact-of points states s k None v f = nothing-none
+fact-of : (points : PointFormat) (states : List StateSince) (counts : List LinkCounters) (s : Kept) (k : ℕ) (row : Option LinkEntry) (v : Option LinkView) (f : LinkFact) → AllNone (text.fact_of points states counts s k row v f)
+fact-of points states counts s k (Some row) (Some v) f = fact-text points states counts s k row v f
+fact-of points states counts s k (Some row) None f = nothing-none
+fact-of points states counts s k None v f = nothing-none
 
-link-fact : (points : PointFormat) (states : List StateSince) (s : Kept) (k : ℕ) (f : Option LinkFact) → AllNone (text.link_fact points states s k f)
-link-fact points states s k (Some f) = fact-of points states s k (slice_get s.settings.links k) (link_view kept s k) f
-link-fact points states s k None = nothing-none
+link-fact : (points : PointFormat) (states : List StateSince) (counts : List LinkCounters) (s : Kept) (k : ℕ) (f : Option LinkFact) → AllNone (text.link_fact points states counts s k f)
+link-fact points states counts s k (Some f) = fact-of points states counts s k (slice_get s.settings.links k) (link_view kept s k) f
+link-fact points states counts s k None = nothing-none
 
 -- ---- whole texts
 
@@ -114,17 +126,17 @@ head listing.Links = record {
 head listing.Routes = record { lines = codes "  DESTINATION  STATUS      SETS TAKEN                ROUTES" ∷ []; whole = refl; none = (refl, tt) }
 head (listing.Link k) = nothing-none
 
-entry : (points : PointFormat) (tick_ms : ℕ) (states : List StateSince) (s : Kept) (l : Listing) (k : ℕ) → AllNone (text.entry_of points tick_ms states s l k)
-entry points tick_ms states s listing.Timers k = timer tick_ms (slice_get (keyed_timers s.settings.timers) k)
-entry points tick_ms states s listing.Sets k = set points s k (slice_get s.settings.sets k)
-entry points tick_ms states s listing.Links k = link states s k (slice_get s.settings.links k) (link_view kept s k)
-entry points tick_ms states s listing.Routes k = route points s k (slice_get s.settings.destinations k) (route_view s k)
-entry points tick_ms states s (listing.Link named) k = link-fact points states s named (slice_get LINK_FACTS.now k)
+entry : (points : PointFormat) (tick_ms : ℕ) (states : List StateSince) (counts : List LinkCounters) (s : Kept) (l : Listing) (k : ℕ) → AllNone (text.entry_of points tick_ms states counts s l k)
+entry points tick_ms states counts s listing.Timers k = timer tick_ms (slice_get (keyed_timers s.settings.timers) k)
+entry points tick_ms states counts s listing.Sets k = set points s k (slice_get s.settings.sets k)
+entry points tick_ms states counts s listing.Links k = link states s k (slice_get s.settings.links k) (link_view kept s k)
+entry points tick_ms states counts s listing.Routes k = route points s k (slice_get s.settings.destinations k) (route_view s k)
+entry points tick_ms states counts s (listing.Link named) k = link-fact points states counts s named (slice_get LINK_FACTS.now k)
 
-pub listings : (points : PointFormat) (tick_ms : ℕ) (states : List StateSince) (s : Kept) (l : Listing) → AllNone (text.listing_text points tick_ms states s l)
-listings points tick_ms states s l =
+pub listings : (points : PointFormat) (tick_ms : ℕ) (states : List StateSince) (counts : List LinkCounters) (s : Kept) (l : Listing) → AllNone (text.listing_text points tick_ms states counts s l)
+listings points tick_ms states counts s l =
     both-none (head l)
-    (first-none (text.entry_of points tick_ms states s l) (entry points tick_ms states s l) (text.length_of s l))
+    (first-none (text.entry_of points tick_ms states counts s l) (entry points tick_ms states counts s l) (text.length_of s l))
 
 alarm : (points : PointFormat) (c : Configuration) (a : Option Alarm) (since : Option ℕ) → AllNone (row_since points c a since)
 alarm points c None since = nothing-none

@@ -13,6 +13,7 @@ use Rattle.served_link.specs.declared.counter.Counter.{Counter}
 use Rattle.served_link.specs.Lines.{counter_line, datagram_line}
 use Rattle.console.specs.Texts.{title_text, subsystem_text, notice_text, flag_line, loss_line, rerouting_line}
 use Rattle.script.specs.Texts.{outcome_line}
+use Rattle.served_link.specs.declared.row.LinkCounters.{LinkCounters}
 use Rattle.served_link.specs.declared.service_states.StateSince.{StateSince}
 use Rattle.console.specs.NearestLinks.{near_link_text, no_link_text}
 use Rattle.console.specs.TitleAnswers.{led_line, refusal_line}
@@ -137,8 +138,8 @@ pub record ShownAnswersNone : Type 0 where
   pub version : Says HearsVersion (λ old. old) AnswersNone
   pub captured : (name : List ℕ) (is_on : Bool) → IsNone (captured_line name is_on)
   pub alarms : (points : PointFormat) (c : Configuration) (table : List (Option ℕ)) → AllNone (alarms_text points c table)
-  pub listings : (points : PointFormat) (tick_ms : ℕ) (states : List StateSince) (s : Kept) (listing : Listing)
-      → AllNone (listing_text points tick_ms states s listing)
+  pub listings : (points : PointFormat) (tick_ms : ℕ) (states : List StateSince) (counts : List LinkCounters) (s : Kept)
+      (listing : Listing) → AllNone (listing_text points tick_ms states counts s listing)
   pub settings : (points : PointFormat) (s : Kept) → AllNone (settings_text points s)
   pub near : (name : Option (List ℕ)) → AllNone (near_link_text name)
   pub leads : (points : PointFormat) (stands : Standing) (first point : ℕ)
