@@ -17,3 +17,5 @@ pub mod Doubting
 pub mod Beginning
 pub mod ToldAll
 pub mod Linking
+pub mod CheckedReading
+pub mod FirstOfAll

@@ -38,5 +38,6 @@ pub mod ServeReading
 pub mod AllServeFaults
 pub mod ToldFaults
 pub mod AllFaults
+pub mod FirstOfAll
 pub mod PlacedSentences
 pub mod Doubts

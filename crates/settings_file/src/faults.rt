@@ -1,9 +1,14 @@
 //! All faults of a settings file at once.
 
-ghost use Rattle.std.specs.Prelude.{◌≡◌, ◌∷◌, [], List, IfOk};
+ghost use Rattle.std.specs.Prelude.{◌≡◌, ◌↔◌, ◌∷◌, [], ℕ, List, Some, true, IfOk};
 ghost use Rattle.toml.specs.Data.{Members};
+ghost use Rattle.toml.specs.Parse.{parse_document};
 ghost use Rattle.toml.specs.View.{table_view};
-ghost use Rattle.settings_file.specs.AllFaults.{told_faults, reading_faults, AreOfFourth, AreAllFaults};
+ghost use Rattle.settings.specs.Configuration.{Configuration};
+ghost use Rattle.settings_file.specs.AllFaults.{told_faults, reading_checks, reading_faults, AreOfFourth, AreAllFaults};
+ghost use Rattle.settings_file.specs.FirstOfAll.{checked_by, document_mended, HasNoFault, IsFirstOfAll};
+ghost use Rattle.settings_file.specs.KnownKeys.{has_fourth};
+ghost use Rattle.settings_file.specs.Reading.{reading_in, IsReadAs, IsFirstFault};
 ghost use Rattle.settings_file.specs.declared.fault.SettingsFault.{SettingsFault};
 ghost use Rattle.settings_file.specs.declared.serve.fault.ServeFault.{ServeFault};
 
@@ -54,6 +59,21 @@ pub fn all_faults(
 pub fn all_faults_begin()
     ensures { (t : Members) (first : ServeFault) (faults : List ServeFault) → AreAllFaults t first faults
         → (rest : List ServeFault) × (faults ≡ first ∷ rest) }
+{}
+
+/// The law that what is read of a document of version 4 is what the checks of reading leave of it: the first fault that
+/// one of them finds; if none does, the settings that it counts as. The call does nothing.
+pub fn reading_is_checked()
+    ensures { (t : Members) → has_fourth t ≡ true → reading_in t ≡ checked_by (reading_checks t) (document_mended t) }
+{}
+
+/// The law that a file of version 4 is read without a fault exactly if none is among all faults of its settings, and
+/// that its first fault is the first of them. The call does nothing.
+pub fn first_of_all_is_read()
+    ensures none { (text : List ℕ) (t : Members) → parse_document text ≡ Some t → has_fourth t ≡ true
+        → ((c : Configuration) × IsReadAs text c) ↔ HasNoFault t }
+    ensures first { (text : List ℕ) (t : Members) (fault : SettingsFault) → parse_document text ≡ Some t
+        → has_fourth t ≡ true → IsFirstFault text fault ↔ IsFirstOfAll t fault }
 {}
 
 /// One fault alone.

@@ -33,7 +33,7 @@ pub use documents::{document_in, parse};
 pub use doubts::{MOST_DOUBTS, value_warnings};
 pub use fault::SettingsFault;
 pub use faults::telling::MOST_FAULTS;
-pub use faults::{all_faults, all_faults_begin};
+pub use faults::{all_faults, all_faults_begin, first_of_all_is_read, reading_is_checked};
 pub use key_rows::{KeyRow, entry_key, lone_key};
 pub use limits::{FirstLimits, SHORT_NAME_OCTETS};
 pub use phrases::{missing, must_be, value_is};
