@@ -145,9 +145,7 @@ class Monitoring(NodeTest):
         self.assertGreaterEqual(found[names[2], "e0"], LEAST_WINDOW)
 
     def test_retransmissions(self) -> None:
-        """Each link has how many chunks went out again, as the console counts them, whether its association is up."""
-        self.pair.near.ask("deactivate e0")
-        self.pair.near.await_log("link e0 deactivated after .* in service")
+        """Each link has how many chunks went out again, as the console counts them, also e1, whose association ended."""
         values, _ = parse_metrics(self.text())
         found = {dict(pairs)["link"]: value for (family, pairs), value in values.items()
                  if family == "stp_sctp_retransmissions_total"}
